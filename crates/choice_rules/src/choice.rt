@@ -6,17 +6,17 @@ ghost use Rattle.choice_rules.specs.Choices as spec;
 ghost use Rattle.choice_rules.specs.walks.Steps as walk;
 ghost use Rattle.elan_meant.specs.Verdict.{gives, Tells};
 
-use crate::parts::{delivery_in, joined, part_for_none};
+use crate::parts::{part_for_none, together};
 use elan_meant::arms::values_as;
 use elan_meant::meant::Meant;
-use elan_meant::operands::delivers;
+use elan_meant::operands::delivers_kind;
 use elan_meant::part::{actions, boxed, one, value_of};
 use elan_meant::row::Judged;
 use elan_meant::together::pairs_of;
 use elan_scope::delivery::Delivery;
 use elan_scope::trouble::Trouble;
 use elan_types::{Action, ElanType, ValuePhrase, Why};
-use eu_base::{Boxed, List, NoMemory};
+use eu_base::{Boxed, Kind, List, NoMemory};
 use std::alloc::Global;
 
 // What IF does by parts that deliver nothing.
@@ -39,9 +39,9 @@ fn if_value(
     condition: Boxed<ValuePhrase>,
     first: Meant,
     second: Meant,
-    of: ElanType,
+    of: &ElanType,
 ) -> Result<Boxed<ValuePhrase>, NoMemory>
-    ensures { IfOk result (λ value. value ≡ walk.if_value condition first second of) }
+    ensures { IfOk result (λ value. value ≡ walk.if_value condition first second of.now) }
 {
     match values_as(alloc, of, first, second) {
         Err(refusal) => {
@@ -62,23 +62,29 @@ fn chosen_of(
 ) -> Judged
     ensures { Tells result (spec.chosen_of at condition first second) }
 {
-    match joined(delivery_in(&first), delivery_in(&second)) {
-        None => {
+    match together(alloc, &first, &second) {
+        Err(_refusal) => {
+            condition.into_inner().let_go();
+            first.let_go();
+            second.let_go();
+            Err(Trouble::NoMemory)
+        }
+        Ok(None) => {
             condition.into_inner().let_go();
             first.let_go();
             second.let_go();
             Err(Trouble::Breaks(at, Why::WrongType))
         }
-        Some(Delivery::Nothing) => {
+        Ok(Some(Delivery::Nothing)) => {
             let actions = if_actions(alloc, condition, first, second)?;
             Ok(Meant::Done(actions))
         }
-        Some(Delivery::Open) => {
+        Ok(Some(Delivery::Open)) => {
             let actions = if_actions(alloc, condition, first, second)?;
             Ok(Meant::Left(actions))
         }
-        Some(Delivery::Of(of)) => {
-            let value = if_value(alloc, condition, first, second, of)?;
+        Ok(Some(Delivery::Of(of))) => {
+            let value = if_value(alloc, condition, first, second, &of)?;
             Ok(Meant::Value { at, of, value })
         }
     }
@@ -102,7 +108,7 @@ fn branched(alloc: Global, at: u32, branch: (Meant, Meant), rest: Meant) -> Judg
     ensures { Tells result (spec.branched at branch rest) }
 {
     let (condition, units) = branch;
-    if delivers(ElanType::Bool, &condition) {
+    if delivers_kind(Kind::Truth, &condition) {
         guarded(alloc, at, condition, units, rest)
     } else {
         condition.let_go();

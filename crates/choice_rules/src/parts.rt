@@ -1,20 +1,22 @@
 //! What the parts of IF and SELECT deliver.
 
-ghost use Rattle.std.specs.Prelude.{◌≡◌};
+ghost use Rattle.std.specs.Prelude.{◌≡◌, IfOk};
 ghost use Rattle.choice_rules.specs.Choices as spec;
 ghost use Rattle.choice_rules.specs.walks.Steps as walk;
 
 use elan_meant::meant::Meant;
 use elan_scope::delivery::Delivery;
+use eu_base::NoMemory;
+use std::alloc::Global;
 
 /// What a part delivers. One that ends with a LEAVE agrees with every type.
-pub fn delivery_in(part: &Meant) -> Delivery
-    ensures { result ≡ spec.delivery_in part.now }
+pub fn delivery_in(alloc: Global, part: &Meant) -> Result<Delivery, NoMemory>
+    ensures { IfOk result (λ delivery. delivery ≡ spec.delivery_in part.now) }
 {
     match part {
-        Meant::Value { of, .. } => Delivery::Of(*of),
-        Meant::Left(_) => Delivery::Open,
-        _ => Delivery::Nothing,
+        Meant::Value { of, .. } => Ok(Delivery::Of(of.try_clone(alloc)?)),
+        Meant::Left(_) => Ok(Delivery::Open),
+        _ => Ok(Delivery::Nothing),
     }
 }
 
@@ -30,13 +32,22 @@ pub fn joined(delivery: Delivery, other: Delivery) -> Option<Delivery>
         (Delivery::Of(of), Delivery::Open) => Some(Delivery::Of(of)),
         (Delivery::Of(_), Delivery::Nothing) => None,
         (Delivery::Of(of), Delivery::Of(other)) => {
-            if of.is_same(other) {
+            if of.is_same(&other) {
                 Some(Delivery::Of(of))
             } else {
                 None
             }
         }
     }
+}
+
+/// What two parts deliver together, if they agree.
+pub fn together(alloc: Global, first: &Meant, second: &Meant) -> Result<Option<Delivery>, NoMemory>
+    ensures { IfOk result (λ delivery. delivery ≡ spec.joined (spec.delivery_in first.now) (spec.delivery_in second.now)) }
+{
+    let delivery = delivery_in(alloc, first)?;
+    let other = delivery_in(alloc, second)?;
+    Ok(joined(delivery, other))
 }
 
 /// The units of ELSE or OTHERWISE.

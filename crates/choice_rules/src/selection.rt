@@ -13,7 +13,7 @@ ghost use Rattle.elan_meant.specs.Verdict.{told, Tells};
 use crate::parts::{delivery_in, joined, part_for_none};
 use elan_meant::arms::{action_arms, arms_as};
 use elan_meant::meant::Meant;
-use elan_meant::operands::delivers;
+use elan_meant::operands::delivers_kind;
 use elan_meant::part::{actions, boxed, one, value_of};
 use elan_meant::row::Judged;
 use elan_meant::together::pairs_of;
@@ -22,7 +22,7 @@ use elan_scope::heading::Sort;
 use elan_scope::scope::Scope;
 use elan_scope::trouble::Trouble;
 use elan_types::{Action, ElanType, ValuePhrase, Why};
-use eu_base::{Boxed, List, NoMemory};
+use eu_base::{Boxed, Kind, List, NoMemory};
 use std::alloc::Global;
 
 fn is_in(labels: &[i16], number: i16) -> bool
@@ -64,17 +64,22 @@ pub fn label_named(at: u32, earlier: &[i16], scope: &Scope, name: &[u8]) -> Resu
 }
 
 // What all parts deliver, if they agree.
-fn agreed(delivery: Delivery, arms: &[(Meant, Meant)]) -> Option<Delivery>
-    ensures { result ≡ spec.agreed (Some delivery) arms.now }
+fn agreed(
+    alloc: Global,
+    otherwise: &Meant,
+    arms: &[(Meant, Meant)],
+) -> Result<Option<Delivery>, NoMemory>
+    ensures { IfOk result (λ delivery. delivery ≡ spec.agreed (Some (spec.delivery_in otherwise.now)) arms.now) }
 {
-    let mut agreed = Some(delivery);
+    let mut agreed = Some(delivery_in(alloc, otherwise)?);
     for arm in arms {
+        let delivery = delivery_in(alloc, &arm.1)?;
         agreed = match agreed {
             None => None,
-            Some(delivery) => joined(delivery, delivery_in(&arm.1)),
+            Some(before) => joined(before, delivery),
         };
     }
-    agreed
+    Ok(agreed)
 }
 
 fn select_actions(
@@ -103,9 +108,9 @@ fn select_value(
     value: Boxed<ValuePhrase>,
     arms: List<(Meant, Meant)>,
     otherwise: Meant,
-    of: ElanType,
+    of: &ElanType,
 ) -> Result<Boxed<ValuePhrase>, NoMemory>
-    ensures { IfOk result (λ v. v ≡ walk.select_value value arms otherwise of) }
+    ensures { IfOk result (λ v. v ≡ walk.select_value value arms otherwise of.now) }
 {
     match arms_as(alloc, of, arms, otherwise) {
         Err(refusal) => {
@@ -125,23 +130,29 @@ fn selected_by(
 ) -> Judged
     ensures { Tells result (spec.selected_by at value arms otherwise) }
 {
-    match agreed(delivery_in(&otherwise), arms.as_slice()) {
-        None => {
+    match agreed(alloc, &otherwise, arms.as_slice()) {
+        Err(_refusal) => {
+            value.into_inner().let_go();
+            Meant::pairs_let_go(arms);
+            otherwise.let_go();
+            Err(Trouble::NoMemory)
+        }
+        Ok(None) => {
             value.into_inner().let_go();
             Meant::pairs_let_go(arms);
             otherwise.let_go();
             Err(Trouble::Breaks(at, Why::WrongType))
         }
-        Some(Delivery::Nothing) => {
+        Ok(Some(Delivery::Nothing)) => {
             let actions = select_actions(alloc, value, arms, otherwise)?;
             Ok(Meant::Done(actions))
         }
-        Some(Delivery::Open) => {
+        Ok(Some(Delivery::Open)) => {
             let actions = select_actions(alloc, value, arms, otherwise)?;
             Ok(Meant::Left(actions))
         }
-        Some(Delivery::Of(of)) => {
-            let value = select_value(alloc, value, arms, otherwise, of)?;
+        Ok(Some(Delivery::Of(of))) => {
+            let value = select_value(alloc, value, arms, otherwise, &of)?;
             Ok(Meant::Value { at, of, value })
         }
     }
@@ -164,7 +175,7 @@ fn selected_among(alloc: Global, at: u32, value: Boxed<ValuePhrase>, parts: List
 pub fn selected(alloc: Global, at: u32, value: Meant, parts: List<Meant>) -> Judged
     ensures { Tells result (spec.selected at value parts) }
 {
-    if delivers(ElanType::Int, &value) {
+    if delivers_kind(Kind::Int, &value) {
         match value_of(alloc, value) {
             Err(_) => {
                 Meant::all_let_go(parts);

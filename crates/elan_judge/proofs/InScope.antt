@@ -34,7 +34,6 @@ module _ (s : Scope) where
   Names (form.named u z x) = z ≡ s
   Names (plain (form.applied z sort x)) = z ≡ s
   Names (plain (form.declares z x)) = z ≡ s
-  Names (plain (form.concr z)) = z ≡ s
   Names (plain (form.type_name z x)) = z ≡ s
   Names (plain (form.assignment z)) = z ≡ s
   Names (form.leave z x) = z ≡ s
@@ -172,7 +171,7 @@ module _ (s : Scope) where
   expr_in (t.Named n) = (refl, tt)
   expr_in (t.Call n actuals) = (refl, exprs_in actuals)
   expr_in (t.Procedure at n) = (tt, tt)
-  expr_in (t.Concr at a) = (refl, (a.1, tt))
+  expr_in (t.Concr at a) = (tt, (a.1, tt))
   expr_in (t.Bracket at a) = (tt, (a.1, tt))
   expr_in (t.If at branches None) =
       (tt, append_in (shape.branches (map (shape.branch s) (map fst branches))) (form.leaf 0 form.absent ∷ []) (branches_in branches) ((tt, tt), tt))

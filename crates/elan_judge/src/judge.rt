@@ -1,6 +1,6 @@
 //! The meaning of expressions and units, from left to right. One cycle of functions over both, so it stands in one file.
 
-ghost use Rattle.std.specs.Prelude.{ℕ, ◌≡◌, ◌++◌, ◌∷◌, [], List, map};
+ghost use Rattle.std.specs.Prelude.{option_map, ℕ, ◌≡◌, ◌++◌, ◌∷◌, [], List, map};
 ghost use Rattle.elan_scope.specs.declared.scope.Scope.{Scope};
 ghost use Rattle.elan_scope.specs.Phrase as form;
 ghost use Rattle.elan_scope.specs.Phrase.{Phrase, row, all_of};
@@ -13,7 +13,7 @@ ghost use Rattle.elan_judge.specs.walks.Steps as walk;
 use crate::define::judge_let;
 use crate::label::{add_numbers, judge_labels};
 use crate::place::unit_place;
-use crate::role::asked;
+use crate::role::{Wanted, asked};
 use choice_rules::choice::choice;
 use choice_rules::selection::selected;
 use elan_meant::meant::Meant;
@@ -22,7 +22,6 @@ use elan_meant::together::{Three, before, let_go, none, one, pair, three, with};
 use elan_rules::whole::{
     assignment_phrase, cand_phrase, cor_phrase, count_phrase, initial_phrase, loop_phrase,
 };
-use elan_scope::delivery::Delivery;
 use elan_scope::heading::Sort;
 use elan_scope::known::Known;
 use elan_scope::scope::{Scope, Usage};
@@ -84,7 +83,7 @@ fn judge(alloc: Global, known: &Known, scope: &Scope, expr: &Expr) -> Judged
             let row = judge_branches(alloc, known, scope, branches.as_slice());
             let otherwise = match otherwise {
                 None => Ok(Meant::Absent),
-                Some(units) => judge_units(alloc, known, scope, Delivery::Open, units.as_slice()),
+                Some(units) => judge_units(alloc, known, scope, Wanted::Open, units.as_slice()),
             };
             match with(row, otherwise) {
                 Err(trouble) => Err(trouble),
@@ -101,7 +100,7 @@ fn judge(alloc: Global, known: &Known, scope: &Scope, expr: &Expr) -> Judged
             let row = judge_cases(alloc, known, scope, cases.as_slice());
             let otherwise = match otherwise {
                 None => Ok(Meant::Absent),
-                Some(units) => judge_units(alloc, known, scope, Delivery::Open, units.as_slice()),
+                Some(units) => judge_units(alloc, known, scope, Wanted::Open, units.as_slice()),
             };
             let row = with(row, otherwise);
             match before(of, row) {
@@ -161,7 +160,7 @@ fn judge(alloc: Global, known: &Known, scope: &Scope, expr: &Expr) -> Judged
         Expr::Concr(at, inner) => {
             match judge(alloc, known, scope, inner.get()) {
                 Err(trouble) => Err(trouble),
-                Ok(inner) => concr(*at, scope, inner),
+                Ok(inner) => concr(*at, inner),
             }
         }
         Expr::Index { at, .. } => Err(Trouble::Breaks(*at, Why::Unknown)),
@@ -199,7 +198,7 @@ fn add_branch(alloc: Global, known: &Known, scope: &Scope, row: Row, branch: &Br
 {
     let row = with(row, judge(alloc, known, scope, &branch.condition));
     let units = branch.units.as_slice();
-    with(row, judge_units(alloc, known, scope, Delivery::Open, units))
+    with(row, judge_units(alloc, known, scope, Wanted::Open, units))
 }
 
 #[cycle(judge)]
@@ -229,7 +228,7 @@ fn add_case(
     let labels = case.labels.as_slice();
     let row = with(row, judge_labels(alloc, known, scope, earlier, labels));
     let units = case.units.as_slice();
-    with(row, judge_units(alloc, known, scope, Delivery::Open, units))
+    with(row, judge_units(alloc, known, scope, Wanted::Open, units))
 }
 
 // Each label is compared with all before it.
@@ -334,7 +333,7 @@ fn judge_unit(alloc: Global, known: &Known, scope: &Scope, unit: &Unit) -> Judge
             until,
         } => {
             let condition = judge_optional(alloc, known, scope, condition);
-            let units = judge_units(alloc, known, scope, Delivery::Nothing, units.as_slice());
+            let units = judge_units(alloc, known, scope, Wanted::Nothing, units.as_slice());
             let until = judge_optional(alloc, known, scope, until);
             let turns = three(condition, units, until);
             match counter {
@@ -361,18 +360,18 @@ pub fn judge_role(
     alloc: Global,
     known: &Known,
     scope: &Scope,
-    wanted: Delivery,
+    wanted: Wanted<'_>,
     unit: &Unit,
 ) -> Judged
-    ensures { Is result (judged known.now (shape.role wanted (shape.written (shape.unit scope.now unit.now)))) }
+    ensures { Is result (judged known.now (shape.role (walk.wanted wanted.entry) (shape.written (shape.unit scope.now unit.now)))) }
 {
     match wanted {
-        Delivery::Open => judge_unit(alloc, known, scope, unit),
-        Delivery::Nothing => {
+        Wanted::Open => judge_unit(alloc, known, scope, unit),
+        Wanted::Nothing => {
             let meant = judge_unit(alloc, known, scope, unit)?;
             without_value(alloc, meant)
         }
-        Delivery::Of(of) => {
+        Wanted::Of(of) => {
             let meant = judge_unit(alloc, known, scope, unit)?;
             must_deliver(unit_place(unit), of, meant)
         }
@@ -386,11 +385,11 @@ fn add_role(
     known: &Known,
     scope: &Scope,
     row: Row,
-    wanted: Option<Delivery>,
+    wanted: Option<Wanted<'_>>,
     unit: &Unit,
 ) -> Row
     ensures { (done : List Phrase) → Is row (judged_all known.now (all_of done)) → Is result
-        (judged_all known.now (all_of (done ++ walk.in_role wanted (shape.written (shape.unit scope.now unit.now))))) }
+        (judged_all known.now (all_of (done ++ walk.in_role (option_map walk.wanted wanted.entry) (shape.written (shape.unit scope.now unit.now))))) }
 {
     match wanted {
         None => row,
@@ -399,8 +398,14 @@ fn add_role(
 }
 
 #[cycle(judge)]
-fn judge_roles(alloc: Global, known: &Known, scope: &Scope, wanted: Delivery, units: &[Unit]) -> Row
-    ensures { Is result (judged_all known.now (all_of (shape.roles wanted (shape.filled (map (shape.unit scope.now) units.now))))) }
+fn judge_roles(
+    alloc: Global,
+    known: &Known,
+    scope: &Scope,
+    wanted: Wanted<'_>,
+    units: &[Unit],
+) -> Row
+    ensures { Is result (judged_all known.now (all_of (shape.roles (walk.wanted wanted.entry) (shape.filled (map (shape.unit scope.now) units.now))))) }
 {
     let mut row = none(alloc);
     for (i, unit) in units.iter().enumerate() {
@@ -416,10 +421,10 @@ pub fn judge_units(
     alloc: Global,
     known: &Known,
     scope: &Scope,
-    wanted: Delivery,
+    wanted: Wanted<'_>,
     units: &[Unit],
 ) -> Judged
-    ensures { Is result (judged known.now (shape.units wanted (map (shape.unit scope.now) units.now))) }
+    ensures { Is result (judged known.now (shape.units (walk.wanted wanted.entry) (map (shape.unit scope.now) units.now))) }
 {
     let row = judge_roles(alloc, known, scope, wanted, units)?;
     let meant = in_order(alloc, row)?;

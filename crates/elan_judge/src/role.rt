@@ -1,12 +1,34 @@
 //! What units are asked for, by where they stand in their list.
 
-ghost use Rattle.std.specs.Prelude.{◌≡◌, map};
+ghost use Rattle.std.specs.Prelude.{◌≡◌, map, option_map};
 ghost use Rattle.elan_scope.specs.declared.scope.Scope.{Scope};
+ghost use Rattle.elan_scope.specs.Known.{delivered};
 ghost use Rattle.elan_judge.specs.Shape as shape;
 ghost use Rattle.elan_judge.specs.walks.Steps as walk;
 
-use elan_scope::delivery::Delivery;
 use elan_tree::Unit;
+use elan_types::ElanType;
+
+/// What the last unit of a list is asked for.
+#[derive(Clone, Copy)]
+pub enum Wanted<'a> {
+    /// It may deliver what it will.
+    Open,
+    Nothing,
+    Of(&'a ElanType),
+}
+
+impl<'a> Wanted<'a> {
+    /// What the units of a PROC or OP with this result are asked for.
+    pub fn of(result_type: Option<&'a ElanType>) -> Wanted<'a>
+        ensures { walk.wanted result ≡ delivered (option_map (λ t. t.now) result_type.entry) }
+    {
+        match result_type {
+            None => Wanted::Nothing,
+            Some(of) => Wanted::Of(of),
+        }
+    }
+}
 
 /// Whether a unit is empty.
 pub fn is_empty(unit: &Unit) -> bool
@@ -31,14 +53,14 @@ pub fn all_empty(units: &[Unit]) -> bool
 }
 
 /// What a unit before these is asked for, if it is not empty, where their list has to deliver this.
-pub fn asked(wanted: Delivery, unit: &Unit, rest: &[Unit]) -> Option<Delivery>
-    ensures { (s : Scope) → result ≡ walk.asked wanted (shape.unit s unit.now) (map (shape.unit s) rest.now) }
+pub fn asked<'a>(wanted: Wanted<'a>, unit: &Unit, rest: &[Unit]) -> Option<Wanted<'a>>
+    ensures { (s : Scope) → option_map walk.wanted result ≡ walk.asked (walk.wanted wanted.entry) (shape.unit s unit.now) (map (shape.unit s) rest.now) }
 {
     if is_empty(unit) {
         None
     } else if all_empty(rest) {
         Some(wanted)
     } else {
-        Some(Delivery::Nothing)
+        Some(Wanted::Nothing)
     }
 }

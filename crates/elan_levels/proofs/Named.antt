@@ -1,15 +1,13 @@
 -- Names are added one list behind another, where the same types can be seen.
-use Rattle.std.proofs.Common.{◌≡◌, Bool, false, List, [], ◌∷◌, ◌++◌, Result, Ok, Err, refl, sym, ap, ◌∙◌, append_assoc}
+use Rattle.std.proofs.Common.{◌≡◌, false, List, [], ◌∷◌, ◌++◌, Result, Ok, Err, ap, ◌∙◌, append_assoc}
 use Rattle.std.specs.Prelude.{IfOk}
-use Rattle.elan_tree.specs.declared.phrase.Unit.{Unit as Statement}
-use Rattle.elan_tree.specs.declared.written_type.Formal.{Formal}
 use Rattle.elan_tree.specs.declared.tree.Refinement.{Refinement}
 use Rattle.elan_scope.specs.declared.scope.Denotes.TheVariants as denotes
 use Rattle.elan_scope.specs.declared.scope.Entry.{Entry}
 use Rattle.elan_scope.specs.declared.type_name.TypeName.{TypeName}
 use Rattle.elan_levels.specs.declared.declare.Names.{Names}
 use Rattle.elan_levels.specs.Declarations.{entry, in_units}
-use Rattle.elan_levels.specs.Bodies.{refinement_names, parameter_names}
+use Rattle.elan_levels.specs.Bodies.{refinement_names}
 use Rattle.elan_levels.specs.walks.Seen.{visible, with_entries, Adds}
 
 seen_as : (old new : Names) → new.here.now ≡ old.here.now → new.around.now ≡ old.around.now → visible new ≡ visible old

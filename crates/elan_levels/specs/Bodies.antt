@@ -20,6 +20,7 @@ use Rattle.elan_tree.specs.declared.tree.LevelUnit.TheVariants as level
 use Rattle.elan_scope.specs.declared.scope.Denotes.{Denotes}
 use Rattle.elan_scope.specs.declared.scope.Denotes.TheVariants as denotes
 use Rattle.elan_scope.specs.declared.scope.Entry.{Entry}
+use Rattle.elan_scope.specs.declared.scope.Scope.{Scope}
 use Rattle.elan_scope.specs.declared.scope.Within.{Within}
 use Rattle.elan_scope.specs.Scope.{all_held, variables_of}
 use Rattle.elan_scope.specs.declared.heading.Sort.{Sort}
@@ -82,6 +83,10 @@ frame ts fs b = owner.Own (map formal_of (parameters ts fs)) (variables_of (own_
 -- the PROC or OP with this number, where these types are declared around
 abbrev pub body_within : List TypeName → ℕ → List Formal → Body → Within
 body_within ts k fs b = record { number = k; names = body_names ts fs b; types = body_types ts b }
+
+-- in this PROC or OP
+abbrev pub routine_scope : Scope → Within → Scope
+routine_scope s w = record { headings = s.headings; level = s.level; types = s.types; routine = Some w; refinement = None }
 
 abbrev pub unit_names : List TypeName → LevelUnit → List Entry
 unit_names ts (level.Plain u) = in_unit ts u

@@ -29,21 +29,27 @@ fn access(given: Given) -> Access
     }
 }
 
-fn parameter(types: &[TypeName], formal: &Formal) -> Parameter
-    ensures { result ≡ spec.parameter types.now formal.now }
+fn parameter(alloc: Global, types: &[TypeName], formal: &Formal) -> Result<Parameter, NoMemory>
+    ensures { IfOk result (λ made. made ≡ spec.parameter types.now formal.now) }
 {
-    Parameter {
-        of: type_in(&[], types, &formal.of),
+    let of = type_in(alloc, &[], types, &formal.of)?;
+    Ok(Parameter {
+        of,
         access: access(formal.access),
-    }
+    })
 }
 
 // Adds the parameter for each name.
-fn for_each(out: &mut List<Parameter>, names: &[Name], parameter: Parameter) -> Result<(), NoMemory>
-    ensures { OnOk result (out.new ≡ out.old ++ scopes.all_held (spec.named_as names.now (denote.Parameter parameter))) }
+fn for_each(
+    alloc: Global,
+    out: &mut List<Parameter>,
+    names: &[Name],
+    parameter: &Parameter,
+) -> Result<(), NoMemory>
+    ensures { OnOk result (out.new ≡ out.old ++ scopes.all_held (spec.named_as names.now (denote.Parameter parameter.now))) }
 {
     for _name in names {
-        out.push(parameter)?;
+        out.push(parameter.try_clone(alloc)?)?;
     }
     Ok(())
 }
@@ -59,18 +65,31 @@ pub fn parameters(
 {
     let mut list = List::new(alloc);
     for formal in formals {
-        for_each(&mut list, formal.names.as_slice(), parameter(types, formal))?;
+        let parameter = parameter(alloc, types, formal)?;
+        for_each(alloc, &mut list, formal.names.as_slice(), &parameter)?;
     }
     Ok(list)
 }
 
-fn named_as<'a>(mut out: Names<'a>, names: &[Name], parameter: Parameter) -> Names<'a>
-    ensures { Adds (spec.named_as names.now (denote.Parameter parameter)) out.entry result }
+fn named_as<'a>(mut out: Names<'a>, names: &[Name], parameter: &Parameter) -> Names<'a>
+    ensures { Adds (spec.named_as names.now (denote.Parameter parameter.now)) out.entry result }
 {
     for name in names {
-        out = out.add(name, Denotes::Parameter(parameter));
+        out = out.add_parameter(name, parameter);
     }
     out
+}
+
+fn formal_names<'a>(mut out: Names<'a>, formal: &Formal) -> Names<'a>
+    ensures { Adds (spec.named_as formal.now.names (denote.Parameter (spec.parameter out.entry.around.now formal.now))) out.entry result }
+{
+    match parameter(out.alloc, out.around, formal) {
+        Ok(parameter) => named_as(out, formal.names.as_slice(), &parameter),
+        Err(NoMemory) => {
+            out.wanted = true;
+            out
+        }
+    }
 }
 
 // A heading is read in the level.
@@ -78,8 +97,7 @@ fn parameter_names<'a>(mut out: Names<'a>, formals: &[Formal]) -> Names<'a>
     ensures { Adds (spec.parameter_names out.entry.around.now formals.now) out.entry result }
 {
     for formal in formals {
-        let parameter = parameter(out.around, formal);
-        out = named_as(out, formal.names.as_slice(), parameter);
+        out = formal_names(out, formal);
     }
     out
 }

@@ -1,12 +1,14 @@
 //! The declarations of a text, in text order.
 
 ghost use Rattle.std.specs.Prelude.{◌≡◌, false, IfOk, OnOk};
+ghost use Rattle.elan_scope.specs.declared.scope.Denotes.TheVariants as denote;
 ghost use Rattle.elan_levels.specs.Declarations as spec;
 
 use elan_scope::denoter::Denoter;
 use elan_scope::scope::{Denotes, Entry};
 use elan_scope::type_name::TypeName;
-use elan_tree::{Constant, Name, Unit};
+use elan_tree::{Constant, Name, TypePhrase, Unit};
+use elan_types::Parameter;
 use elan_walk::{Held, Node, Visitor, visit_unit, visit_units};
 use eu_base::{Bytes, List, NoMemory};
 use std::alloc::Global;
@@ -36,7 +38,7 @@ pub struct Names<'a> {
 
 impl<'a> Names<'a> {
     ghost use Rattle.std.specs.Prelude.{[], ◌++◌};
-    ghost use Rattle.elan_walk.specs.Nodes.{let_name};
+    ghost use Rattle.elan_walk.specs.Nodes.{item, let_name};
     ghost use Rattle.elan_levels.specs.walks.Seen.{with_entries, visible, Adds};
 
     pub fn new(alloc: Global, here: &'a [TypeName], around: &'a [TypeName]) -> Names<'a>
@@ -62,6 +64,37 @@ impl<'a> Names<'a> {
             Err(NoMemory) => self.wanted = true,
         }
         self
+    }
+
+    /// Adds a parameter.
+    pub fn add_parameter(mut self, name: &Name, parameter: &Parameter) -> Names<'a>
+        ensures { result.wanted ≡ false → (self.entry.wanted ≡ false)
+            × (result ≡ with_entries self.entry (spec.entry name.now (denote.Parameter parameter.now))) }
+    {
+        match parameter.try_clone(self.alloc) {
+            Ok(parameter) => self.add(name, Denotes::Parameter(parameter)),
+            Err(NoMemory) => {
+                self.wanted = true;
+                self
+            }
+        }
+    }
+
+    // Adds a variable or constant of a declaration.
+    fn add_item(mut self, held: Held, of: &TypePhrase, name: &Name) -> Names<'a>
+        ensures { result.wanted ≡ false → (self.entry.wanted ≡ false)
+            × (result ≡ with_entries self.entry (spec.declared (visible self.entry) (item held of.now name.now))) }
+    {
+        match type_in(self.alloc, self.here, self.around, of) {
+            Ok(of) => match held {
+                Held::Variable => self.add(name, Denotes::Variable(of)),
+                Held::Constant => self.add(name, Denotes::Constant(of)),
+            },
+            Err(NoMemory) => {
+                self.wanted = true;
+                self
+            }
+        }
     }
 
     // Adds a name that LET gives to a constant.
@@ -126,14 +159,7 @@ impl<'a> Visitor for Names<'a> {
 
     fn visit(self, node: Node<'_>) -> Names<'a> {
         match node {
-            Node::Item(Held::Variable, of, name) => {
-                let of = type_in(self.here, self.around, of);
-                self.add(name, Denotes::Variable(of))
-            }
-            Node::Item(Held::Constant, of, name) => {
-                let of = type_in(self.here, self.around, of);
-                self.add(name, Denotes::Constant(of))
-            }
+            Node::Item(held, of, name) => self.add_item(held, of, name),
             Node::Let(name, constant) => self.add_constant(name, constant),
             _ => self,
         }

@@ -16,12 +16,16 @@ use std::alloc::Global;
 use type_names::written::type_in;
 
 /// The type that a PROC or OP delivers, where these types are declared around.
-pub fn result_type(types: &[TypeName], of: &Option<TypePhrase>) -> Option<ElanType>
-    ensures { result ≡ spec.result types.now of.now }
+pub fn result_type(
+    alloc: Global,
+    types: &[TypeName],
+    of: &Option<TypePhrase>,
+) -> Result<Option<ElanType>, NoMemory>
+    ensures { IfOk result (λ delivered. delivered ≡ spec.result types.now of.now) }
 {
     match of {
-        None => None,
-        Some(of) => Some(type_in(&[], types, of)),
+        None => Ok(None),
+        Some(of) => Ok(Some(type_in(alloc, &[], types, of)?)),
     }
 }
 
@@ -57,10 +61,11 @@ fn routine_heading(
 {
     let name = Bytes::from(alloc, name)?;
     let parameters = parameters(alloc, types, formals)?;
+    let delivered = result_type(alloc, types, of)?;
     Ok(Heading {
         at,
         name,
-        what: What::Routine(sort, parameters, result_type(types, of)),
+        what: What::Routine(sort, parameters, delivered),
     })
 }
 

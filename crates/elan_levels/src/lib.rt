@@ -5,3 +5,4 @@ pub mod bodies;
 mod declare;
 pub mod heading;
 pub mod uses;
+pub mod within;

@@ -2,7 +2,7 @@
 use Rattle.std.specs.Prelude.{ℕ, pos, Bool, true, false, List, [], ◌∷◌, flat_map, Option, Some, None, slice_index_or}
 use Rattle.std.specs.Option.{option_map}
 use Rattle.elan_types.specs.declared.elan_type.ElanType.{ElanType}
-use Rattle.elan_types.specs.Types.{kind_in}
+use Rattle.elan_types.specs.Types.{kind_in, shape_in}
 use Rattle.eu_base.specs.declared.value.Kind.{Kind}
 use Rattle.eu_base.specs.declared.value.Kind.TheVariants.{Int, Truth, Text}
 use Rattle.elan_types.specs.declared.core_phrase.PlacePhrase.{PlacePhrase}
@@ -20,7 +20,7 @@ use Rattle.elan_meant.specs.Verdict.{Verdict, gives, breaks}
 
 -- The value of a variable is what stands in it.
 abbrev pub value_of : Meant → ValuePhrase
-value_of (Variable at t p) = value.Load p (kind_in t)
+value_of (Variable at t p) = value.Load p (shape_in t)
 value_of (Value at t v) = v
 value_of _ = value.Truth false
 

@@ -11,15 +11,18 @@ use eu_base::{Boxed, List, NoMemory};
 use std::alloc::Global;
 
 // The value of a part, where a value of this type is asked for.
-fn value_as(alloc: Global, of: ElanType, part: Meant) -> Result<Boxed<ValuePhrase>, NoMemory>
-    ensures { IfOk result (λ value. value ≡ spec.value_as of part) }
+fn value_as(alloc: Global, of: &ElanType, part: Meant) -> Result<Boxed<ValuePhrase>, NoMemory>
+    ensures { IfOk result (λ value. value ≡ spec.value_as of.now part) }
 {
     match part {
         Meant::Value {
             at: _at,
-            of: _of,
+            of: delivered,
             value,
-        } => Ok(value),
+        } => {
+            delivered.let_go();
+            Ok(value)
+        }
         Meant::Left(actions) => unreached(alloc, actions, of),
         other => {
             other.let_go();
@@ -50,8 +53,8 @@ fn action_arm(alloc: Global, arm: (Meant, Meant)) -> Arm
     }
 }
 
-fn value_arm(alloc: Global, of: ElanType, arm: (Meant, Meant)) -> Result<ValueArm, NoMemory>
-    ensures { IfOk result (λ a. a ≡ spec.value_arm of arm) }
+fn value_arm(alloc: Global, of: &ElanType, arm: (Meant, Meant)) -> Result<ValueArm, NoMemory>
+    ensures { IfOk result (λ a. a ≡ spec.value_arm of.now arm) }
 {
     let (labels, units) = arm;
     let labels = labels_in(alloc, labels);
@@ -76,10 +79,10 @@ pub fn action_arms(alloc: Global, arms: List<(Meant, Meant)>) -> Result<List<Arm
 // The arms of a SELECT that delivers a value of this type.
 fn value_arms(
     alloc: Global,
-    of: ElanType,
+    of: &ElanType,
     arms: List<(Meant, Meant)>,
 ) -> Result<List<ValueArm>, NoMemory>
-    ensures { IfOk result (λ list. list ≡ map (spec.value_arm of) arms) }
+    ensures { IfOk result (λ list. list ≡ map (spec.value_arm of.now) arms) }
 {
     let mut list = Ok(List::new(alloc));
     for arm in arms.into_vec() {
@@ -91,11 +94,11 @@ fn value_arms(
 /// The arms of a SELECT that delivers a value of this type, and the value where no label holds it.
 pub fn arms_as(
     alloc: Global,
-    of: ElanType,
+    of: &ElanType,
     arms: List<(Meant, Meant)>,
     otherwise: Meant,
 ) -> Result<(List<ValueArm>, Boxed<ValuePhrase>), NoMemory>
-    ensures { IfOk result (λ made. (made.0 ≡ map (spec.value_arm of) arms) × (made.1 ≡ spec.value_as of otherwise)) }
+    ensures { IfOk result (λ made. (made.0 ≡ map (spec.value_arm of.now) arms) × (made.1 ≡ spec.value_as of.now otherwise)) }
 {
     let arms = value_arms(alloc, of, arms);
     both(arms, value_as(alloc, of, otherwise))
@@ -104,11 +107,11 @@ pub fn arms_as(
 /// The values of two parts, where values of this type are asked for.
 pub fn values_as(
     alloc: Global,
-    of: ElanType,
+    of: &ElanType,
     first: Meant,
     second: Meant,
 ) -> Result<(Boxed<ValuePhrase>, Boxed<ValuePhrase>), NoMemory>
-    ensures { IfOk result (λ made. (made.0 ≡ spec.value_as of first) × (made.1 ≡ spec.value_as of second)) }
+    ensures { IfOk result (λ made. (made.0 ≡ spec.value_as of.now first) × (made.1 ≡ spec.value_as of.now second)) }
 {
     let first = value_as(alloc, of, first);
     both(first, value_as(alloc, of, second))

@@ -1,47 +1,65 @@
 //! Operands: what they deliver, and what takes them.
 
 ghost use Rattle.std.specs.Prelude.{◌≡◌, map, option_map};
+ghost use Rattle.elan_types.specs.Types.{type_in};
 ghost use Rattle.elan_scope.specs.Predefined.{predefined};
 ghost use Rattle.elan_scope.specs.Scope as scopes;
 ghost use Rattle.elan_scope.specs.walks.Seen as seen;
 ghost use Rattle.elan_meant.specs.Operands as spec;
 
 use crate::meant::Meant;
-use elan_scope::callable::{Callable, predefined_callable};
+use elan_scope::callable::{Callable, Parameters, predefined_callable};
 use elan_scope::heading::Sort;
 use elan_scope::headings::Headings;
 use elan_scope::predefined::rows;
 use elan_scope::scope::Scope;
-use elan_types::{ElanType, Parameter};
+use elan_types::ElanType;
+use eu_base::Kind;
 
 /// Whether a phrase delivers a value of a type.
-pub fn delivers(of: ElanType, meant: &Meant) -> bool
-    ensures { result ≡ spec.delivers of meant.now }
+pub fn delivers(of: &ElanType, meant: &Meant) -> bool
+    ensures { result ≡ spec.delivers of.now meant.now }
 {
     match meant {
-        Meant::Variable { of: delivered, .. } => of.is_same(*delivered),
-        Meant::Value { of: delivered, .. } => of.is_same(*delivered),
+        Meant::Variable { of: delivered, .. } => of.is_same(delivered),
+        Meant::Value { of: delivered, .. } => of.is_same(delivered),
         _ => false,
     }
 }
 
+/// Whether a phrase delivers a value of the type of what is predefined for cells of a kind.
+pub fn delivers_kind(kind: Kind, meant: &Meant) -> bool
+    ensures { result ≡ spec.delivers (type_in kind) meant.now }
+{
+    let of = ElanType::of_kind(kind);
+    let delivered = delivers(&of, meant);
+    of.let_go();
+    delivered
+}
+
 // Whether parameters take these operands.
-fn fit(parameters: &[Parameter], operands: &[Meant]) -> bool
-    ensures { result ≡ spec.fit parameters.now operands.now }
+fn fit(parameters: Parameters<'_>, operands: &[Meant]) -> bool
+    ensures { result ≡ spec.fit (seen.parameters parameters.entry) operands.now }
 {
     match (parameters, operands) {
-        ([], []) => true,
-        ([parameter, parameters @ ..], [operand, operands @ ..]) => delivers(parameter.of, operand)
-            && fit(parameters, operands),
-        ([], [_operand, _operands @ ..]) => false,
-        ([_parameter, _parameters @ ..], []) => false,
+        (Parameters::Own([]), []) | (Parameters::Predefined([]), []) => true,
+        (Parameters::Own([parameter, others @ ..]), [operand, operands @ ..]) => {
+            delivers(&parameter.of, operand) && fit(Parameters::Own(others), operands)
+        }
+        (Parameters::Predefined([taken, others @ ..]), [operand, operands @ ..]) => {
+            delivers_kind(taken.kind, operand) && fit(Parameters::Predefined(others), operands)
+        }
+        (Parameters::Own([]), [_operand, _operands @ ..]) => false,
+        (Parameters::Predefined([]), [_operand, _operands @ ..]) => false,
+        (Parameters::Own([_parameter, _others @ ..]), []) => false,
+        (Parameters::Predefined([_taken, _others @ ..]), []) => false,
     }
 }
 
 fn takes(callable: &Callable<'_>, sort: Sort, name: &[u8], operands: &[Meant]) -> bool
     ensures { result ≡ spec.takes sort name.now operands.now (seen.callable callable.now) }
 {
-    callable.is_called(sort, name) && fit(callable.parameters, operands)
+    callable.is_called(sort, name) && fit(callable.what.parameters(), operands)
 }
 
 // What is called, if it is anything that takes these operands.
@@ -90,7 +108,7 @@ fn if_may_take<'a>(
 {
     let callable = callable?;
     if callable.is_called(sort, name)
-        && (callable.parameters.len() == operands.len() && callable.has_open())
+        && (callable.what.parameters().len() == operands.len() && callable.has_open())
     {
         Some(callable)
     } else {

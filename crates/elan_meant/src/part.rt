@@ -1,11 +1,12 @@
 //! What parts deliver.
 
-ghost use Rattle.std.specs.Prelude.{◌≡◌, IfOk, [], ◌∷◌};
+ghost use Rattle.std.specs.Prelude.{◌≡◌, IfOk, [], ◌∷◌, option_map};
+ghost use Rattle.elan_types.specs.Types as types;
 ghost use Rattle.elan_meant.specs.Parts as spec;
 ghost use Rattle.elan_meant.specs.Verdict.{gives, Tells};
 
 use crate::meant::Meant;
-use crate::operands::delivers;
+use crate::operands::delivers_kind;
 use crate::row::Judged;
 use elan_scope::trouble::Trouble;
 use elan_types::{Action, ElanType, PlacePhrase, ValuePhrase, Why};
@@ -18,13 +19,14 @@ pub fn value_of(alloc: Global, meant: Meant) -> Result<Boxed<ValuePhrase>, NoMem
 {
     match meant {
         Meant::Variable { at: _at, of, place } => {
-            Boxed::new(alloc, ValuePhrase::Load(place, of.kind()))
+            let shape = of.shape();
+            of.let_go();
+            Boxed::new(alloc, ValuePhrase::Load(place, shape))
         }
-        Meant::Value {
-            at: _at,
-            of: _of,
-            value,
-        } => Ok(value),
+        Meant::Value { at: _at, of, value } => {
+            of.let_go();
+            Ok(value)
+        }
         other => {
             other.let_go();
             Boxed::new(alloc, ValuePhrase::Truth(false))
@@ -37,12 +39,15 @@ pub fn value_in(meant: Meant) -> ValuePhrase
     ensures { result ≡ spec.value_of meant }
 {
     match meant {
-        Meant::Variable { at: _at, of, place } => ValuePhrase::Load(place, of.kind()),
-        Meant::Value {
-            at: _at,
-            of: _of,
-            value,
-        } => value.into_inner(),
+        Meant::Variable { at: _at, of, place } => {
+            let shape = of.shape();
+            of.let_go();
+            ValuePhrase::Load(place, shape)
+        }
+        Meant::Value { at: _at, of, value } => {
+            of.let_go();
+            value.into_inner()
+        }
         other => {
             other.let_go();
             ValuePhrase::Truth(false)
@@ -56,16 +61,16 @@ pub fn variable(at: u32, meant: Meant) -> Result<PlacePhrase, Trouble>
     ensures { Tells result (spec.variable at meant) }
 {
     match meant {
-        Meant::Variable {
-            at: _at,
-            of: _of,
-            place,
-        } => Ok(place),
+        Meant::Variable { at: _at, of, place } => {
+            of.let_go();
+            Ok(place)
+        }
         Meant::Value {
             at: place,
-            of: _of,
+            of,
             value,
         } => {
+            of.let_go();
             value.into_inner().let_go();
             Err(Trouble::Breaks(place, Why::NoVariable))
         }
@@ -77,12 +82,12 @@ pub fn variable(at: u32, meant: Meant) -> Result<PlacePhrase, Trouble>
 }
 
 /// The type that a part delivers, if it delivers a value.
-pub fn type_in(meant: &Meant) -> Option<ElanType>
-    ensures { result ≡ spec.type_in meant.now }
+pub fn type_in(meant: &Meant) -> Option<&ElanType>
+    ensures { option_map (λ t. t.now) result ≡ spec.type_in meant.now }
 {
     match meant {
-        Meant::Variable { of, .. } => Some(*of),
-        Meant::Value { of, .. } => Some(*of),
+        Meant::Variable { of, .. } => Some(of),
+        Meant::Value { of, .. } => Some(of),
         _ => None,
     }
 }
@@ -101,13 +106,13 @@ pub fn actions(alloc: Global, meant: Meant) -> List<Action>
     }
 }
 
-/// Whether a part is not written, or delivers this type.
-pub fn may_deliver(of: ElanType, meant: &Meant) -> bool
-    ensures { result ≡ spec.may_deliver of meant.now }
+/// Whether a part is not written, or delivers the type of what is predefined for cells of this kind.
+pub fn may_deliver(kind: Kind, meant: &Meant) -> bool
+    ensures { result ≡ spec.may_deliver (types.type_in kind) meant.now }
 {
     match meant {
         Meant::Absent => true,
-        _ => delivers(of, meant),
+        _ => delivers_kind(kind, meant),
     }
 }
 
@@ -116,12 +121,15 @@ pub fn written(meant: Meant) -> Option<ValuePhrase>
     ensures { result ≡ spec.written meant }
 {
     match meant {
-        Meant::Variable { at: _at, of, place } => Some(ValuePhrase::Load(place, of.kind())),
-        Meant::Value {
-            at: _at,
-            of: _of,
-            value,
-        } => Some(value.into_inner()),
+        Meant::Variable { at: _at, of, place } => {
+            let shape = of.shape();
+            of.let_go();
+            Some(ValuePhrase::Load(place, shape))
+        }
+        Meant::Value { at: _at, of, value } => {
+            of.let_go();
+            Some(value.into_inner())
+        }
         other => {
             other.let_go();
             None
@@ -135,6 +143,19 @@ pub fn delivering(alloc: Global, at: u32, of: ElanType, value: ValuePhrase) -> J
 {
     let value = Boxed::new(alloc, value)?;
     Ok(Meant::Value { at, of, value })
+}
+
+/// The same, with a copy of the type.
+pub fn delivering_as(alloc: Global, at: u32, of: &ElanType, value: ValuePhrase) -> Judged
+    ensures { Tells result (gives (Meant.Value at of.now value)) }
+{
+    match of.try_clone(alloc) {
+        Err(_refusal) => {
+            value.let_go();
+            Err(Trouble::NoMemory)
+        }
+        Ok(of) => delivering(alloc, at, of, value),
+    }
 }
 
 /// One action.
@@ -192,9 +213,9 @@ pub fn blank(alloc: Global, kind: Kind) -> ValuePhrase
 pub fn unreached(
     alloc: Global,
     actions: List<Action>,
-    of: ElanType,
+    of: &ElanType,
 ) -> Result<Boxed<ValuePhrase>, NoMemory>
-    ensures { IfOk result (λ v. v ≡ spec.unreached actions of) }
+    ensures { IfOk result (λ v. v ≡ spec.unreached actions of.now) }
 {
     let value = Boxed::new(alloc, blank(alloc, of.kind()))?;
     Boxed::new(alloc, ValuePhrase::After(actions, value))

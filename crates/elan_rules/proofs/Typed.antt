@@ -1,12 +1,14 @@
--- What is known of a meaning: its core has the kinds that it asks for, and the kind of its type.
+-- What is known of a meaning: its core has the shapes that it asks for, and the shape of its type.
 use Rattle.std.proofs.Common.{ℕ, zero, suc, drop}
 use Rattle.std.proofs.Common.{◌≡◌, Bool, true, false, ◌&&◌, if◌then◌else◌, List, [], ◌∷◌, ◌++◌, map, Option, Some, None, refl, sym, ap, subst, ◌∙◌, eqb-true}
 use Rattle.std.specs.Prelude.{◌==◌}
 use Rattle.elan_types.specs.declared.elan_type.ElanType.{ElanType}
-use Rattle.elan_types.specs.declared.elan_type.ElanType.TheVariants.{Int, Bool as Truths, Text as Letters, Own, Open}
-use Rattle.elan_types.specs.declared.elan_type.OwnType.{OwnType}
 use Rattle.eu_base.specs.declared.value.Kind.{Kind}
 use Rattle.eu_base.specs.declared.value.Kind.TheVariants as kinds
+use Rattle.eu_base.specs.declared.shape.Shape.{Shape}
+use Rattle.eu_base.specs.declared.shape.Shape.TheVariants.{Cell}
+use Rattle.eu_base.specs.Values.{same_kind}
+use Rattle.eu_base.specs.Shapes.{cell_kinds}
 use Rattle.elan_types.specs.declared.core_phrase.PlacePhrase.{PlacePhrase}
 use Rattle.elan_types.specs.declared.core_phrase.ValuePhrase.{ValuePhrase}
 use Rattle.elan_types.specs.declared.core_phrase.ValuePhrase.TheVariants as value
@@ -17,84 +19,28 @@ use Rattle.elan_meant.specs.declared.meant.Meant.TheVariants.{Absent, Variable, 
 use Rattle.elan_scope.specs.Ruled as ruled
 use Rattle.elan_scope.specs.Ruled.{Ruled, hangs}
 use Rattle.elan_meant.specs.Verdict.{Verdict, gives, breaks, ◌>>=◌, told, unless}
-use Rattle.elan_types.specs.Typing.{Typed, same_kind, has, agree, only_if, all_true}
-use Rattle.elan_types.specs.Types.{same_type, kind_in, type_in}
+use Rattle.elan_types.specs.Typing.{Typed, starts, has_shape, agree, only_if, all_true}
+use Rattle.elan_types.specs.Types.{same_type, kind_in, shape_in, type_in}
+use Rattle.elan_types.proofs.Shapes.{cell_is, same_shape_self}
+pub use Rattle.elan_types.proofs.Shapes.{both}
+pub use Rattle.elan_types.proofs.Types.{kind_type, same_type_is}
 use Rattle.elan_meant.specs.Operands.{delivers}
 use Rattle.elan_meant.specs.Parts as r
-use Rattle.elan_rules.proofs.TypeEquations.{Stand, kind, typed, lies, load_is, unit_is, has_written}
+use Rattle.elan_rules.proofs.TypeEquations.{Stand, shape, typed, cells, load_is, unit_is, has_written}
 
--- ---- types and kinds
+-- ---- types, kinds and shapes
 
-pub kind_is : (k j : Kind) → same_kind k j ≡ true → k ≡ j
-kind_is kinds.Int kinds.Int e = refl
-kind_is kinds.Int kinds.Truth e = absurd cc
-kind_is kinds.Int kinds.Text e = absurd cc
-kind_is kinds.Truth kinds.Int e = absurd cc
-kind_is kinds.Truth kinds.Truth e = refl
-kind_is kinds.Truth kinds.Text e = absurd cc
-kind_is kinds.Text kinds.Int e = absurd cc
-kind_is kinds.Text kinds.Truth e = absurd cc
-kind_is kinds.Text kinds.Text e = refl
+pub shape_type : (k : Kind) → shape_in (type_in k) ≡ Cell k
+shape_type k = ap (λ (j : Kind). Cell j) (kind_type k)
 
-both_of : (p q : Bool) → (p && q) ≡ true → (p ≡ true) × (q ≡ true)
-both_of true q e = (refl, e)
-both_of false q e = absurd cc
+pub has_self : (s : Shape) (a : Typed) → a ≡ Some s → has_shape s a ≡ true
+has_self s a e = subst (λ (b : Typed). has_shape s b ≡ true) (sym e) (same_shape_self s)
 
-own_is : (a b : OwnType) → (a.number == b.number && same_kind a.kind b.kind) ≡ true → Own a ≡ Own b
-own_is a b e =
-    let h = both_of (a.number == b.number) (same_kind a.kind b.kind) e in
-    ap (λ (n : ℕ). Own (record { number = n; kind = a.kind })) (eqb-true a.number b.number h.0)
-    ∙ ap (λ (k : Kind). Own (record { number = b.number; kind = k })) (kind_is a.kind b.kind h.1)
+pub agree_self : (s : Shape) (a b : Typed) → a ≡ Some s → b ≡ Some s → agree a b ≡ true
+agree_self s a b e f = subst (λ (c : Typed). agree c b ≡ true) (sym e) (has_self s b f)
 
-pub same_is : (t u : ElanType) → same_type t u ≡ true → t ≡ u
-same_is Int Int e = refl
-same_is Int Truths e = absurd cc
-same_is Int Letters e = absurd cc
-same_is Int (Own b) e = absurd cc
-same_is Int Open e = absurd cc
-same_is Truths Int e = absurd cc
-same_is Truths Truths e = refl
-same_is Truths Letters e = absurd cc
-same_is Truths (Own b) e = absurd cc
-same_is Truths Open e = absurd cc
-same_is Letters Int e = absurd cc
-same_is Letters Truths e = absurd cc
-same_is Letters Letters e = refl
-same_is Letters (Own b) e = absurd cc
-same_is Letters Open e = absurd cc
-same_is (Own a) Int e = absurd cc
-same_is (Own a) Truths e = absurd cc
-same_is (Own a) Letters e = absurd cc
-same_is (Own a) (Own b) e = own_is a b e
-same_is (Own a) Open e = absurd cc
-same_is Open Int e = absurd cc
-same_is Open Truths e = absurd cc
-same_is Open Letters e = absurd cc
-same_is Open (Own b) e = absurd cc
-same_is Open Open e = refl
-
-pub same_self : (k : Kind) → same_kind k k ≡ true
-same_self kinds.Int = refl
-same_self kinds.Truth = refl
-same_self kinds.Text = refl
-
-pub kind_type : (k : Kind) → kind_in (type_in k) ≡ k
-kind_type kinds.Int = refl
-kind_type kinds.Truth = refl
-kind_type kinds.Text = refl
-
-pub has_self : (k : Kind) (a : Typed) → a ≡ Some k → has k a ≡ true
-has_self k a e = subst (λ (b : Typed). has k b ≡ true) (sym e) (same_self k)
-
-pub agree_self : (k : Kind) (a b : Typed) → a ≡ Some k → b ≡ Some k → agree a b ≡ true
-agree_self k a b e f = subst (λ (c : Typed). agree c b ≡ true) (sym e) (has_self k b f)
-
-pub only_if_holds : (b : Bool) (a : Typed) (k : Kind) → b ≡ true → a ≡ Some k → only_if b a ≡ Some k
-only_if_holds b a k e f = subst (λ (c : Bool). only_if c a ≡ Some k) (sym e) f
-
-pub both : (a b : Bool) → (a && b) ≡ true → (a ≡ true) × (b ≡ true)
-both true b e = (refl, e)
-both false b e = absurd cc
+pub only_if_holds : (b : Bool) (a : Typed) (s : Shape) → b ≡ true → a ≡ Some s → only_if b a ≡ Some s
+only_if_holds b a s e f = subst (λ (c : Bool). only_if c a ≡ Some s) (sym e) f
 
 pub and_true : (a b : Bool) → a ≡ true → b ≡ true → (a && b) ≡ true
 and_true a b e f = subst (λ (c : Bool). (c && b) ≡ true) (sym e) f
@@ -135,20 +81,24 @@ on_either P false x y h k = k
 module _ (here : Stand) where
   -- ---- what is known of a meaning
 
-  abbrev pub Has : Kind → ValuePhrase → Type 0
-  Has k v = kind here v ≡ Some k
+  abbrev pub Has : Shape → ValuePhrase → Type 0
+  Has s v = shape here v ≡ Some s
 
-  abbrev pub MayHave : Kind → Option ValuePhrase → Type 0
-  MayHave k None = Unit {0}
-  MayHave k (Some v) = Has k v
+  abbrev pub MayHave : Shape → Option ValuePhrase → Type 0
+  MayHave s None = Unit {0}
+  MayHave s (Some v) = Has s v
+
+  -- A value of this shape stands at a place.
+  abbrev pub Lies : Shape → PlacePhrase → Type 0
+  Lies s x = starts (cell_kinds s) (cells here x) ≡ true
 
   abbrev pub AllTyped : List Action → Type 0
   AllTyped as' = all_true (map (typed here) as') ≡ true
 
   abbrev pub Good : Meant → Type 0
   Good Absent = Unit {0}
-  Good (Variable at t x) = lies here x ≡ Some (kind_in t)
-  Good (Value at t v) = Has (kind_in t) v
+  Good (Variable at t x) = Lies (shape_in t) x
+  Good (Value at t v) = Has (shape_in t) v
   Good (Done as') = AllTyped as'
   Good (Left as') = AllTyped as'
   Good (Labels ns) = Unit {0}
@@ -185,27 +135,28 @@ module _ (here : Stand) where
   -- ---- what parts deliver
 
   -- what stands in a variable
-  pub load_typed : (k : Kind) (x : PlacePhrase) → lies here x ≡ Some k → Has k (value.Load x k)
-  load_typed k x h = load_is here x k ∙ only_if_holds _ _ k (has_self k _ h) refl
+  pub load_typed : (s : Shape) (x : PlacePhrase) → Lies s x → Has s (value.Load x s)
+  load_typed s x h = load_is here x s ∙ only_if_holds _ _ s h refl
 
-  pub value_typed : (t : ElanType) (m : Meant) → Good m → delivers t m ≡ true → Has (kind_in t) (r.value_of m)
+  -- that of one cell
+  pub cell_there : (k : Kind) (x : PlacePhrase) → Lies (Cell k) x → starts (k ∷ []) (cells here x) ≡ true
+  cell_there k x h = ap (λ (ks : List Kind). starts ks (cells here x)) (sym (cell_is k)) ∙ h
+
+  pub value_typed : (t : ElanType) (m : Meant) → Good m → delivers t m ≡ true → Has (shape_in t) (r.value_of m)
   value_typed t Absent g e = absurd cc
   value_typed t (Variable at u x) g e =
-      subst (λ (w : ElanType). Has (kind_in w) (value.Load x (kind_in u))) (sym (same_is t u e)) (load_typed (kind_in u) x g)
-  value_typed t (Value at u v) g e = subst (λ (w : ElanType). Has (kind_in w) v) (sym (same_is t u e)) g
+      subst (λ (w : ElanType). Has (shape_in w) (value.Load x (shape_in u))) (sym (same_type_is t u e)) (load_typed (shape_in u) x g)
+  value_typed t (Value at u v) g e = subst (λ (w : ElanType). Has (shape_in w) v) (sym (same_type_is t u e)) g
   value_typed t (Done as') g e = absurd cc
   value_typed t (Left as') g e = absurd cc
   value_typed t (Labels ns) g e = absurd cc
   value_typed t (Bodies bs) g e = absurd cc
   value_typed t (Level us bs) g e = absurd cc
 
-  abbrev pub Lies : Kind → PlacePhrase → Type 0
-  Lies k x = lies here x ≡ Some k
-
   -- A variable that is needed is one of this type.
-  pub variable_good : (at : ℕ) (t : ElanType) (m : Meant) → Good m → delivers t m ≡ true → Gives (Lies (kind_in t)) (r.variable at m)
+  pub variable_good : (at : ℕ) (t : ElanType) (m : Meant) → Good m → delivers t m ≡ true → Gives (Lies (shape_in t)) (r.variable at m)
   variable_good at t Absent g e = tt
-  variable_good at t (Variable p u x) g e = subst (λ (w : ElanType). Lies (kind_in w) x) (sym (same_is t u e)) g
+  variable_good at t (Variable p u x) g e = subst (λ (w : ElanType). Lies (shape_in w) x) (sym (same_type_is t u e)) g
   variable_good at t (Value p u v) g e = tt
   variable_good at t (Done as') g e = tt
   variable_good at t (Left as') g e = tt
@@ -213,7 +164,7 @@ module _ (here : Stand) where
   variable_good at t (Bodies bs) g e = tt
   variable_good at t (Level us bs) g e = tt
 
-  pub may_typed : (t : ElanType) (m : Meant) → Good m → r.may_deliver t m ≡ true → MayHave (kind_in t) (r.written m)
+  pub may_typed : (t : ElanType) (m : Meant) → Good m → r.may_deliver t m ≡ true → MayHave (shape_in t) (r.written m)
   may_typed t Absent g e = tt
   may_typed t (Variable at u x) g e = value_typed t (Variable at u x) g e
   may_typed t (Value at u v) g e = value_typed t (Value at u v) g e
@@ -222,6 +173,20 @@ module _ (here : Stand) where
   may_typed t (Labels ns) g e = absurd cc
   may_typed t (Bodies bs) g e = absurd cc
   may_typed t (Level us bs) g e = absurd cc
+
+  -- the same of what is predefined for cells of a kind
+
+  pub kind_good : (k : Kind) (v : ValuePhrase) → Has (Cell k) v → Has (shape_in (type_in k)) v
+  kind_good k v h = subst (λ (s : Shape). Has s v) (sym (shape_type k)) h
+
+  pub kind_value : (k : Kind) (m : Meant) → Good m → delivers (type_in k) m ≡ true → Has (Cell k) (r.value_of m)
+  kind_value k m g e = subst (λ (s : Shape). Has s (r.value_of m)) (shape_type k) (value_typed (type_in k) m g e)
+
+  pub kind_variable : (at : ℕ) (k : Kind) (m : Meant) → Good m → delivers (type_in k) m ≡ true → Gives (Lies (Cell k)) (r.variable at m)
+  kind_variable at k m g e = subst (λ (s : Shape). Gives (Lies s) (r.variable at m)) (shape_type k) (variable_good at (type_in k) m g e)
+
+  pub kind_may : (k : Kind) (m : Meant) → Good m → r.may_deliver (type_in k) m ≡ true → MayHave (Cell k) (r.written m)
+  kind_may k m g e = subst (λ (s : Shape). MayHave s (r.written m)) (shape_type k) (may_typed (type_in k) m g e)
 
   pub actions_typed : (m : Meant) → Good m → AllTyped (r.actions m)
   actions_typed Absent g = refl
@@ -249,6 +214,6 @@ module _ (here : Stand) where
   pub unit_typed : (as' : List Action) → AllTyped as' → AllTyped (action.Unit as' ∷ [])
   unit_typed as' h = single_typed (action.Unit as') (unit_is here as' ∙ h)
 
-  pub written_typed : (k : Kind) (o : Option ValuePhrase) → MayHave k o → has_written here k o ≡ true
+  pub written_typed : (k : Kind) (o : Option ValuePhrase) → MayHave (Cell k) o → has_written here k o ≡ true
   written_typed k None h = refl
-  written_typed k (Some v) h = has_self k _ h
+  written_typed k (Some v) h = has_self (Cell k) _ h

@@ -1,6 +1,6 @@
--- Names, calls and LEAVE have the kinds that they ask for.
+-- Names, calls and LEAVE have the shapes that they ask for.
 -- This file is long since one record, what a scope tells of the bodies, is the premise of all that stands in it.
-use Rattle.std.proofs.Common.{◌≡◌, ℕ, Bool, true, false, if◌then◌else◌, List, [], ◌∷◌, ◌++◌, ◌+◌, zero, suc, length, arith, map, Option, Some, None, refl}
+use Rattle.std.proofs.Common.{◌≡◌, ℕ, Bool, true, false, if◌then◌else◌, List, [], ◌∷◌, ◌++◌, ◌+◌, zero, suc, length, drop, arith, map, Option, Some, None, refl}
 use Rattle.std.proofs.Common.{sym, ap, subst, ◌∙◌}
 use Rattle.elan_types.specs.declared.elan_type.ElanType.{ElanType}
 use Rattle.elan_types.specs.declared.core_phrase.PlacePhrase.{PlacePhrase}
@@ -12,21 +12,25 @@ use Rattle.elan_meant.specs.declared.meant.Meant.{Meant}
 use Rattle.elan_scope.specs.declared.scope.Usage.{Usage}
 use Rattle.elan_scope.specs.declared.scope.Usage.TheVariants as usage
 use Rattle.elan_meant.specs.declared.meant.Meant.TheVariants.{Absent, Variable, Value, Done, Left, Labels, Bodies, Level}
-use Rattle.std.specs.Prelude.{slice_get, nat_eq, option_and_then}
+use Rattle.std.specs.Prelude.{slice_get, nat_eq, flat_map, option_map, option_and_then}
+use Rattle.std.proofs.lemmas.Option.{slice_get-map}
 use Rattle.std.specs.Str.{bytes_eq}
 use Rattle.elan_types.specs.declared.core_phrase.Access.{Access}
 use Rattle.elan_types.specs.declared.core_phrase.Access.TheVariants.{Const, Var}
 use Rattle.elan_types.specs.declared.elan_type.Parameter.{Parameter}
 use Rattle.eu_base.specs.declared.value.Kind.{Kind}
-use Rattle.elan_types.specs.Types.{kind_in, formal_of}
-use Rattle.elan_types.specs.declared.core_phrase.Formal.{Formal}
+use Rattle.eu_base.specs.declared.shape.Shape.{Shape}
+use Rattle.eu_base.specs.declared.shape.Shape.TheVariants.{Cell}
+use Rattle.elan_types.specs.Types.{kind_in, shape_in, formal_of}
 use Rattle.elan_types.specs.declared.core_phrase.Exit.{Exit}
 use Rattle.elan_types.specs.declared.core_phrase.Exit.TheVariants as exits
 use Rattle.elan_types.specs.declared.core_phrase.Scope.{Scope as Owner}
 use Rattle.elan_types.specs.declared.core_phrase.Scope.TheVariants as owner
 use Rattle.elan_types.specs.declared.core_phrase.Body.{Body}
-use Rattle.elan_types.specs.Typing.{Home as InBody, Typed, same_home, kind_as, result_of_content, result_of, scope_of, refines, leaves_without, leaves_with}
-use Rattle.elan_types.specs.Typing.{left_from, around, frame_in, owner as owner_in}
+use Rattle.elan_types.specs.Typing.{Home as InBody, Typed, Held, OfKind, OfPlace, held_as, cells_of, values_held, place_held, starts, same_home}
+use Rattle.elan_types.specs.Typing.{result_of_content, result_of, scope_of, refines, leaves_without, leaves_with, left_from, around, frame_in}
+use Rattle.elan_types.specs.Typing.{owner as owner_in}
+use Rattle.elan_types.proofs.Shapes.{cell_is, same_kind_self, same_shape_self}
 use Rattle.elan_scope.specs.declared.delivery.Delivery.{Delivery}
 use Rattle.elan_scope.specs.declared.delivery.Delivery.TheVariants.{Open, Nothing, Of}
 use Rattle.elan_scope.specs.declared.scope.Denotes.{Denotes}
@@ -52,12 +56,12 @@ use Rattle.elan_scope.proofs.Layers.{called_as, layers_in, outer_layers}
 use Rattle.elan_scope.proofs.Named.{first_heading_from}
 use Rattle.elan_meant.specs.Operands.{delivers, takes, chosen}
 use Rattle.elan_rules.proofs.Typed as ty
-use Rattle.elan_rules.proofs.Typed.{same_is, same_self, has_self, agree_self, only_if_holds, both, and_true, Gives, MayGive, on_if, on_bind, on_told, on_either}
+use Rattle.elan_rules.proofs.Typed.{same_type_is, has_self, agree_self, only_if_holds, both, and_true, Gives, MayGive, on_if, on_bind, on_told, on_either}
 use Rattle.value_rules.specs.Calls as r
 use Rattle.value_rules.specs.Values.{denoter}
 use Rattle.elan_rules.proofs.TypedUnits.{denoter_good}
 use Rattle.value_rules.specs.walks.Steps as walk
-use Rattle.elan_rules.proofs.TypeEquations.{Stand, typed, lies, refer_is, action_refer_is, leave_is, leave_with_is}
+use Rattle.elan_rules.proofs.TypeEquations.{Stand, typed, cells, frame, variable_is, local_is, parameter_is, refer_is, action_refer_is, leave_is, leave_with_is}
 use Rattle.elan_rules.proofs.TypedPerformed.{owner_with, Headed, Delivering, BodyFits, Fitting, MayCall, none_holds, has_holds, own_calls, predefined_calls}
 use Rattle.elan_rules.proofs.TypedPerformed.{first_calls, else_calls, called_good}
 
@@ -99,15 +103,47 @@ found_held k (d ∷ es) x f e = by_name (found_held (k + length (held d.denotes)
         let g = rest h in
         (length (held d.denotes) + g.0, (let i = g.1 in omega arith), held_behind (held f.1.denotes) (held d.denotes) (all_held es) g.0 g.2)
 
-kind_at : (ps : List Parameter) (i : ℕ) (q : Parameter) → slice_get ps i ≡ Some q → slice_get (map kind_in (types_of ps)) i ≡ Some (kind_in q.of)
-kind_at [] i q e = absurd cc
-kind_at (a ∷ ps) zero q e = let h : a ≡ q = cc in ap (λ (b : Parameter). Some (kind_in b.of)) h
-kind_at (a ∷ ps) (suc i) q e = kind_at ps i q e
+map_at : {A B : Type 0} (f : A → B) (xs : List A) (i : ℕ) (x : A) → slice_get xs i ≡ Some x → slice_get (map f xs) i ≡ Some (f x)
+map_at f xs i x e = slice_get-map f xs i ∙ ap (option_map f) e
 
-formal_at : (ps : List Parameter) (i : ℕ) (q : Parameter) → slice_get ps i ≡ Some q → slice_get (map formal_of ps) i ≡ Some (formal_of q)
-formal_at [] i q e = absurd cc
-formal_at (a ∷ ps) zero q e = let h : a ≡ q = cc in ap (λ (b : Parameter). Some (formal_of b)) h
-formal_at (a ∷ ps) (suc i) q e = formal_at ps i q e
+-- ---- cells
+
+-- the one cell of a parameter
+abbrev cell_with : Access → Kind → Held
+cell_with Const k = OfKind k
+cell_with Var k = OfPlace (k ∷ [])
+
+abbrev cell_of : Parameter → Held
+cell_of q = cell_with q.access (kind_in q.of)
+
+one_cell : (q : Parameter) → cells_of (formal_of q) ≡ cell_of q ∷ []
+one_cell q = ap (held_as q.access) (cell_is (kind_in q.of)) ∙ by_access q.access
+  where
+    by_access : (a : Access) → held_as a (kind_in q.of ∷ []) ≡ cell_with a (kind_in q.of) ∷ []
+    by_access Const = refl
+    by_access Var = refl
+
+each_cell : (ps : List Parameter) → flat_map cells_of (map formal_of ps) ≡ map cell_of ps
+each_cell [] = refl
+each_cell (q ∷ ps) =
+    ap (λ (hs : List Held). hs ++ flat_map cells_of (map formal_of ps)) (one_cell q) ∙ ap (λ (hs : List Held). cell_of q ∷ hs) (each_cell ps)
+
+starts_first : (k : Kind) (ks : List Kind) → starts (k ∷ []) (k ∷ ks) ≡ true
+starts_first k ks = and_true _ _ (same_kind_self k) refl
+
+starts_at : (ks : List Kind) (n : ℕ) (k : Kind) → slice_get ks n ≡ Some k → starts (k ∷ []) (drop n ks) ≡ true
+starts_at [] n k e = absurd cc
+starts_at (j ∷ ks) zero k e = let h : j ≡ k = cc in subst (λ (i : Kind). starts (i ∷ []) (j ∷ ks) ≡ true) h (starts_first j ks)
+starts_at (j ∷ ks) (suc n) k e = starts_at ks n k e
+
+starts_held : (hs : List Held) (n : ℕ) (k : Kind) → slice_get hs n ≡ Some (OfKind k) → starts (k ∷ []) (values_held (drop n hs)) ≡ true
+starts_held [] n k e = absurd cc
+starts_held (h ∷ hs) zero k e =
+    let i : h ≡ OfKind k = cc in subst (λ (j : Held). starts (k ∷ []) (values_held (j ∷ hs)) ≡ true) (sym i) (starts_first k (values_held hs))
+starts_held (h ∷ hs) (suc n) k e = starts_held hs n k e
+
+starts_place : (hs : List Held) (n : ℕ) (k : Kind) → slice_get hs n ≡ Some (OfPlace (k ∷ [])) → starts (k ∷ []) (place_held (slice_get hs n)) ≡ true
+starts_place hs n k e = ap (λ (o : Option Held). starts (k ∷ []) (place_held o)) e ∙ starts_first k []
 
 heading_at : (k : ℕ) (test : Heading → Bool) (hs : List Heading) (b : ℕ × Heading) → first_heading_from k test hs ≡ Some b
     → (i : ℕ) × (b.0 ≡ k + i) × (slice_get hs i ≡ Some b.1) × (test b.1 ≡ true)
@@ -135,9 +171,13 @@ first_at test hs b e =
 
 -- ---- bodies as their headings tell
 
-abbrev pub FrameIs : List Formal → Option Within → Type 0
-FrameIs frame None = Unit {0}
-FrameIs frame (Some v) = frame ≡ map formal_of (all_held v.names)
+-- the cells of what names hold
+abbrev pub held_cells : List Entry → List Held
+held_cells es = flat_map cells_of (map formal_of (all_held es))
+
+abbrev pub FrameIs : List Held → Option Within → Type 0
+FrameIs hs None = Unit {0}
+FrameIs hs (Some v) = hs ≡ held_cells v.names
 
 -- The bodies are those that a scope tells of.
 pub record Fits (here : Stand) (s : Scope) (k : Known) : Type 0 where
@@ -149,7 +189,7 @@ pub record Fits (here : Stand) (s : Scope) (k : Known) : Type 0 where
   pub bodies : (n : ℕ) (h : Heading) → slice_get s.headings n ≡ Some h → BodyFits (slice_get here.bodies n) h (delivery_at k n)
 
 module _ (here : Stand) where
-  abbrev Has : Kind → ValuePhrase → Type 0
+  abbrev Has : Shape → ValuePhrase → Type 0
   Has = ty.Has here
 
   abbrev AllTyped : List Action → Type 0
@@ -165,18 +205,23 @@ module _ (here : Stand) where
 
   abbrev AtHome : Home → ℕ → Parameter → Type 0
   AtHome of_level n q = slice_get here.variables n ≡ Some (kind_in q.of)
-  AtHome of_routine n q = slice_get (frame_in here.bodies (owner_in here.bodies here.home)) n ≡ Some (formal_of q)
+  AtHome of_routine n q = slice_get (frame_in here.bodies (owner_in here.bodies here.home)) n ≡ Some (cell_of q)
 
-  place_lies : (home : Home) (n : ℕ) (t : ElanType) (a : Access) → AtHome home n (record { of = t; access = a })
-      → lies here (r.place_in home n a) ≡ Some (kind_in t)
-  place_lies of_level n t a h = h
-  place_lies of_routine n t Const h = ap (kind_as Const) h
-  place_lies of_routine n t Var h = ap (kind_as Var) h
+  abbrev Stays : Shape → PlacePhrase → Type 0
+  Stays = ty.Lies here
 
-  constant_good : (at : ℕ) (t : ElanType) (x : PlacePhrase) → lies here x ≡ Some (kind_in t) → Good (r.constant at t x)
-  constant_good at t x h = ty.load_typed here (kind_in t) x h
+  lies_by : (k : Kind) (x : PlacePhrase) (ks : List Kind) → cells here x ≡ ks → starts (k ∷ []) ks ≡ true → Stays (Cell k) x
+  lies_by k x ks e h = ap (λ (js : List Kind). starts js (cells here x)) (cell_is k) ∙ ap (starts (k ∷ [])) e ∙ h
 
-  parameter_good : (at : ℕ) (t : ElanType) (a : Access) (x : PlacePhrase) → lies here x ≡ Some (kind_in t) → Good (r.parameter at t a x)
+  place_lies : (home : Home) (n : ℕ) (t : ElanType) (a : Access) → AtHome home n (record { of = t; access = a }) → Stays (shape_in t) (r.place_in home n a)
+  place_lies of_level n t a h = lies_by (kind_in t) _ _ (variable_is here n) (starts_at here.variables n (kind_in t) h)
+  place_lies of_routine n t Const h = lies_by (kind_in t) _ _ (local_is here n) (starts_held (frame here) n (kind_in t) h)
+  place_lies of_routine n t Var h = lies_by (kind_in t) _ _ (parameter_is here n) (starts_place (frame here) n (kind_in t) h)
+
+  constant_good : (at : ℕ) (t : ElanType) (x : PlacePhrase) → Stays (shape_in t) x → Good (r.constant at t x)
+  constant_good at t x h = ty.load_typed here (shape_in t) x h
+
+  parameter_good : (at : ℕ) (t : ElanType) (a : Access) (x : PlacePhrase) → Stays (shape_in t) x → Good (r.parameter at t a x)
   parameter_good at t Const x h = constant_good at t x h
   parameter_good at t Var x h = h
 
@@ -187,7 +232,8 @@ module _ (here : Stand) where
 
     in_level : (n : ℕ) (ps : List Parameter) → HeldAt ps (all_held s.level) n → Lies of_level n ps
     in_level n [] h = tt
-    in_level n (q ∷ ps) h = ap (λ (ks : List Kind). slice_get ks n) fits.level ∙ kind_at (all_held s.level) n q h
+    in_level n (q ∷ ps) h = ap (λ (ks : List Kind). slice_get ks n) fits.level
+        ∙ map_at kind_in (types_of (all_held s.level)) n q.of (map_at (λ (p : Parameter). p.of) (all_held s.level) n q h)
 
     level_found : (f : ℕ × Entry) (x : List ℕ) → scope.first_named s.level x ≡ Some f → Lies of_level f.0 (held f.1.denotes)
     level_found f x e =
@@ -195,12 +241,12 @@ module _ (here : Stand) where
         let i : f.0 ≡ h.0 = (let j = h.1 in omega arith) in
         in_level f.0 (held f.1.denotes) (subst (λ (n : ℕ). HeldAt (held f.1.denotes) (all_held s.level) n) (sym i) h.2)
 
-    in_frame : (es : List Entry) (n : ℕ) (ps : List Parameter) → frame_in here.bodies (owner_in here.bodies here.home) ≡ map formal_of (all_held es)
+    in_frame : (es : List Entry) (n : ℕ) (ps : List Parameter) → frame_in here.bodies (owner_in here.bodies here.home) ≡ held_cells es
         → HeldAt ps (all_held es) n → Lies of_routine n ps
     in_frame es n [] e h = tt
-    in_frame es n (q ∷ ps) e h = ap (λ (fs : List Formal). slice_get fs n) e ∙ formal_at (all_held es) n q h
+    in_frame es n (q ∷ ps) e h = ap (λ (hs : List Held). slice_get hs n) (e ∙ each_cell (all_held es)) ∙ map_at cell_of (all_held es) n q h
 
-    routine_found : (es : List Entry) (f : ℕ × Entry) (x : List ℕ) → frame_in here.bodies (owner_in here.bodies here.home) ≡ map formal_of (all_held es)
+    routine_found : (es : List Entry) (f : ℕ × Entry) (x : List ℕ) → frame_in here.bodies (owner_in here.bodies here.home) ≡ held_cells es
         → scope.first_named es x ≡ Some f → Lies of_routine f.0 (held f.1.denotes)
     routine_found es f x fe e =
         let h = found_held 0 es x f e in
@@ -223,7 +269,7 @@ module _ (here : Stand) where
         by_test true = tt
         by_test false = h
 
-    routine_lies : (es : List Entry) (o : Option (ℕ × Entry)) (x : List ℕ) → frame_in here.bodies (owner_in here.bodies here.home) ≡ map formal_of (all_held es)
+    routine_lies : (es : List Entry) (o : Option (ℕ × Entry)) (x : List ℕ) → frame_in here.bodies (owner_in here.bodies here.home) ≡ held_cells es
         → scope.first_named es x ≡ o → FoundLies (scope.found_in of_routine o)
     routine_lies es None x fe e = tt
     routine_lies es (Some f) x fe e = routine_found es f x fe e
@@ -298,7 +344,7 @@ module _ (here : Stand) where
     referred_good at n b Nothing e o h =
         ty.single_typed here (action.Refer n) (action_refer_is here n ∙ and_true _ _ (refines_holds n b e o) (none_holds here n b e h))
     referred_good at n b (Of t) e o h =
-        let j = kind_in t in refer_is here n j ∙ only_if_holds _ _ j (and_true _ _ (refines_holds n b e o) (has_holds here n b j e h)) refl
+        let z = shape_in t in refer_is here n z ∙ only_if_holds _ _ z (and_true _ _ (refines_holds n b e o) (has_holds here n b z e h)) refl
 
     -- a name that denotes a refinement has one of the scope
     abbrev IsRefined : Option ℕ → Type 0
@@ -423,17 +469,17 @@ module _ (here : Stand) where
     leave_typed : (e : Exit) → left_from here.bodies e here.home ≡ Some None → typed here (action.Leave e) ≡ true
     leave_typed e h = leave_is here e ∙ ap leaves_without h
 
-    leave_with_typed : (e : Exit) (j : Kind) (v : ValuePhrase) → left_from here.bodies e here.home ≡ Some (Some j) → Has j v
-        → typed here (action.LeaveWith e j v) ≡ true
-    leave_with_typed e j v h g = leave_with_is here e j v ∙ and_true _ _ (has_self j _ g) (ap (leaves_with j) h ∙ same_self j)
+    leave_with_typed : (e : Exit) (z : Shape) (v : ValuePhrase) → left_from here.bodies e here.home ≡ Some (Some z) → Has z v
+        → typed here (action.LeaveWith e z v) ≡ true
+    leave_with_typed e z v h g = leave_with_is here e z v ∙ and_true _ _ (has_self z _ g) (ap (leaves_with z) h ∙ same_shape_self z)
 
-    delivered_leave : (e : Exit) (t : ElanType) (m : Meant) → left_from here.bodies e here.home ≡ Some (Some (kind_in t)) → Good m → delivers t m ≡ true
+    delivered_leave : (e : Exit) (t : ElanType) (m : Meant) → left_from here.bodies e here.home ≡ Some (Some (shape_in t)) → Good m → delivers t m ≡ true
         → typed here (walk.leave_of e m) ≡ true
     delivered_leave e t Absent h g d = absurd cc
     delivered_leave e t (Variable at u x) h g d =
-        let j = kind_in u in
-        leave_with_typed e j (value.Load x j) (h ∙ ap (λ (z : ElanType). Some (Some (kind_in z))) (same_is t u d)) (ty.load_typed here j x g)
-    delivered_leave e t (Value at u v) h g d = leave_with_typed e (kind_in u) v (h ∙ ap (λ (z : ElanType). Some (Some (kind_in z))) (same_is t u d)) g
+        let z = shape_in u in
+        leave_with_typed e z (value.Load x z) (h ∙ ap (λ (w : ElanType). Some (Some (shape_in w))) (same_type_is t u d)) (ty.load_typed here z x g)
+    delivered_leave e t (Value at u v) h g d = leave_with_typed e (shape_in u) v (h ∙ ap (λ (w : ElanType). Some (Some (shape_in w))) (same_type_is t u d)) g
     delivered_leave e t (Done as') h g d = absurd cc
     delivered_leave e t (Left as') h g d = absurd cc
     delivered_leave e t (Labels ns) h g d = absurd cc
@@ -451,7 +497,7 @@ module _ (here : Stand) where
     leave_of_typed e n b Nothing (Labels ns) h i j g a = absurd cc
     leave_of_typed e n b Nothing (Bodies bs) h i j g a = absurd cc
     leave_of_typed e n b Nothing (Level us bs) h i j g a = absurd cc
-    leave_of_typed e n b (Of t) m h i j g a = delivered_leave e t m (left_result e n b (Some (kind_in t)) h i j) g a
+    leave_of_typed e n b (Of t) m h i j g a = delivered_leave e t m (left_result e n b (Some (shape_in t)) h i j) g a
 
     leaving_as_good : (at : ℕ) (o : Option (Exit × ℕ)) (m : Meant) → Leaves o → Good m → Gives Good (r.leaving k at o m)
     leaving_as_good at None m h g = tt

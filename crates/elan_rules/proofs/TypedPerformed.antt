@@ -1,4 +1,4 @@
--- What can be called means what has the kinds that it asks for.
+-- What can be called means what has the shapes that it asks for.
 use Rattle.std.proofs.Common.{◌≡◌, ℕ, Bool, true, false, if◌then◌else◌, List, [], ◌∷◌, ◌++◌, ◌+◌, suc, arith, map, Option, Some, None, refl, sym, ap, subst}
 use Rattle.std.proofs.Common.{◌∙◌}
 use Rattle.elan_types.specs.declared.elan_type.ElanType.{ElanType}
@@ -18,9 +18,9 @@ use Rattle.elan_types.specs.declared.core_phrase.Actual.TheVariants as actual
 use Rattle.elan_types.specs.declared.core_phrase.Scope.{Scope as Owner}
 use Rattle.elan_types.specs.declared.core_phrase.Scope.TheVariants as owner
 use Rattle.elan_types.specs.declared.core_phrase.Body.{Body}
-use Rattle.elan_types.specs.Typing.{Typed, Taken, same_kind, same_access, formal, only_if, have, has, takes, take_all, taken_by, given_as}
+use Rattle.elan_types.specs.Typing.{Typed, Taken, same_access, formal, starts, only_if, have, has_shape, takes, take_all, taken_by, given_as}
 use Rattle.elan_types.specs.Typing.{result_of_content, delivered_by, scope_of, is_none}
-use Rattle.elan_types.specs.Types.{kind_in, type_in, formal_of, held_var, values_of}
+use Rattle.elan_types.specs.Types.{shape_in, type_in, formal_of, held_var, values_of}
 use Rattle.elan_scope.specs.declared.delivery.Delivery.{Delivery}
 use Rattle.elan_scope.specs.declared.delivery.Delivery.TheVariants.{Open, Nothing, Of}
 use Rattle.elan_scope.specs.declared.heading.What.{What}
@@ -30,19 +30,23 @@ use Rattle.elan_scope.specs.Scope as scope
 use Rattle.std.specs.Option.{option_or}
 use Rattle.elan_scope.specs.Scope.{Callable}
 use Rattle.eu_base.specs.declared.value.Kind.{Kind}
+use Rattle.eu_base.specs.declared.shape.Shape.{Shape}
+use Rattle.eu_base.specs.declared.shape.Shape.TheVariants.{Cell}
+use Rattle.eu_base.specs.Shapes.{cell_kinds, same_shape}
 use Rattle.eu_base.specs.Operations.{operand_kinds, result_kind, change_kind}
 use Rattle.eu_base.specs.Requests.{request_kinds, request_places}
-use Rattle.elan_scope.specs.declared.callable.Callee.{Callee}
-use Rattle.elan_scope.specs.declared.callable.Callee.TheVariants as Callees
+use Rattle.elan_scope.specs.Callees.{Callee}
+use Rattle.elan_scope.specs.Callees as Callees
 use Rattle.elan_scope.specs.declared.predefined.Predefined.{Predefined}
 use Rattle.elan_scope.specs.declared.predefined.Predefined.TheVariants.{Operation, Change, Request, ErrorStop}
 use Rattle.elan_scope.specs.Predefined.{Row, parameters, result}
 use Rattle.elan_meant.specs.Operands.{delivers, fit}
+use Rattle.elan_types.proofs.Shapes.{same_shape_self, same_shape_is}
 use Rattle.elan_rules.proofs.Typed as ty
-use Rattle.elan_rules.proofs.Typed.{kind_is, kind_type, same_self, has_self, agree_self, only_if_holds, both, and_true, Gives, on_if, on_bind}
+use Rattle.elan_rules.proofs.Typed.{kind_type, has_self, agree_self, only_if_holds, both, and_true, Gives, on_if, on_bind}
 use Rattle.elan_meant.specs.Parts as p
 use Rattle.value_rules.specs.Calls as r
-use Rattle.elan_rules.proofs.TypeEquations.{Stand, kind, lies, actual_kind, apply_is, modify_is, ask_is, error_stop_is, call_is, action_call_is}
+use Rattle.elan_rules.proofs.TypeEquations.{Stand, shape, cells, actual_taken, apply_is, modify_is, ask_is, error_stop_is, call_is, action_call_is}
 use Rattle.elan_rules.proofs.TypeEquations.{given_value_is, given_place_is}
 
 -- ---- bodies as their headings tell
@@ -53,13 +57,13 @@ owner_with (Some n) = owner.Of n
 
 abbrev pub Headed : What → Body → Type 0
 Headed (Routine sort ps r) b =
-    (vs : List Kind) × (b.scope ≡ owner.Own (map formal_of ps) vs) × (result_of_content b.content ≡ option_map kind_in r)
+    (vs : List Kind) × (b.scope ≡ owner.Own (map formal_of ps) vs) × (result_of_content b.content ≡ option_map shape_in r)
 Headed (Refinement home) b = b.scope ≡ owner_with home
 
 abbrev pub Delivering : Delivery → Body → Type 0
 Delivering Open b = ⊥
 Delivering Nothing b = result_of_content b.content ≡ None
-Delivering (Of t) b = result_of_content b.content ≡ Some (kind_in t)
+Delivering (Of t) b = result_of_content b.content ≡ Some (shape_in t)
 
 pub record BodyFits (o : Option Body) (h : Heading) (d : Delivery) : Type 0 where
   pub body : Body
@@ -69,27 +73,29 @@ pub record BodyFits (o : Option Body) (h : Heading) (d : Delivery) : Type 0 wher
 
 -- ---- what is predefined, as a core knows it
 
-all_formals : (ks js : List Kind) → map formal_of (values_of ks ++ map (λ k. held_var (type_in k)) js) ≡ map (formal Const) ks ++ map (formal Var) js
+all_formals : (ks js : List Kind)
+    → map formal_of (values_of ks ++ map (λ k. held_var (type_in k)) js) ≡ map (λ k. formal Const (Cell k)) ks ++ map (λ k. formal Var (Cell k)) js
 all_formals [] [] = refl
 all_formals [] (j ∷ js) =
-    ap (λ (i : Kind). formal Var i ∷ map formal_of (map (λ k. held_var (type_in k)) js)) (kind_type j)
-    ∙ ap (λ (fs : List Formal). formal Var j ∷ fs) (all_formals [] js)
+    ap (λ (i : Kind). formal Var (Cell i) ∷ map formal_of (map (λ k. held_var (type_in k)) js)) (kind_type j)
+    ∙ ap (λ (fs : List Formal). formal Var (Cell j) ∷ fs) (all_formals [] js)
 all_formals (k ∷ ks) js =
-    ap (λ (i : Kind). formal Const i ∷ map formal_of (values_of ks ++ map (λ k. held_var (type_in k)) js)) (kind_type k)
-    ∙ ap (λ (fs : List Formal). formal Const k ∷ fs) (all_formals ks js)
+    ap (λ (i : Kind). formal Const (Cell i) ∷ map formal_of (values_of ks ++ map (λ k. held_var (type_in k)) js)) (kind_type k)
+    ∙ ap (λ (fs : List Formal). formal Const (Cell k) ∷ fs) (all_formals ks js)
 
-value_formals : (ks : List Kind) → map formal_of (values_of ks) ≡ map (formal Const) ks
+value_formals : (ks : List Kind) → map formal_of (values_of ks) ≡ map (λ k. formal Const (Cell k)) ks
 value_formals [] = refl
 value_formals (k ∷ ks) =
-    ap (λ (i : Kind). formal Const i ∷ map formal_of (values_of ks)) (kind_type k) ∙ ap (λ (fs : List Formal). formal Const k ∷ fs) (value_formals ks)
+    ap (λ (i : Kind). formal Const (Cell i) ∷ map formal_of (values_of ks)) (kind_type k)
+    ∙ ap (λ (fs : List Formal). formal Const (Cell k) ∷ fs) (value_formals ks)
 
-change_formals : (k : Kind) → map formal_of (held_var (type_in k) ∷ values_of (k ∷ [])) ≡ formal Var k ∷ formal Const k ∷ []
-change_formals kinds.Int = refl
-change_formals kinds.Truth = refl
-change_formals kinds.Text = refl
+change_formals : (k : Kind) → map formal_of (held_var (type_in k) ∷ values_of (k ∷ [])) ≡ formal Var (Cell k) ∷ formal Const (Cell k) ∷ []
+change_formals k =
+    ap (λ (i : Kind). formal Var (Cell i) ∷ map formal_of (values_of (k ∷ []))) (kind_type k)
+    ∙ ap (λ (fs : List Formal). formal Var (Cell k) ∷ fs) (value_formals (k ∷ []))
 
 module _ (here : Stand) where
-  abbrev Has : Kind → ValuePhrase → Type 0
+  abbrev Has : Shape → ValuePhrase → Type 0
   Has = ty.Has here
 
   abbrev AllTyped : List Action → Type 0
@@ -101,37 +107,37 @@ module _ (here : Stand) where
   abbrev AllGood : List Meant → Type 0
   AllGood = ty.AllGood here
 
-  abbrev Lies : Kind → PlacePhrase → Type 0
+  abbrev Lies : Shape → PlacePhrase → Type 0
   Lies = ty.Lies here
 
   -- ---- what parameters are given
 
   abbrev GivenFor : Formal → Actual → Type 0
-  GivenFor f a = takes f (actual_kind here a) ≡ true
+  GivenFor f a = takes f (actual_taken here a) ≡ true
 
   same_access_self : (a : Access) → same_access a a ≡ true
   same_access_self Const = refl
   same_access_self Var = refl
 
-  takes_self : (k : Kind) (a : Access) (b : Taken) → b ≡ Some (formal a k) → takes (formal a k) b ≡ true
-  takes_self k a b e = subst (λ (c : Taken). takes (formal a k) c ≡ true) (sym e) (and_true _ _ (same_self k) (same_access_self a))
+  takes_self : (s : Shape) (a : Access) (b : Taken) → b ≡ Some (formal a s) → takes (formal a s) b ≡ true
+  takes_self s a b e = subst (λ (c : Taken). takes (formal a s) c ≡ true) (sym e) (and_true _ _ (same_shape_self s) (same_access_self a))
 
-  given_as_typed : (a : Access) (k : Kind) (b : Typed) → b ≡ Some k → given_as a b ≡ Some (formal a k)
-  given_as_typed a k b e = ap (given_as a) e
+  given_as_typed : (a : Access) (s : Shape) (b : Typed) → b ≡ Some s → given_as a b ≡ Some (formal a s)
+  given_as_typed a s b e = ap (given_as a) e
 
-  place_given : (k : Kind) (x : PlacePhrase) → Lies k x → GivenFor (formal Var k) (actual.Place x k)
-  place_given k x l = takes_self k Var _ (given_place_is here x k ∙ given_as_typed Var k _ (only_if_holds _ _ k (has_self k _ l) refl))
+  place_given : (s : Shape) (x : PlacePhrase) → Lies s x → GivenFor (formal Var s) (actual.Place x s)
+  place_given s x l = takes_self s Var _ (given_place_is here x s ∙ given_as_typed Var s _ (only_if_holds _ _ s l refl))
 
   given_as_good : (at : ℕ) (a : Access) (t : ElanType) (m : Meant) → Good m → delivers t m ≡ true
-      → Gives (GivenFor (formal a (kind_in t))) (r.given_as at a t m)
+      → Gives (GivenFor (formal a (shape_in t))) (r.given_as at a t m)
   given_as_good at Const t m g e =
-      takes_self (kind_in t) Const _ (given_value_is here (p.value_of m) ∙ given_as_typed Const (kind_in t) _ (ty.value_typed here t m g e))
+      takes_self (shape_in t) Const _ (given_value_is here (p.value_of m) ∙ given_as_typed Const (shape_in t) _ (ty.value_typed here t m g e))
   given_as_good at Var t m g e =
-      on_bind (Lies (kind_in t)) (GivenFor (formal Var (kind_in t))) (p.variable at m) _ (ty.variable_good here at t m g e)
-      (λ x l. place_given (kind_in t) x l)
+      on_bind (Lies (shape_in t)) (GivenFor (formal Var (shape_in t))) (p.variable at m) _ (ty.variable_good here at t m g e)
+      (λ x l. place_given (shape_in t) x l)
 
   abbrev AllGiven : List Formal → List Actual → Type 0
-  AllGiven fs as' = take_all fs (map (actual_kind here) as') ≡ true
+  AllGiven fs as' = take_all fs (map (actual_taken here) as') ≡ true
 
   given_good : (at : ℕ) (ps : List Parameter) (ms : List Meant) → AllGood ms → fit ps ms ≡ true → Gives (AllGiven (map formal_of ps)) (r.given at ps ms)
   given_good at [] [] g e = refl
@@ -154,52 +160,54 @@ module _ (here : Stand) where
       → is_none (delivered_by (slice_get here.bodies n)) ≡ true
   none_holds n b e o = ap (λ (c : Option Body). is_none (delivered_by c)) e ∙ ap is_none o
 
-  pub has_holds : (n : ℕ) (b : Body) (k : Kind) → slice_get here.bodies n ≡ Some b → result_of_content b.content ≡ Some k
-      → has k (delivered_by (slice_get here.bodies n)) ≡ true
-  has_holds n b k e o = has_self k _ (ap delivered_by e ∙ o)
+  pub has_holds : (n : ℕ) (b : Body) (s : Shape) → slice_get here.bodies n ≡ Some b → result_of_content b.content ≡ Some s
+      → has_shape s (delivered_by (slice_get here.bodies n)) ≡ true
+  has_holds n b s e o = has_self s _ (ap delivered_by e ∙ o)
 
   -- ---- what a callee does with it
 
-  -- It means what has the kinds that it asks for, where its parameters are given what they take.
+  -- It means what has the shapes that it asks for, where its parameters are given what they take.
   abbrev pub Performs : Callee → List Parameter → Option ElanType → Type 0
   Performs f ps o = (as' : List Actual) → AllGiven (map formal_of ps) as' → (at : ℕ) → Gives Good (r.performed at f o as')
 
   body_performs : (n : ℕ) (b : Body) (ps : List Parameter) (vs : List Kind) (o : Option ElanType) → slice_get here.bodies n ≡ Some b
-      → b.scope ≡ owner.Own (map formal_of ps) vs → result_of_content b.content ≡ option_map kind_in o → Performs (Callees.Body n) ps o
+      → b.scope ≡ owner.Own (map formal_of ps) vs → result_of_content b.content ≡ option_map shape_in o → Performs (Callees.Body n) ps o
   body_performs n b ps vs None e z d as' h at =
       ty.single_typed here (action.Call n as') (action_call_is here n as' ∙ and_true _ _ (taken_holds n b (map formal_of ps) vs _ e z h) (none_holds n b e d))
   body_performs n b ps vs (Some t) e z d as' h at =
-      let k = kind_in t in
-      call_is here n as' k ∙ only_if_holds _ _ k (and_true _ _ (taken_holds n b (map formal_of ps) vs _ e z h) (has_holds n b k e d)) refl
+      let s = shape_in t in
+      call_is here n as' s ∙ only_if_holds _ _ s (and_true _ _ (taken_holds n b (map formal_of ps) vs _ e z h) (has_holds n b s e d)) refl
 
   -- a value is given for a CONST parameter, a place for a VAR parameter
-  value_has : (k : Kind) (v : ValuePhrase) → GivenFor (formal Const k) (actual.Value v) → has k (kind here v) ≡ true
-  value_has k v h = by_kind (kind here v) (subst (λ (b : Taken). takes (formal Const k) b ≡ true) (given_value_is here v) h)
+  value_has : (s : Shape) (v : ValuePhrase) → GivenFor (formal Const s) (actual.Value v) → has_shape s (shape here v) ≡ true
+  value_has s v h = by_shape (shape here v) (subst (λ (b : Taken). takes (formal Const s) b ≡ true) (given_value_is here v) h)
     where
-      by_kind : (a : Typed) → takes (formal Const k) (given_as Const a) ≡ true → has k a ≡ true
-      by_kind None e = absurd cc
-      by_kind (Some j) e = (both (same_kind k j) _ e).0
+      by_shape : (a : Typed) → takes (formal Const s) (given_as Const a) ≡ true → has_shape s a ≡ true
+      by_shape None e = absurd cc
+      by_shape (Some r) e = (both (same_shape s r) _ e).0
 
-  no_place : (k j : Kind) (x : PlacePhrase) → GivenFor (formal Const k) (actual.Place x j) → ⊥
-  no_place k j x h = by_kind (only_if (has j (lies here x)) (Some j)) (subst (λ (b : Taken). takes (formal Const k) b ≡ true) (given_place_is here x j) h)
+  no_place : (s r : Shape) (x : PlacePhrase) → GivenFor (formal Const s) (actual.Place x r) → ⊥
+  no_place s r x h =
+      by_shape (only_if (starts (cell_kinds r) (cells here x)) (Some r)) (subst (λ (b : Taken). takes (formal Const s) b ≡ true) (given_place_is here x r) h)
     where
-      by_kind : (a : Typed) → takes (formal Const k) (given_as Var a) ≡ true → ⊥
-      by_kind None e = cc
-      by_kind (Some i) e = let f = (both (same_kind k i) _ e).1 in cc
+      by_shape : (a : Typed) → takes (formal Const s) (given_as Var a) ≡ true → ⊥
+      by_shape None e = cc
+      by_shape (Some q) e = let f = (both (same_shape s q) _ e).1 in cc
 
-  place_lies : (k j : Kind) (x : PlacePhrase) → GivenFor (formal Var k) (actual.Place x j) → has k (lies here x) ≡ true
-  place_lies k j x h = by_test (has j (lies here x)) refl (subst (λ (b : Taken). takes (formal Var k) b ≡ true) (given_place_is here x j) h)
+  place_lies : (s r : Shape) (x : PlacePhrase) → GivenFor (formal Var s) (actual.Place x r) → Lies s x
+  place_lies s r x h =
+      by_test (starts (cell_kinds r) (cells here x)) refl (subst (λ (b : Taken). takes (formal Var s) b ≡ true) (given_place_is here x r) h)
     where
-      by_test : (b : Bool) → has j (lies here x) ≡ b → takes (formal Var k) (given_as Var (only_if b (Some j))) ≡ true → has k (lies here x) ≡ true
-      by_test true g e = subst (λ (i : Kind). has i (lies here x) ≡ true) (sym (kind_is k j (both (same_kind k j) _ e).0)) g
+      by_test : (b : Bool) → starts (cell_kinds r) (cells here x) ≡ b → takes (formal Var s) (given_as Var (only_if b (Some r))) ≡ true → Lies s x
+      by_test true g e = subst (λ (q : Shape). Lies q x) (sym (same_shape_is s r (both (same_shape s r) _ e).0)) g
       by_test false g e = absurd cc
 
-  values_have : (ks : List Kind) (as' : List Actual) → AllGiven (map (formal Const) ks) as' → have ks (map (kind here) (r.values_in as')) ≡ true
+  values_have : (ks : List Kind) (as' : List Actual) → AllGiven (map (λ k. formal Const (Cell k)) ks) as' → have ks (map (shape here) (r.values_in as')) ≡ true
   values_have [] [] h = refl
   values_have [] (a ∷ as') h = absurd cc
   values_have (k ∷ ks) [] h = absurd cc
-  values_have (k ∷ ks) (actual.Value v ∷ as') h = let b = both _ _ h in and_true _ _ (value_has k v b.0) (values_have ks as' b.1)
-  values_have (k ∷ ks) (actual.Place x j ∷ as') h = absurd (no_place k j x (both _ _ h).0)
+  values_have (k ∷ ks) (actual.Value v ∷ as') h = let b = both _ _ h in and_true _ _ (value_has (Cell k) v b.0) (values_have ks as' b.1)
+  values_have (k ∷ ks) (actual.Place x s ∷ as') h = absurd (no_place (Cell k) s x (both _ _ h).0)
 
   -- parameters are given what they take, as a core knows them
   given_by : (fs gs : List Formal) (as' : List Actual) → fs ≡ gs → AllGiven fs as' → AllGiven gs as'
@@ -210,14 +218,15 @@ module _ (here : Stand) where
       let ks = operand_kinds o in
       let k = result_kind o in
       apply_is here o (r.values_in as')
-      ∙ only_if_holds _ _ _ (values_have ks as' (given_by _ _ as' (value_formals ks) h)) (ap (λ (j : Kind). Some j) (sym (kind_type k)))
+      ∙ only_if_holds _ _ _ (values_have ks as' (given_by _ _ as' (value_formals ks) h)) (ap (λ (j : Kind). Some (Cell j)) (sym (kind_type k)))
   predefined_performs (Change c) [] h at = tt
   predefined_performs (Change c) (actual.Value v ∷ as') h at = tt
   predefined_performs (Change c) (actual.Place x t ∷ []) h at = tt
-  predefined_performs (Change c) (actual.Place x t ∷ actual.Value v ∷ []) h at =
+  predefined_performs (Change c) (actual.Place x s ∷ actual.Value v ∷ []) h at =
       let k = change_kind c in
-      let b = both _ _ (given_by _ _ (actual.Place x t ∷ actual.Value v ∷ []) (change_formals k) h) in
-      ty.single_typed here (action.Modify c x v) (modify_is here c x v ∙ and_true _ _ (place_lies k t x b.0) (value_has k v (both _ _ b.1).0))
+      let b = both _ _ (given_by _ _ (actual.Place x s ∷ actual.Value v ∷ []) (change_formals k) h) in
+      ty.single_typed here (action.Modify c x v) (modify_is here c x v
+      ∙ and_true _ _ (ty.cell_there here k x (place_lies (Cell k) s x b.0)) (value_has (Cell k) v (both _ _ b.1).0))
   predefined_performs (Change c) (actual.Place x t ∷ actual.Value v ∷ a ∷ as') h at = tt
   predefined_performs (Change c) (actual.Place x t ∷ actual.Place y u ∷ as') h at = tt
   predefined_performs (Request q) as' h at =
@@ -225,7 +234,7 @@ module _ (here : Stand) where
   predefined_performs ErrorStop [] h at = tt
   predefined_performs ErrorStop (actual.Place x t ∷ as') h at = tt
   predefined_performs ErrorStop (actual.Value v ∷ []) h at =
-      ty.single_typed here (action.ErrorStop v) (error_stop_is here v ∙ value_has kinds.Text v (both _ _ h).0)
+      ty.single_typed here (action.ErrorStop v) (error_stop_is here v ∙ value_has (Cell kinds.Text) v (both _ _ (given_by _ _ (actual.Value v ∷ []) (value_formals (kinds.Text ∷ [])) h)).0)
   predefined_performs ErrorStop (actual.Value v ∷ a ∷ as') h at = tt
 
   -- ---- what can be called

@@ -1,18 +1,18 @@
--- Values, stores, lists of units and bodies have the kinds that they ask for.
-use Rattle.std.proofs.Common.{◌≡◌, ℤ, ℕ, Bool, true, false, if◌then◌else◌, nat_le, List, [], ◌∷◌, length, Option, Some, None, refl, sym, subst, ◌∙◌}
+-- Values, stores, lists of units and bodies have the shapes that they ask for.
+use Rattle.std.proofs.Common.{◌≡◌, ℤ, ℕ, Bool, true, false, if◌then◌else◌, nat_le, List, [], ◌∷◌, length, Option, Some, None, refl, sym, ap, subst, ◌∙◌}
 use Rattle.std.specs.Prelude.{slice_get}
 use Rattle.std.specs.Option.{option_map_or}
 use Rattle.eu_base.specs.declared.value.TheConstants.{TEXT_BYTES}
 use Rattle.elan_types.specs.declared.elan_type.ElanType.{ElanType}
-use Rattle.elan_types.specs.declared.elan_type.ElanType.TheVariants as types
-use Rattle.elan_types.specs.declared.elan_type.OwnType.{OwnType}
-use Rattle.elan_types.specs.Types.{kind_in, is_own}
+use Rattle.elan_types.specs.Types.{concrete, kind_in, shape_in, type_in, is_own}
+use Rattle.elan_types.proofs.Types.{concrete_kind}
 use Rattle.elan_scope.specs.declared.scope.Scope.{Scope}
 use Rattle.elan_scope.specs.declared.type_name.TypeName.{TypeName}
-use Rattle.elan_scope.specs.Types.{with_kind, concrete}
 use Rattle.value_rules.specs.Values as v
 use Rattle.eu_base.specs.declared.value.Kind.{Kind}
 use Rattle.eu_base.specs.declared.value.Kind.TheVariants.{Int, Truth as Truths, Text}
+use Rattle.eu_base.specs.declared.shape.Shape.{Shape}
+use Rattle.eu_base.specs.declared.shape.Shape.TheVariants.{Cell}
 use Rattle.elan_types.specs.declared.core_phrase.PlacePhrase.{PlacePhrase}
 use Rattle.elan_types.specs.declared.core_phrase.ValuePhrase.{ValuePhrase}
 use Rattle.elan_types.specs.declared.core_phrase.ValuePhrase.TheVariants as value
@@ -26,7 +26,7 @@ use Rattle.elan_scope.specs.declared.denoter.Denoter.{Denoter}
 use Rattle.elan_scope.specs.declared.denoter.Denoter.TheVariants as denoters
 use Rattle.elan_meant.specs.Operands.{delivers}
 use Rattle.elan_rules.proofs.Typed as ty
-use Rattle.elan_rules.proofs.Typed.{same_is, kind_type, same_self, has_self, agree_self, only_if_holds, both, and_true, Gives, on_if, on_bind}
+use Rattle.elan_rules.proofs.Typed.{same_type_is, shape_type, has_self, agree_self, only_if_holds, both, and_true, Gives, on_if, on_bind}
 use Rattle.elan_meant.specs.Parts as p
 use Rattle.unit_rules.specs.Units as r
 use Rattle.value_rules.specs.walks.Steps as walk
@@ -34,13 +34,13 @@ use Rattle.elan_rules.specs.Rules as rules
 use Rattle.elan_rules.proofs.TypeEquations.{Stand, typed, number_is, truth_is, text_is, value_if_is, value_unit_is, after_is, store_is}
 
 module _ (here : Stand) where
-  abbrev Has : Kind → ValuePhrase → Type 0
+  abbrev Has : Shape → ValuePhrase → Type 0
   Has = ty.Has here
 
-  abbrev MayHave : Kind → Option ValuePhrase → Type 0
+  abbrev MayHave : Shape → Option ValuePhrase → Type 0
   MayHave = ty.MayHave here
 
-  abbrev Lies : Kind → PlacePhrase → Type 0
+  abbrev Lies : Shape → PlacePhrase → Type 0
   Lies = ty.Lies here
 
   abbrev AllTyped : List Action → Type 0
@@ -55,19 +55,23 @@ module _ (here : Stand) where
   -- ---- values
 
   pub number_good : (at : ℕ) (n : ℤ) → Gives Good (rules.number at n)
-  number_good at n = on_if Good (in_range n) _ _ (λ e. number_is here n ∙ only_if_holds (in_range n) _ Int e refl) (λ e. tt)
+  number_good at n = on_if Good (in_range n) _ _ (λ e. ty.kind_good here Int _ (number_is here n ∙ only_if_holds (in_range n) _ (Cell Int) e refl)) (λ e. tt)
 
   pub text_good : (at : ℕ) (x : List ℕ) → Gives Good (rules.text at x)
-  text_good at x = let fits = nat_le (length x) TEXT_BYTES in on_if Good fits _ _ (λ e. text_is here x ∙ only_if_holds fits _ Text e refl) (λ e. tt)
+  text_good at x = let fits = nat_le (length x) TEXT_BYTES in
+      on_if Good fits _ _ (λ e. ty.kind_good here Text _ (text_is here x ∙ only_if_holds fits _ (Cell Text) e refl)) (λ e. tt)
+
+  pub truth_good : (at : ℕ) (b : Bool) → Good (Value at (type_in Truths) (value.Truth b))
+  truth_good at b = ty.kind_good here Truths _ (truth_is here b)
 
   pub denoter_good : (at : ℕ) (d : Denoter) → Gives Good (rules.denoter at d)
   denoter_good at (denoters.Number n) = number_good at n
-  denoter_good at (denoters.Truth b) = truth_is here b
+  denoter_good at (denoters.Truth b) = truth_good at b
   denoter_good at (denoters.Text x) = text_good at x
 
   pub bracketed_good : (at : ℕ) (m : Meant) → Good m → Good (rules.bracketed at m)
   bracketed_good at Absent g = g
-  bracketed_good at (Variable p t x) g = ty.load_typed here (kind_in t) x g
+  bracketed_good at (Variable p t x) g = ty.load_typed here (shape_in t) x g
   bracketed_good at (Value p t v) g = g
   bracketed_good at (Done as') g = g
   bracketed_good at (Left as') g = g
@@ -75,57 +79,46 @@ module _ (here : Stand) where
   bracketed_good at (Bodies bs) g = g
   bracketed_good at (Level us bs) g = g
 
-  pub if_value_typed : (c : ValuePhrase) (k : Kind) (v w : ValuePhrase) → Has Truths c → Has k v → Has k w → Has k (value.If c v w)
-  if_value_typed c k v w h g i = value_if_is here c v w ∙ only_if_holds _ _ k (and_true _ _ (has_self Truths _ h) (agree_self k _ _ g i)) g
+  pub if_value_typed : (c : ValuePhrase) (s : Shape) (v w : ValuePhrase) → Has (Cell Truths) c → Has s v → Has s w → Has s (value.If c v w)
+  if_value_typed c s v w h g i = value_if_is here c v w ∙ only_if_holds _ _ s (and_true _ _ (has_self (Cell Truths) _ h) (agree_self s _ _ g i)) g
 
-  truths_typed : (l m : Meant) → Good l → Good m → walk.are_truths l m ≡ true → Has Truths (p.value_of l) × Has Truths (p.value_of m)
-  truths_typed l m g h e = let b = both _ _ e in (ty.value_typed here types.Bool l g b.0, ty.value_typed here types.Bool m h b.1)
+  truths_typed : (l m : Meant) → Good l → Good m → walk.are_truths l m ≡ true → Has (Cell Truths) (p.value_of l) × Has (Cell Truths) (p.value_of m)
+  truths_typed l m g h e = let b = both _ _ e in (ty.kind_value here Truths l g b.0, ty.kind_value here Truths m h b.1)
 
   pub cand_good : (at : ℕ) (l m : Meant) → Good l → Good m → Gives Good (rules.cand at l m)
   cand_good at l m g h =
       on_if Good (walk.are_truths l m) _ _
-      (λ e. let b = truths_typed l m g h e in if_value_typed _ Truths _ _ b.0 b.1 (truth_is here false)) (λ e. tt)
+      (λ e. let b = truths_typed l m g h e in ty.kind_good here Truths _ (if_value_typed _ (Cell Truths) _ _ b.0 b.1 (truth_is here false)))
+      (λ e. tt)
 
   pub cor_good : (at : ℕ) (l m : Meant) → Good l → Good m → Gives Good (rules.cor at l m)
   cor_good at l m g h =
       on_if Good (walk.are_truths l m) _ _
-      (λ e. let b = truths_typed l m g h e in if_value_typed _ Truths _ _ b.0 (truth_is here true) b.1) (λ e. tt)
+      (λ e. let b = truths_typed l m g h e in ty.kind_good here Truths _ (if_value_typed _ (Cell Truths) _ _ b.0 (truth_is here true) b.1))
+      (λ e. tt)
 
   -- ---- CONCR
 
-  concrete_kind : (ts : List TypeName) (t : OwnType) → kind_in (concrete ts t) ≡ t.kind
-  concrete_kind ts t = by_type (option_map_or (λ (u : TypeName). u.concrete) (slice_get ts t.number) types.Open)
-    where
-      by_type : (u : ElanType) → kind_in (with_kind t.kind u) ≡ t.kind
-      by_type (types.Own o) = refl
-      by_type types.Int = kind_type t.kind
-      by_type types.Bool = kind_type t.kind
-      by_type types.Text = kind_type t.kind
-      by_type types.Open = kind_type t.kind
+  concr_as_good : (at : ℕ) (t : ElanType) (o : Option ElanType) (go : ElanType → Meant) → concrete t ≡ o
+      → ((u : ElanType) → shape_in u ≡ shape_in t → Good (go u)) → Gives Good (v.concr_as at o go)
+  concr_as_good at t (Some u) go e h = h u (ap (λ (k : Kind). Cell k) (sym (concrete_kind t u e)))
+  concr_as_good at t None go e h = tt
 
-  concr_as_good : (at : ℕ) (ts : List TypeName) (t : ElanType) (go : ElanType → Meant) → ((u : ElanType) → kind_in u ≡ kind_in t → Good (go u))
-      → Gives Good (v.concr_as ts at t go)
-  concr_as_good at ts (types.Own o) go h = h (concrete ts o) (concrete_kind ts o)
-  concr_as_good at ts types.Int go h = tt
-  concr_as_good at ts types.Bool go h = tt
-  concr_as_good at ts types.Text go h = tt
-  concr_as_good at ts types.Open go h = tt
-
-  pub concr_good : (at : ℕ) (s : Scope) (m : Meant) → Good m → Gives Good (v.concr at s m)
-  concr_good at s Absent g = tt
-  concr_good at s (Variable q t x) g =
-      concr_as_good at s.types t (λ u. Variable at u x) (λ u e. subst (λ (j : Kind). Lies j x) (sym e) g)
-  concr_good at s (Value q t x) g = concr_as_good at s.types t (λ u. Value at u x) (λ u e. subst (λ (j : Kind). Has j x) (sym e) g)
-  concr_good at s (Done as') g = tt
-  concr_good at s (Left as') g = tt
-  concr_good at s (Labels ns) g = tt
-  concr_good at s (Bodies bs) g = tt
-  concr_good at s (Level us bs) g = tt
+  pub concr_good : (at : ℕ) (m : Meant) → Good m → Gives Good (v.concr at m)
+  concr_good at Absent g = tt
+  concr_good at (Variable q t x) g =
+      concr_as_good at t (concrete t) (λ u. Variable at u x) refl (λ u e. subst (λ (r : Shape). Lies r x) (sym e) g)
+  concr_good at (Value q t x) g = concr_as_good at t (concrete t) (λ u. Value at u x) refl (λ u e. subst (λ (r : Shape). Has r x) (sym e) g)
+  concr_good at (Done as') g = tt
+  concr_good at (Left as') g = tt
+  concr_good at (Labels ns) g = tt
+  concr_good at (Bodies bs) g = tt
+  concr_good at (Level us bs) g = tt
 
   -- ---- stores
 
   abbrev Agreed : ℕ → Meant → Meant → ElanType → Type 0
-  Agreed at l m t = Gives (Lies (kind_in t)) (p.variable at l) × Has (kind_in t) (p.value_of m)
+  Agreed at l m t = Gives (Lies (shape_in t)) (p.variable at l) × Has (shape_in t) (p.value_of m)
 
   pub agreed_good : (at : ℕ) (l m : Meant) → Good l → Good m → Gives (Agreed at l m) (r.agreed at l m)
   agreed_good at Absent m g h = tt
@@ -143,8 +136,8 @@ module _ (here : Stand) where
   pub stored_good : (at : ℕ) (l m : Meant) → Good l → Good m → Gives IsTyped (r.stored at l m)
   stored_good at l m g h =
       on_bind (Agreed at l m) IsTyped (r.agreed at l m) _ (agreed_good at l m g h) (λ t a.
-      on_bind (Lies (kind_in t)) IsTyped (p.variable at l) _ a.0
-      (λ x k. store_is here x (kind_in t) (p.value_of m) ∙ and_true _ _ (has_self (kind_in t) _ k) (has_self (kind_in t) _ a.1)))
+      on_bind (Lies (shape_in t)) IsTyped (p.variable at l) _ a.0
+      (λ x k. store_is here x (shape_in t) (p.value_of m) ∙ and_true _ _ k (has_self (shape_in t) _ a.1)))
 
   pub assigned_good : (at : ℕ) (l m : Meant) → Good l → Good m → Gives Good (r.assigned at l m)
   assigned_good at l m g h =
@@ -173,7 +166,7 @@ module _ (here : Stand) where
   pub ended_good : (as' : List Action) (m : Meant) → AllTyped as' → Good m → Good (r.ended as' m)
   ended_good as' Absent h g = h
   ended_good as' (Variable at t x) h g = h
-  ended_good as' (Value at t v) h g = after_is here as' v ∙ only_if_holds _ _ (kind_in t) h g
+  ended_good as' (Value at t v) h g = after_is here as' v ∙ only_if_holds _ _ (shape_in t) h g
   ended_good as' (Done bs) h g = h
   ended_good as' (Left bs) h g = h
   ended_good as' (Labels ns) h g = h
@@ -185,7 +178,7 @@ module _ (here : Stand) where
 
   pub alone_good : (m : Meant) → Good m → Good (r.alone m)
   alone_good Absent g = ty.unit_typed here [] refl
-  alone_good (Variable at t x) g = value_unit_is here (value.Load x (kind_in t)) ∙ ty.load_typed here (kind_in t) x g
+  alone_good (Variable at t x) g = value_unit_is here (value.Load x (shape_in t)) ∙ ty.load_typed here (shape_in t) x g
   alone_good (Value at t v) g = value_unit_is here v ∙ g
   alone_good (Done as') g = ty.unit_typed here as' g
   alone_good (Left as') g = ty.unit_typed here as' g
@@ -208,30 +201,30 @@ module _ (here : Stand) where
 
   -- ---- bodies
 
-  blank_typed : (k : Kind) → Has k (p.blank k)
+  blank_typed : (k : Kind) → Has (Cell k) (p.blank k)
   blank_typed Int = number_is here (pos 0)
   blank_typed Truths = truth_is here false
   blank_typed Text = text_is here []
 
-  pub unreached_typed : (t : ElanType) (as' : List Action) → AllTyped as' → Has (kind_in t) (p.unreached as' t)
-  unreached_typed t as' h = after_is here as' (p.blank (kind_in t)) ∙ only_if_holds _ _ (kind_in t) h (blank_typed (kind_in t))
+  pub unreached_typed : (t : ElanType) (as' : List Action) → AllTyped as' → Has (shape_in t) (p.unreached as' t)
+  unreached_typed t as' h = after_is here as' (p.blank (kind_in t)) ∙ only_if_holds _ _ (shape_in t) h (blank_typed (kind_in t))
 
-  value_as_typed : (t : ElanType) (m : Meant) → Good m → Has (kind_in t) (if delivers t m then p.value_of m else p.unreached (p.actions m) t)
+  value_as_typed : (t : ElanType) (m : Meant) → Good m → Has (shape_in t) (if delivers t m then p.value_of m else p.unreached (p.actions m) t)
   value_as_typed t m g = by_test (delivers t m) refl
     where
-      by_test : (b : Bool) → delivers t m ≡ b → Has (kind_in t) (if b then p.value_of m else p.unreached (p.actions m) t)
+      by_test : (b : Bool) → delivers t m ≡ b → Has (shape_in t) (if b then p.value_of m else p.unreached (p.actions m) t)
       by_test true e = ty.value_typed here t m g e
       by_test false e = unreached_typed t (p.actions m) (ty.actions_typed here m g)
 
-  -- the units of a body have the kinds that they ask for
+  -- the units of a body have the shapes that they ask for
   pub content_as_good : (o : Option ElanType) (m : Meant) → Good m → is_content_typed here.variables here.bodies here.home (r.content_as o m) ≡ true
   content_as_good None m g = ty.actions_typed here m g
-  content_as_good (Some t) m g = has_self (kind_in t) _ (value_as_typed t m g)
+  content_as_good (Some t) m g = has_self (shape_in t) _ (value_as_typed t m g)
 
   pub content_of_good : (m : Meant) → Good m → is_content_typed here.variables here.bodies here.home (r.content_of m) ≡ true
   content_of_good Absent g = refl
   content_of_good (Variable at t x) g = refl
-  content_of_good (Value at t v) g = has_self (kind_in t) _ g
+  content_of_good (Value at t v) g = has_self (shape_in t) _ g
   content_of_good (Done as') g = g
   content_of_good (Left as') g = g
   content_of_good (Labels ns) g = refl

@@ -1,3 +1,4 @@
+pub mod Closed
 pub mod Layers
 pub mod Kept
 pub mod Ends

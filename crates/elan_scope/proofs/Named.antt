@@ -11,7 +11,7 @@ use Rattle.elan_scope.specs.declared.heading.Heading.{Heading}
 use Rattle.elan_scope.specs.declared.heading.Sort.{Sort}
 use Rattle.elan_scope.specs.declared.heading.What.{What}
 use Rattle.elan_scope.specs.declared.heading.What.TheVariants.{Routine, Refinement}
-use Rattle.elan_scope.specs.declared.callable.Callee.TheVariants.{Body}
+use Rattle.elan_scope.specs.Callees.{Body}
 use Rattle.std.specs.Option.{option_or}
 use Rattle.elan_scope.specs.Scope.{Callable, own_callable, own_callables, first, first_heading}
 use Rattle.elan_scope.specs.Scope.{is_alike, is_routine, is_refined, is_refinement_of, is_called, same_sort, has_as_many}

@@ -21,7 +21,7 @@ pub data Plain : Type 0 where
   applied : Scope → Sort → List ℕ → Plain
   bracket : Plain
   -- CONCR of a value or place of one of the text's own types
-  concr : Scope → Plain
+  concr : Plain
   cand : Plain
   cor : Plain
   -- conditions, each before its units, and the units of ELSE

@@ -26,8 +26,8 @@ use Rattle.elan_scope.specs.declared.heading.Sort.TheVariants.{Procedure, Operat
 use Rattle.elan_scope.specs.declared.heading.What.{What}
 use Rattle.elan_scope.specs.declared.heading.What.TheVariants.{Routine, Refinement}
 use Rattle.elan_scope.specs.declared.heading.Heading.{Heading}
-use Rattle.elan_scope.specs.declared.callable.Callee.{Callee}
-use Rattle.elan_scope.specs.declared.callable.Callee.TheVariants.{Predefined, Body}
+use Rattle.elan_scope.specs.Callees.{Callee}
+use Rattle.elan_scope.specs.Callees.{Predefined, Body}
 use Rattle.elan_scope.specs.Predefined.{Row, predefined, parameters, result}
 use Rattle.elan_scope.specs.declared.type_name.TypeName.{TypeName}
 use Rattle.elan_scope.specs.Types.{first_type}

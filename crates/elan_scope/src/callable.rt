@@ -1,33 +1,90 @@
 //! What can be called with operands.
 
-ghost use Rattle.std.specs.Prelude.{◌≡◌, map};
+ghost use Rattle.std.specs.Prelude.{◌≡◌, map, option_map, length, slice_get, drop};
 ghost use Rattle.std.specs.Option.{is_some};
+ghost use Rattle.elan_types.specs.Types.{formal_of};
 ghost use Rattle.elan_scope.specs.Predefined.{predefined};
 ghost use Rattle.elan_scope.specs.Scope as spec;
 ghost use Rattle.elan_scope.specs.walks.Seen as seen;
 
 use crate::heading::{Heading, Sort, What, is_one};
 use crate::headings::Headings;
-use crate::predefined::{Predefined, Row, rows};
+use crate::predefined::{Operand, Predefined, Row, rows};
 use crate::scope::Scope;
-use elan_types::{ElanType, Parameter};
+use elan_types::{ElanType, Formal, Parameter};
+use eu_base::Shape;
 
 /// What is called.
 #[derive(Clone, Copy)]
-pub enum Callee {
+pub enum Called<'a> {
     Predefined(Predefined),
-    /// The PROC or OP with this number.
-    Body(usize),
+    /// The PROC or OP with this number, with its parameters and the type that it delivers.
+    Body(usize, &'a [Parameter], Option<&'a ElanType>),
 }
 
-/// What can be called: by which name, what it is given, what it delivers, and what it is.
+/// What can be called: by which name, and what it is.
 #[derive(Clone, Copy)]
 pub struct Callable<'a> {
     pub sort: Sort,
     pub name: &'a [u8],
-    pub parameters: &'a [Parameter],
-    pub result: Option<ElanType>,
-    pub callee: Callee,
+    pub what: Called<'a>,
+}
+
+/// What is given to what is called.
+#[derive(Clone, Copy)]
+pub enum Parameters<'a> {
+    Own(&'a [Parameter]),
+    Predefined(&'static [Operand]),
+}
+
+impl<'a> Parameters<'a> {
+    /// How many they are.
+    pub fn len(self) -> usize
+        ensures { result ≡ length (seen.parameters self.entry) }
+    {
+        match self {
+            Parameters::Own(parameters) => parameters.len(),
+            Parameters::Predefined(operands) => operands.len(),
+        }
+    }
+
+    /// What a core knows of the first, if there is one.
+    #[tactic(auto, using(elan_types::proofs::Types::kind_type))]
+    pub fn first(self) -> Option<Formal>
+        ensures { result ≡ option_map formal_of (slice_get (seen.parameters self.entry) 0) }
+    {
+        match self {
+            Parameters::Own([parameter, _others @ ..]) => Some(parameter.formal()),
+            Parameters::Predefined([operand, _others @ ..]) => Some(Formal {
+                shape: Shape::Cell(operand.kind),
+                access: operand.access,
+            }),
+            Parameters::Own([]) | Parameters::Predefined([]) => None,
+        }
+    }
+
+    /// Those behind the first.
+    pub fn behind_first(self) -> Parameters<'a>
+        ensures { seen.parameters result ≡ drop 1 (seen.parameters self.entry) }
+    {
+        match self {
+            Parameters::Own([_first, others @ ..]) => Parameters::Own(others),
+            Parameters::Predefined([_first, others @ ..]) => Parameters::Predefined(others),
+            Parameters::Own([]) | Parameters::Predefined([]) => self,
+        }
+    }
+}
+
+impl<'a> Called<'a> {
+    /// What it is given.
+    pub fn parameters(self) -> Parameters<'a>
+        ensures { seen.parameters result ≡ seen.given_to self.entry }
+    {
+        match self {
+            Called::Predefined(predefined) => Parameters::Predefined(predefined.operands()),
+            Called::Body(_, parameters, _) => Parameters::Own(parameters),
+        }
+    }
 }
 
 /// Whether what is written for one of these has no meaning.
@@ -41,8 +98,8 @@ pub fn has_open(parameters: &[Parameter]) -> bool
 }
 
 /// Whether what is written for the type that is delivered has no meaning.
-pub fn is_open_result(delivered: Option<ElanType>) -> bool
-    ensures { result ≡ spec.is_open_result delivered }
+pub fn is_open_result(delivered: Option<&ElanType>) -> bool
+    ensures { result ≡ spec.is_open_result (option_map (λ t. t.now) delivered.entry) }
 {
     match delivered {
         None => false,
@@ -52,17 +109,31 @@ pub fn is_open_result(delivered: Option<ElanType>) -> bool
 
 impl Callable<'_> {
     /// Whether what is written for one of its parameters has no meaning.
+    #[tactic(auto, using(crate::proofs::Closed::parameters_closed))]
     pub fn has_open(&self) -> bool
         ensures { result ≡ spec.has_open (seen.callable self.now).parameters }
     {
-        has_open(self.parameters)
+        match self.what {
+            Called::Predefined(_) => false,
+            Called::Body(_, parameters, _) => has_open(parameters),
+        }
+    }
+
+    #[tactic(auto, using(crate::proofs::Closed::result_closed))]
+    fn delivers_open(&self) -> bool
+        ensures { result ≡ spec.is_open_result (seen.callable self.now).result }
+    {
+        match self.what {
+            Called::Predefined(_) => false,
+            Called::Body(_, _, result) => is_open_result(result),
+        }
     }
 
     /// Whether what is written for a parameter, or for what it delivers, has no meaning.
     pub fn is_open(&self) -> bool
         ensures { result ≡ spec.is_open_callable (seen.callable self.now) }
     {
-        self.has_open() || is_open_result(self.result)
+        self.has_open() || self.delivers_open()
     }
 
     /// Whether it is called by a name.
@@ -75,7 +146,7 @@ impl Callable<'_> {
     fn has_as_many(&self, sort: Sort, name: &[u8], count: usize) -> bool
         ensures { result ≡ spec.has_as_many sort name.now count (seen.callable self.now) }
     {
-        self.is_called(sort, name) && self.parameters.len() == count
+        self.is_called(sort, name) && self.what.parameters().len() == count
     }
 }
 
@@ -88,9 +159,7 @@ pub fn own_callable(number: usize, heading: &Heading) -> Option<Callable<'_>>
         What::Routine(sort, parameters, result) => Some(Callable {
             sort: *sort,
             name: heading.name.as_slice(),
-            parameters: parameters.as_slice(),
-            result: *result,
-            callee: Callee::Body(number),
+            what: Called::Body(number, parameters.as_slice(), result.as_ref()),
         }),
     }
 }
@@ -103,9 +172,7 @@ pub fn predefined_callable(row: &Row) -> Callable<'static>
     Callable {
         sort,
         name,
-        parameters: predefined.parameters(),
-        result: predefined.result(),
-        callee: Callee::Predefined(predefined),
+        what: Called::Predefined(predefined),
     }
 }
 

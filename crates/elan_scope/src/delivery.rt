@@ -1,12 +1,13 @@
 //! What bodies deliver.
 
-ghost use Rattle.std.specs.Prelude.{◌≡◌};
-ghost use Rattle.elan_scope.specs.Known as spec;
+ghost use Rattle.std.specs.Prelude.{◌≡◌, IfOk};
 
 use elan_types::ElanType;
+use eu_base::NoMemory;
+use std::alloc::Global;
 
 /// What a PROC, an OP or a refinement delivers, as far as it is known, and what the last unit of a list is asked for.
-#[derive(Clone, Copy, PartialEq, Eq)]
+#[derive(Drop)]
 pub enum Delivery {
     /// A refinement of which it is not known. A unit may deliver what it will.
     Open,
@@ -15,13 +16,14 @@ pub enum Delivery {
 }
 
 impl Delivery {
-    /// What a PROC or OP with this result delivers.
-    pub fn of(result_type: Option<ElanType>) -> Delivery
-        ensures { result ≡ spec.delivered result_type }
+    /// The same delivery in memory of its own.
+    pub fn try_clone(&self, alloc: Global) -> Result<Delivery, NoMemory>
+        ensures { IfOk result (λ copy. copy ≡ self.now) }
     {
-        match result_type {
-            None => Delivery::Nothing,
-            Some(of) => Delivery::Of(of),
+        match self {
+            Delivery::Open => Ok(Delivery::Open),
+            Delivery::Nothing => Ok(Delivery::Nothing),
+            Delivery::Of(of) => Ok(Delivery::Of(of.try_clone(alloc)?)),
         }
     }
 }

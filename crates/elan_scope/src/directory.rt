@@ -30,8 +30,12 @@ pub struct Directory {
 impl Model for Directory {
     ghost use Rattle.std.specs.Prelude.{List};
     ghost use Rattle.elan_scope.specs.declared.scope.Entry.{Entry};
+    ghost use Rattle.std.specs.Coded.{codes};
+    ghost use Rattle.elan_types.specs.contracts.elan_type.ElanType as types;
 
     ghost Value = { List Entry };
+
+    ghost coded = { Prim.hlevel (codes, types.the_row.coded) };
 
     ghost use Rattle.elan_scope.specs.walks.Firsts.{AreKept};
 

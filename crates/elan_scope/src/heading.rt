@@ -84,7 +84,7 @@ fn same_types(parameters: &[Parameter], others: &[Parameter]) -> bool
 {
     match (parameters, others) {
         ([], []) => true,
-        ([parameter, parameters @ ..], [other, others @ ..]) => parameter.of.is_same(other.of)
+        ([parameter, parameters @ ..], [other, others @ ..]) => parameter.of.is_same(&other.of)
             && same_types(parameters, others),
         ([], [_other, _others @ ..]) => false,
         ([_parameter, _parameters @ ..], []) => false,

@@ -24,8 +24,12 @@ pub struct Headings {
 impl Model for Headings {
     ghost use Rattle.std.specs.Prelude.{List};
     ghost use Rattle.elan_scope.specs.declared.heading.Heading.{Heading};
+    ghost use Rattle.std.specs.Coded.{codes};
+    ghost use Rattle.elan_types.specs.contracts.elan_type.ElanType as types;
 
     ghost Value = { List Heading };
+
+    ghost coded = { Prim.hlevel (codes, types.the_row.coded) };
 
     ghost use Rattle.elan_scope.specs.walks.Numbers.{HasNumbers};
 

@@ -1,6 +1,8 @@
 //! What is known of bodies beside their headings.
 
 ghost use Rattle.std.specs.Prelude.{◌≡◌, IfOk};
+ghost use Rattle.std.specs.Option.{option_map_or};
+ghost use Rattle.elan_scope.specs.declared.delivery.Delivery.TheVariants.{Open};
 ghost use Rattle.elan_scope.specs.Known as spec;
 
 use crate::delivery::Delivery;
@@ -16,13 +18,13 @@ pub struct Known {
 }
 
 impl Known {
-    /// What the body with this number delivers; `Open` where there is none.
-    pub fn delivery_at(&self, number: usize) -> Delivery
-        ensures { result ≡ spec.delivery_at self.now number }
+    /// What the body with this number delivers. Of one that is not there nothing is known.
+    pub fn delivery_at(&self, number: usize) -> Option<&Delivery>
+        ensures { option_map_or (λ d. d.now) result Open ≡ spec.delivery_at self.now number }
     {
         match self.deliveries.as_slice().get(number) {
-            None => Delivery::Open,
-            Some(delivery) => *delivery,
+            None => None,
+            Some(delivery) => Some(delivery),
         }
     }
 

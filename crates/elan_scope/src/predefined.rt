@@ -2,11 +2,12 @@
 
 ghost use Rattle.std.specs.Prelude.{◌≡◌, map};
 ghost use Rattle.eu_base.specs.Operations.{operand_kinds, text_operand_kinds};
-ghost use Rattle.elan_types.specs.Types.{type_in, values_of, request_parameters};
+ghost use Rattle.elan_types.specs.Types.{values_of, request_parameters};
 ghost use Rattle.elan_scope.specs.Predefined as spec;
+ghost use Rattle.elan_scope.specs.walks.Seen as seen;
 
 use crate::heading::Sort;
-use elan_types::{Access, Change, ElanType, Operation, Parameter, RequestName};
+use elan_types::{Access, Change, Operation, RequestName};
 use eu_base::{Kind, TextOperation};
 
 /// What a predefined name is.
@@ -20,6 +21,13 @@ pub enum Predefined {
     Request(RequestName),
     /// It stops the program.
     ErrorStop,
+}
+
+/// What something predefined is given: the kind of its type, and what a parameter for it holds.
+#[derive(Clone, Copy)]
+pub struct Operand {
+    pub kind: Kind,
+    pub access: Access,
 }
 
 /// Whether it is an operator or a procedure, its name, and what it is.
@@ -268,34 +276,34 @@ pub fn rows() -> &'static [Row]
     &PREDEFINED
 }
 
-const INT: Parameter = Parameter {
-    of: ElanType::Int,
+const INT: Operand = Operand {
+    kind: Kind::Int,
     access: Access::Const,
 };
 
-const BOOL: Parameter = Parameter {
-    of: ElanType::Bool,
+const BOOL: Operand = Operand {
+    kind: Kind::Truth,
     access: Access::Const,
 };
 
-const TEXT: Parameter = Parameter {
-    of: ElanType::Text,
+const TEXT: Operand = Operand {
+    kind: Kind::Text,
     access: Access::Const,
 };
 
-const INT_VAR: Parameter = Parameter {
-    of: ElanType::Int,
+const INT_VAR: Operand = Operand {
+    kind: Kind::Int,
     access: Access::Var,
 };
 
-const TEXT_VAR: Parameter = Parameter {
-    of: ElanType::Text,
+const TEXT_VAR: Operand = Operand {
+    kind: Kind::Text,
     access: Access::Var,
 };
 
 // The operands of an operation are values.
-fn operands(operation: Operation) -> &'static [Parameter]
-    ensures { result.now ≡ values_of (operand_kinds operation) }
+fn operands(operation: Operation) -> &'static [Operand]
+    ensures { map seen.operand result.now ≡ values_of (operand_kinds operation) }
 {
     match operation {
         Operation::Largest => &[],
@@ -319,8 +327,8 @@ fn operands(operation: Operation) -> &'static [Parameter]
     }
 }
 
-fn text_operands(operation: TextOperation) -> &'static [Parameter]
-    ensures { result.now ≡ values_of (text_operand_kinds operation) }
+fn text_operands(operation: TextOperation) -> &'static [Operand]
+    ensures { map seen.operand result.now ≡ values_of (text_operand_kinds operation) }
 {
     match operation {
         TextOperation::Length | TextOperation::CodeOf | TextOperation::NumberIn => &[TEXT],
@@ -340,8 +348,8 @@ fn text_operands(operation: TextOperation) -> &'static [Parameter]
 }
 
 // A request is given values, or the variable for what it reads.
-fn request_operands(name: RequestName) -> &'static [Parameter]
-    ensures { result.now ≡ request_parameters name }
+fn request_operands(name: RequestName) -> &'static [Operand]
+    ensures { map seen.operand result.now ≡ request_parameters name }
 {
     match name {
         RequestName::PutNumber => &[INT],
@@ -352,20 +360,10 @@ fn request_operands(name: RequestName) -> &'static [Parameter]
     }
 }
 
-fn type_in(kind: Kind) -> ElanType
-    ensures { result ≡ type_in kind }
-{
-    match kind {
-        Kind::Int => ElanType::Int,
-        Kind::Truth => ElanType::Bool,
-        Kind::Text => ElanType::Text,
-    }
-}
-
 impl Predefined {
     /// What it is given.
-    pub fn parameters(self) -> &'static [Parameter]
-        ensures { result.now ≡ spec.parameters self }
+    pub fn operands(self) -> &'static [Operand]
+        ensures { map seen.operand result.now ≡ spec.parameters self }
     {
         match self {
             Predefined::Operation(operation) => operands(operation),
@@ -373,16 +371,6 @@ impl Predefined {
             Predefined::Change(Change::Append) => &[TEXT_VAR, TEXT],
             Predefined::Request(name) => request_operands(name),
             Predefined::ErrorStop => &[TEXT],
-        }
-    }
-
-    /// The type that it delivers; `None` where it delivers nothing.
-    pub fn result(self) -> Option<ElanType>
-        ensures { result ≡ spec.result self }
-    {
-        match self {
-            Predefined::Operation(operation) => Some(type_in(operation.result_kind())),
-            Predefined::Change(_) | Predefined::Request(_) | Predefined::ErrorStop => None,
         }
     }
 }

@@ -4,7 +4,7 @@ ghost use Rattle.std.specs.Prelude.{◌≡◌, option_map};
 ghost use Rattle.elan_scope.specs.Types as spec;
 
 use crate::heading::is_one;
-use elan_types::{ElanType, OwnType};
+use elan_types::ElanType;
 use eu_base::Bytes;
 
 /// A name that LET or TYPE gives to a type.
@@ -15,8 +15,6 @@ pub struct TypeName {
     pub name: Bytes,
     /// The type that it denotes; open where it denotes none.
     pub of: ElanType,
-    /// The type that stands behind it, which is the same where LET gives the name.
-    pub concrete: ElanType,
 }
 
 /// The first of these that has a name.
@@ -31,27 +29,4 @@ pub fn first_type<'a>(types: &'a [TypeName], name: &[u8]) -> Option<&'a TypeName
         rest = others;
     }
     None
-}
-
-// The type for whose cells this one stands.
-fn with_cells_of(own: OwnType, of: ElanType) -> ElanType
-    ensures { result ≡ spec.with_kind own.kind of }
-{
-    match of {
-        ElanType::Own(other) => ElanType::Own(OwnType {
-            number: other.number,
-            kind: own.kind,
-        }),
-        _ => ElanType::of_kind(own.kind),
-    }
-}
-
-/// The concrete type of one of the text's own, whose cells are the same.
-pub fn concrete(types: &[TypeName], own: OwnType) -> ElanType
-    ensures { result ≡ spec.concrete types.now own }
-{
-    match types.get(own.number) {
-        None => with_cells_of(own, ElanType::Open),
-        Some(named) => with_cells_of(own, named.concrete),
-    }
 }

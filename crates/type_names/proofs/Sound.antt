@@ -11,6 +11,7 @@ use Rattle.call_graph.proofs.Walks.{In, Call, no_walk}
 use Rattle.elan_types.specs.declared.elan_type.ElanType.{ElanType}
 use Rattle.elan_types.specs.declared.elan_type.ElanType.TheVariants as types
 use Rattle.elan_types.specs.Types.{is_open}
+use Rattle.elan_types.proofs.Types.{open_is, open_open, own_not_open}
 use Rattle.elan_types.specs.declared.why.Why.TheVariants.{Unknown, WrongPlace}
 use Rattle.elan_scope.specs.declared.type_name.TypeName.{TypeName}
 use Rattle.elan_scope.specs.Types.{first_type, denoted_type}
@@ -20,6 +21,7 @@ use Rattle.type_names.specs.declared.definition.Written.TheVariants.{Of, Named}
 use Rattle.type_names.specs.declared.definition.Definition.{Definition}
 use Rattle.type_names.specs.Types.{meant, look, first_from, made, as_defined, by_definition, denoted, concrete, type_name, names_from, names_of}
 use Rattle.type_names.specs.Faults.{Here, here, calls, comes_back, named_by, named_faults, written_faults}
+use Rattle.type_names.specs.walks.Further as further
 use Rattle.type_names.proofs.Looked.{look_append}
 
 -- each of these names denotes a type
@@ -41,25 +43,18 @@ right_false : (p q : Bool) → p ≡ true → (p && q) ≡ false → q ≡ false
 right_false true q e f = f
 right_false false q e f = absurd cc
 
-open_is : (t : ElanType) → is_open t ≡ true → t ≡ types.Open
-open_is types.Open e = refl
-open_is types.Int e = absurd cc
-open_is types.Bool e = absurd cc
-open_is types.Text e = absurd cc
-open_is (types.Own o) e = absurd cc
-
 is_opened : (t : ElanType) → t ≡ types.Open → is_open t ≡ true
-is_opened t e = ap is_open e
+is_opened t e = ap is_open e ∙ open_open
 
 both_ways : (b : Bool) → b ≡ false → b ≡ true → ⊥
 both_ways b h k = cc
 
 made_open : (n : ℕ) (t : ElanType) → made n t ≡ types.Open → t ≡ types.Open
-made_open n types.Open e = refl
-made_open n types.Int e = absurd cc
-made_open n types.Bool e = absurd cc
-made_open n types.Text e = absurd cc
-made_open n (types.Own o) e = absurd cc
+made_open n t e = by_test (is_open t) refl e
+  where
+    by_test : (b : Bool) → is_open t ≡ b → (if b then types.Open else types.Own n t) ≡ types.Open → t ≡ types.Open
+    by_test true h k = open_is t h
+    by_test false h k = absurd (own_not_open n t k)
 
 defined_open : (n : ℕ) (own : Bool) (t : ElanType) → as_defined n own t ≡ types.Open → t ≡ types.Open
 defined_open n true t e = made_open n t e
@@ -124,10 +119,9 @@ module _ (around : List TypeName) (ds : List Definition) where
   -- ---- what is denoted over further names
 
   abbrev look_at : ℕ → List ℕ → ElanType
-  look_at zero x = types.Open
-  look_at (suc f) x = denoted around ds f x
+  look_at = further.look_at around ds
 
-  denoted_is : (f : ℕ) (x : List ℕ) → denoted around ds f x ≡ by_definition (look_at f) (first_from 0 ds x) (look around x)
+  pub denoted_is : (f : ℕ) (x : List ℕ) → denoted around ds f x ≡ by_definition (look_at f) (first_from 0 ds x) (look around x)
   denoted_is zero x = refl
   denoted_is (suc f) x = refl
 

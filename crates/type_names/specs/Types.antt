@@ -3,7 +3,7 @@ use Rattle.std.specs.Prelude.{ℕ, zero, suc, ◌+◌, Bool, true, false, List, 
 use Rattle.std.specs.Str.{bytes_eq}
 use Rattle.elan_types.specs.declared.elan_type.ElanType.{ElanType}
 use Rattle.elan_types.specs.declared.elan_type.ElanType.TheVariants as types
-use Rattle.elan_types.specs.Types.{kind_in}
+use Rattle.elan_types.specs.Types.{is_open}
 use Rattle.elan_tree.specs.declared.written_type.TypePhrase.{TypePhrase}
 use Rattle.elan_tree.specs.declared.written_type.TypePhrase.TheVariants as phrase
 use Rattle.elan_tree.specs.declared.phrase.Unit.{Unit as Statement}
@@ -73,10 +73,9 @@ first_from n (d ∷ ds) x = if bytes_eq d.name x then Some (n, d) else first_fro
 
 -- ---- what names denote
 
--- A type of the text's own has its number, and cells as its concrete type has. Where that is open, it is too.
+-- A type of the text's own has its number, and its concrete type. Where that is open, it is too.
 abbrev pub made : ℕ → ElanType → ElanType
-made n types.Open = types.Open
-made n t = types.Own (record { number = n; kind = kind_in t })
+made n t = if is_open t then types.Open else types.Own n t
 
 abbrev pub as_defined : ℕ → Bool → ElanType → ElanType
 as_defined n own t = if own then made n t else t
@@ -97,7 +96,7 @@ module _ (around : List TypeName) (ds : List Definition) where
   concrete d = meant (denoted (length ds)) d.written
 
   abbrev pub type_name : ℕ → Definition → TypeName
-  type_name n d = record { at = d.name_at; name = d.name; of = as_defined n d.own (concrete d); concrete = concrete d }
+  type_name n d = record { at = d.name_at; name = d.name; of = as_defined n d.own (concrete d) }
 
   abbrev pub names_from : ℕ → List Definition → List TypeName
   names_from n [] = []

@@ -2,13 +2,14 @@
 
 ghost use Rattle.std.specs.Prelude.{◌≡◌, option_map, IfOk};
 ghost use Rattle.type_names.specs.Types as spec;
+ghost use Rattle.type_names.specs.walks.Further as walk;
 
 use crate::definition::{Definition, Written};
 use crate::written::look;
 use elan_scope::heading::is_one;
 use elan_scope::type_name::TypeName;
-use elan_types::{ElanType, OwnType};
-use eu_base::{Bytes, List, NoMemory};
+use elan_types::ElanType;
+use eu_base::{Boxed, Bytes, List, NoMemory};
 use std::alloc::Global;
 
 /// The first definition of a name, with its number.
@@ -31,55 +32,91 @@ pub fn first_defined<'a>(
 }
 
 // A type of the text's own; it is open where its concrete type is.
-fn made(number: usize, concrete: ElanType) -> ElanType
-    ensures { result ≡ spec.made number concrete }
+fn made(alloc: Global, number: usize, concrete: ElanType) -> Result<ElanType, NoMemory>
+    ensures { IfOk result (λ of. of ≡ spec.made number concrete) }
 {
     if concrete.is_open() {
-        return ElanType::Open;
+        concrete.let_go();
+        return Ok(ElanType::Open);
     }
-    ElanType::Own(OwnType {
-        number,
-        kind: concrete.kind(),
-    })
+    Ok(ElanType::Own(number, Boxed::new(alloc, concrete)?))
 }
 
-fn as_defined(number: usize, own: bool, concrete: ElanType) -> ElanType
-    ensures { result ≡ spec.as_defined number own concrete }
+fn as_defined(
+    alloc: Global,
+    number: usize,
+    own: bool,
+    concrete: ElanType,
+) -> Result<ElanType, NoMemory>
+    ensures { IfOk result (λ of. of ≡ spec.as_defined number own concrete) }
 {
     if own {
-        made(number, concrete)
+        made(alloc, number, concrete)
     } else {
-        concrete
+        Ok(concrete)
+    }
+}
+
+// The type that is written, where a name may lead over so many further ones.
+#[cycle(names)]
+fn meant(
+    alloc: Global,
+    around: &[TypeName],
+    definitions: &[Definition],
+    further: usize,
+    written: &Written,
+) -> Result<ElanType, NoMemory>
+    ensures { IfOk result (λ of. of ≡ spec.meant (walk.look_at around.now definitions.now further) written.now) }
+{
+    match written {
+        Written::Of(of) => of.try_clone(alloc),
+        Written::Named(_, name) => match further.checked_sub(1) {
+            None => Ok(ElanType::Open),
+            Some(left) => denoted(alloc, around, definitions, left, name.as_slice()),
+        },
     }
 }
 
 // What a name denotes over at most so many further names; open where it denotes nothing.
-fn denoted(around: &[TypeName], definitions: &[Definition], further: usize, name: &[u8]) -> ElanType
-    ensures { result ≡ spec.denoted around.now definitions.now further name.now }
+#[cycle(names)]
+#[tactic(auto, using(crate::proofs::Sound::denoted_is))]
+fn denoted(
+    alloc: Global,
+    around: &[TypeName],
+    definitions: &[Definition],
+    further: usize,
+    name: &[u8],
+) -> Result<ElanType, NoMemory>
+    ensures { IfOk result (λ of. of ≡ spec.denoted around.now definitions.now further name.now) }
 {
     match first_defined(definitions, name) {
-        None => look(&[], around, name),
+        None => look(alloc, &[], around, name),
         Some((number, definition)) => {
-            let concrete = match &definition.written {
-                Written::Of(of) => *of,
-                Written::Named(_, next) => match further.checked_sub(1) {
-                    None => ElanType::Open,
-                    Some(left) => denoted(around, definitions, left, next.as_slice()),
-                },
-            };
-            as_defined(number, definition.own, concrete)
+            let concrete = meant(alloc, around, definitions, further, &definition.written)?;
+            as_defined(alloc, number, definition.own, concrete)
         }
     }
 }
 
 // The type that stands behind a name.
-fn concrete(around: &[TypeName], definitions: &[Definition], definition: &Definition) -> ElanType
-    ensures { result ≡ spec.concrete around.now definitions.now definition.now }
+fn concrete(
+    alloc: Global,
+    around: &[TypeName],
+    definitions: &[Definition],
+    definition: &Definition,
+) -> Result<ElanType, NoMemory>
+    ensures { IfOk result (λ of. of ≡ spec.concrete around.now definitions.now definition.now) }
 {
     match &definition.written {
-        Written::Of(of) => *of,
+        Written::Of(of) => of.try_clone(alloc),
         Written::Named(_, name) => {
-            denoted(around, definitions, definitions.len(), name.as_slice())
+            denoted(
+                alloc,
+                around,
+                definitions,
+                definitions.len(),
+                name.as_slice(),
+            )
         }
     }
 }
@@ -94,12 +131,12 @@ pub fn names_of(
 {
     let mut names = List::new(alloc);
     for (number, definition) in definitions.iter().enumerate() {
-        let concrete = concrete(around, definitions, definition);
+        let concrete = concrete(alloc, around, definitions, definition)?;
+        let of = as_defined(alloc, number, definition.own, concrete)?;
         names.push(TypeName {
             at: definition.name_at,
             name: Bytes::from(alloc, definition.name.as_slice())?,
-            of: as_defined(number, definition.own, concrete),
-            concrete,
+            of,
         })?;
     }
     Ok(names)

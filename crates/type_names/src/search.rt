@@ -56,6 +56,7 @@ impl<'a> Search<'a> {
         first_of(self.here.names.as_slice(), self.around, name).is_some()
     }
 
+    #[tactic(auto, using(elan_types::proofs::Types::int_closed, elan_types::proofs::Types::bool_closed, elan_types::proofs::Types::text_closed, elan_types::proofs::Types::open_open,))]
     fn written_fault(&self, of: &TypePhrase) -> Option<Fault>
         ensures { result ≡ spec.first_fault (spec.written_faults (here_of self.now) (types.written of.now)) }
     {

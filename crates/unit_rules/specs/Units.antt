@@ -2,7 +2,7 @@
 use Rattle.std.specs.Prelude.{ℕ, Bool, true, false, ◌||◌, List, [], ◌∷◌, flat_map, Option, Some, None, if◌then◌else◌}
 use Rattle.std.specs.Option.{option_map_or}
 use Rattle.elan_types.specs.declared.elan_type.ElanType.{ElanType}
-use Rattle.elan_types.specs.Types.{kind_in, is_own, is_open}
+use Rattle.elan_types.specs.Types.{shape_in, is_own, is_open}
 use Rattle.elan_types.specs.declared.core_phrase.ValuePhrase.TheVariants as value
 use Rattle.elan_types.specs.declared.core_phrase.Action.{Action}
 use Rattle.elan_types.specs.declared.core_phrase.Action.TheVariants as action
@@ -29,7 +29,7 @@ agreed at l r = agreed_as at (type_in l) r
 
 -- A variable is needed at the left.
 abbrev pub stored : ℕ → Meant → Meant → Verdict Action
-stored at l r = agreed at l r >>= (λ t. variable at l >>= (λ x. gives (action.Store x (kind_in t) (value_of r))))
+stored at l r = agreed at l r >>= (λ t. variable at l >>= (λ x. gives (action.Store x (shape_in t) (value_of r))))
 
 -- For types of a text's own no assignment is predefined.
 abbrev pub assigned : ℕ → Meant → Meant → Verdict Meant
@@ -63,7 +63,7 @@ in_order ms = ended (actions_of ms) (last_value Absent ms)
 
 -- An expression that stands alone spends a mark. A variable is a value there.
 abbrev pub alone : Meant → Meant
-alone (Variable at t x) = Value at t (value.Unit (value.Load x (kind_in t)))
+alone (Variable at t x) = Value at t (value.Unit (value.Load x (shape_in t)))
 alone (Value at t v) = Value at t (value.Unit v)
 alone (Left as') = Left (action.Unit as' ∷ [])
 alone m = unit_of (actions m)
@@ -88,11 +88,11 @@ must_deliver at t m = if agrees_with t m then gives m else breaks (at, WrongType
 -- the units of a body that delivers this type, or nothing; behind a LEAVE stands any value
 abbrev pub content_as : Option ElanType → Meant → Content
 content_as None m = content.Units (actions m)
-content_as (Some t) m = content.Value (kind_in t) (if delivers t m then value_of m else unreached (actions m) t)
+content_as (Some t) m = content.Value (shape_in t) (if delivers t m then value_of m else unreached (actions m) t)
 
 -- the units of a refinement, which delivers what they deliver
 abbrev pub content_of : Meant → Content
-content_of (Value at t v) = content.Value (kind_in t) v
+content_of (Value at t v) = content.Value (shape_in t) v
 content_of m = content.Units (actions m)
 
 abbrev pub body_with : Owner → Content → Meant

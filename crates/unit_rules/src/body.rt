@@ -16,8 +16,8 @@ use eu_base::{Boxed, List, NoMemory};
 use std::alloc::Global;
 
 // The value of a body that delivers this type; behind a LEAVE stands any value.
-fn value_as(alloc: Global, of: ElanType, units: Meant) -> Result<Boxed<ValuePhrase>, NoMemory>
-    ensures { IfOk result (λ v. v ≡ (if delivers of units then parts_of.value_of units else parts_of.unreached (parts_of.actions units) of)) }
+fn value_as(alloc: Global, of: &ElanType, units: Meant) -> Result<Boxed<ValuePhrase>, NoMemory>
+    ensures { IfOk result (λ v. v ≡ (if delivers of.now units then parts_of.value_of units else parts_of.unreached (parts_of.actions units) of.now)) }
 {
     if delivers(of, &units) {
         value_of(alloc, units)
@@ -33,8 +33,8 @@ fn content_as(alloc: Global, delivered: Option<ElanType>, units: Meant) -> Resul
     match delivered {
         None => Ok(Content::Units(actions(alloc, units))),
         Some(of) => {
-            let value = value_as(alloc, of, units)?;
-            Ok(Content::Value(of.kind(), value.into_inner()))
+            let value = value_as(alloc, &of, units)?;
+            Ok(Content::Value(of.shape(), value.into_inner()))
         }
     }
 }
@@ -67,7 +67,11 @@ fn content_of(alloc: Global, units: Meant) -> Content
     ensures { result ≡ spec.content_of units }
 {
     match units {
-        Meant::Value { at: _at, of, value } => Content::Value(of.kind(), value.into_inner()),
+        Meant::Value { at: _at, of, value } => {
+            let shape = of.shape();
+            of.let_go();
+            Content::Value(shape, value.into_inner())
+        }
         other => Content::Units(actions(alloc, other)),
     }
 }

@@ -118,7 +118,7 @@ pub fn alone(alloc: Global, meant: Meant) -> Judged
 {
     match meant {
         Meant::Variable { at, of, place } => {
-            let value = Boxed::new(alloc, ValuePhrase::Load(place, of.kind()))?;
+            let value = Boxed::new(alloc, ValuePhrase::Load(place, of.shape()))?;
             delivering(alloc, at, of, ValuePhrase::Unit(value))
         }
         Meant::Value { at, of, value } => delivering(alloc, at, of, ValuePhrase::Unit(value)),
@@ -135,12 +135,13 @@ pub fn without_value(alloc: Global, meant: Meant) -> Judged
     ensures { Tells result (spec.without_value meant) }
 {
     match meant {
-        Meant::Variable {
-            at,
-            of: _of,
-            place: _place,
-        } => Err(Trouble::Breaks(at, Why::WrongType)),
-        Meant::Value { at, of: _of, value } => {
+        Meant::Variable { at, of, place } => {
+            of.let_go();
+            place.let_go();
+            Err(Trouble::Breaks(at, Why::WrongType))
+        }
+        Meant::Value { at, of, value } => {
+            of.let_go();
             value.into_inner().let_go();
             Err(Trouble::Breaks(at, Why::WrongType))
         }
@@ -148,8 +149,8 @@ pub fn without_value(alloc: Global, meant: Meant) -> Judged
     }
 }
 
-fn agrees_with(of: ElanType, meant: &Meant) -> bool
-    ensures { result ≡ spec.agrees_with of meant.now }
+fn agrees_with(of: &ElanType, meant: &Meant) -> bool
+    ensures { result ≡ spec.agrees_with of.now meant.now }
 {
     match meant {
         Meant::Left(_) => true,
@@ -158,8 +159,8 @@ fn agrees_with(of: ElanType, meant: &Meant) -> bool
 }
 
 /// The last unit of a body that has to deliver this type.
-pub fn must_deliver(at: u32, of: ElanType, meant: Meant) -> Judged
-    ensures { Tells result (spec.must_deliver at of meant) }
+pub fn must_deliver(at: u32, of: &ElanType, meant: Meant) -> Judged
+    ensures { Tells result (spec.must_deliver at of.now meant) }
 {
     if agrees_with(of, &meant) {
         Ok(meant)

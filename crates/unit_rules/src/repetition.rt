@@ -7,11 +7,12 @@ ghost use Rattle.elan_meant.specs.Parts as parts;
 ghost use Rattle.elan_meant.specs.Verdict.{gives, ◌>>=◌ as and_then, Tells};
 
 use elan_meant::meant::Meant;
-use elan_meant::operands::delivers;
+use elan_meant::operands::delivers_kind;
 use elan_meant::part::{actions, may_deliver, unit_doing, variable, written};
 use elan_meant::row::Judged;
 use elan_scope::trouble::Trouble;
-use elan_types::{Action, ElanType, PlacePhrase, ValuePhrase, Way, Why};
+use elan_types::{Action, PlacePhrase, ValuePhrase, Way, Why};
+use eu_base::Kind;
 use std::alloc::Global;
 
 /// What a loop does in its turns: the condition of WHILE, its units, and the condition of UNTIL.
@@ -23,7 +24,16 @@ pub struct Turns {
 }
 
 impl Turns {
-    fn let_go(self) {}
+    fn let_go(self) {
+        let Turns {
+            condition,
+            units,
+            until,
+        } = self;
+        condition.let_go();
+        units.let_go();
+        until.let_go();
+    }
 }
 
 /// The counter of a loop, its first value, and its limit.
@@ -35,13 +45,18 @@ pub struct Bounds {
 }
 
 impl Bounds {
-    fn let_go(self) {}
+    fn let_go(self) {
+        let Bounds { name, from, limit } = self;
+        name.let_go();
+        from.let_go();
+        limit.let_go();
+    }
 }
 
 fn conditions(turns: &Turns) -> bool
     ensures { result ≡ spec.conditions turns.now.condition turns.now.until }
 {
-    may_deliver(ElanType::Bool, &turns.condition) && may_deliver(ElanType::Bool, &turns.until)
+    may_deliver(Kind::Truth, &turns.condition) && may_deliver(Kind::Truth, &turns.until)
 }
 
 fn uncounted(alloc: Global, turns: Turns) -> Judged
@@ -86,9 +101,9 @@ fn first_value(from: Option<ValuePhrase>) -> ValuePhrase
 fn are_numbers(bounds: &Bounds) -> bool
     ensures { result ≡ walk.are_numbers bounds.now.name bounds.now.from bounds.now.limit }
 {
-    delivers(ElanType::Int, &bounds.name)
-        && may_deliver(ElanType::Int, &bounds.from)
-        && may_deliver(ElanType::Int, &bounds.limit)
+    delivers_kind(Kind::Int, &bounds.name)
+        && may_deliver(Kind::Int, &bounds.from)
+        && may_deliver(Kind::Int, &bounds.limit)
 }
 
 fn count(

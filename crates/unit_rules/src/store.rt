@@ -5,6 +5,7 @@ ghost use Rattle.std.specs.Option.{option_map_or};
 ghost use Rattle.elan_types.specs.Types.{is_own};
 ghost use Rattle.elan_meant.specs.Parts as parts_of;
 ghost use Rattle.unit_rules.specs.Units as spec;
+ghost use Rattle.unit_rules.specs.walks.Steps as walk;
 ghost use Rattle.elan_meant.specs.Verdict.{Tells};
 
 use elan_meant::meant::Meant;
@@ -12,18 +13,19 @@ use elan_meant::operands::delivers;
 use elan_meant::part::{done, type_in, unit_doing, value_in, variable};
 use elan_meant::row::Judged;
 use elan_scope::trouble::Trouble;
-use elan_types::{Action, ElanType, Why};
+use elan_types::{Action, Why};
+use eu_base::Shape;
 use std::alloc::Global;
 
-// The type that both deliver.
-fn agreed(at: u32, left: &Meant, right: &Meant) -> Result<ElanType, Trouble>
-    ensures { Tells result (spec.agreed at left.now right.now) }
+// The shape of the type that both deliver.
+fn agreed(at: u32, left: &Meant, right: &Meant) -> Result<Shape, Trouble>
+    ensures { Tells result (walk.agreed_shape (spec.agreed at left.now right.now)) }
 {
     match type_in(left) {
         None => Err(Trouble::Breaks(at, Why::WrongType)),
         Some(of) => {
             if delivers(of, right) {
-                Ok(of)
+                Ok(of.shape())
             } else {
                 Err(Trouble::Breaks(at, Why::WrongType))
             }
@@ -41,12 +43,12 @@ fn stored(at: u32, left: Meant, right: Meant) -> Result<Action, Trouble>
             right.let_go();
             Err(trouble)
         }
-        Ok(of) => match variable(at, left) {
+        Ok(shape) => match variable(at, left) {
             Err(trouble) => {
                 right.let_go();
                 Err(trouble)
             }
-            Ok(place) => Ok(Action::Store(place, of.kind(), value_in(right))),
+            Ok(place) => Ok(Action::Store(place, shape, value_in(right))),
         },
     }
 }

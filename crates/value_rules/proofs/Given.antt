@@ -1,10 +1,12 @@
 -- What parameters are given, one operand more.
-use Rattle.std.proofs.Common.{◌≡◌, ◌≤◌, ℕ, List, [], ◌∷◌, ◌++◌, Option, Some, Result, length, drop, get_or, refl, ap, subst, ◌∙◌, arith}
+use Rattle.std.proofs.Common.{◌≡◌, ℕ, List, [], ◌∷◌, ◌++◌, Option, Some, Result, length, drop, option_map, slice_get, refl, ap, subst, ◌∙◌}
 use Rattle.eu_base.specs.declared.operation.Change.{Change}
 use Rattle.elan_types.specs.declared.elan_type.ElanType.{ElanType}
 use Rattle.elan_types.specs.declared.core_phrase.Action.TheVariants as action
+use Rattle.elan_types.specs.declared.core_phrase.Formal.{Formal}
+use Rattle.elan_types.specs.Types.{shape_in, formal_of}
 use Rattle.elan_types.specs.declared.core_phrase.Actual.TheVariants as actual
-use Rattle.elan_scope.specs.declared.callable.Callee.TheVariants.{Predefined}
+use Rattle.elan_scope.specs.Callees.{Predefined}
 use Rattle.elan_scope.specs.declared.predefined.Predefined.TheVariants as names
 use Rattle.elan_meant.specs.declared.meant.Meant.TheVariants.{Done}
 use Rattle.elan_types.specs.declared.why.Why.TheVariants.{WrongType}
@@ -65,13 +67,16 @@ told_joined (gives as') (breaks f) = refl
 told_joined (breaks f) q = refl
 
 -- what is given to the first of these parameters, behind what was given
-pub next_is : (out : Result (List Actual) Trouble) (next : Result Actual Trouble) (at : ℕ) (ps : List Parameter) (d : Parameter) (m : Meant)
-    (r : Verdict (List Actual)) → 1 ≤ length ps → Tells next (given_as at (get_or ps 0 d).access (get_or ps 0 d).of m)
+pub next_is : (out : Result (List Actual) Trouble) (next : Result Actual Trouble) (at : ℕ) (ps : List Parameter) (f : Formal) (m : Meant)
+    (r : Verdict (List Actual)) → option_map formal_of (slice_get ps 0) ≡ Some f
+    → ((t : ElanType) → f.shape ≡ shape_in t → Tells next (given_as at f.access t m))
     → ((q : Ruled Actual) → Is next q → Is out (joined (told r) q))
     → Tells out (given_next at ps m r)
-next_is out next at [] d m r l h j = absurd (omega (arith, l))
-next_is out next at (p ∷ ps) d m r l h j =
-    subst (λ (q : Ruled (List Actual)). Is out q) (told_joined r (given_as at p.access p.of m)) (j (told (given_as at p.access p.of m)) h)
+next_is out next at [] f m r i h j = absurd cc
+next_is out next at (p ∷ ps) f m r i h j =
+    let e : f ≡ formal_of p = cc in
+    let k = subst (λ (g : Formal). Tells next (given_as at g.access p.of m)) e (h p.of (ap (λ (g : Formal). g.shape) e)) in
+    subst (λ (q : Ruled (List Actual)). Is out q) (told_joined r (given_as at p.access p.of m)) (j (told (given_as at p.access p.of m)) k)
 
 pub behind : (ms : List Meant) (m : Meant) (ps : List Parameter) → drop 1 (drop (length ms) ps) ≡ drop (length (ms ++ m ∷ [])) ps
 behind [] m ps = refl

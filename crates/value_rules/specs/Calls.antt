@@ -2,7 +2,7 @@
 use Rattle.std.specs.Prelude.{ℕ, Bool, true, false, ◌||◌, ◌&&◌, List, [], ◌∷◌, length, Option, Some, None, is_some, if◌then◌else◌, nat_eq, slice_get}
 use Rattle.std.specs.Option.{option_map_or}
 use Rattle.elan_types.specs.declared.elan_type.ElanType.{ElanType}
-use Rattle.elan_types.specs.Types.{kind_in, is_open}
+use Rattle.elan_types.specs.Types.{shape_in, is_open}
 use Rattle.elan_types.specs.declared.core_phrase.PlacePhrase.{PlacePhrase}
 use Rattle.elan_types.specs.declared.core_phrase.PlacePhrase.TheVariants as place
 use Rattle.elan_types.specs.declared.core_phrase.ValuePhrase.{ValuePhrase}
@@ -25,8 +25,8 @@ use Rattle.elan_scope.specs.declared.heading.Sort.TheVariants.{Procedure}
 use Rattle.elan_scope.specs.declared.heading.Heading.{Heading}
 use Rattle.elan_meant.specs.declared.meant.Meant.{Meant}
 use Rattle.elan_meant.specs.declared.meant.Meant.TheVariants.{Absent, Variable, Value, Done, Left}
-use Rattle.elan_scope.specs.declared.callable.Callee.{Callee}
-use Rattle.elan_scope.specs.declared.callable.Callee.TheVariants.{Predefined, Body}
+use Rattle.elan_scope.specs.Callees.{Callee}
+use Rattle.elan_scope.specs.Callees.{Predefined, Body}
 use Rattle.elan_scope.specs.declared.predefined.Predefined.TheVariants.{Operation, Change, Request, ErrorStop}
 use Rattle.elan_scope.specs.Scope.{Callable, is_known, refinement_named, held, has_open, is_open_result, is_open_heading}
 use Rattle.elan_scope.specs.declared.type_name.TypeName.{TypeName}
@@ -54,7 +54,7 @@ place_in of_routine n Var = place.Parameter n
 
 -- A constant is a value.
 abbrev pub constant : ℕ → ElanType → PlacePhrase → Meant
-constant at t p = Value at t (value.Load p (kind_in t))
+constant at t p = Value at t (value.Load p (shape_in t))
 
 -- A CONST parameter is a constant, a VAR parameter a variable.
 abbrev pub parameter : ℕ → ElanType → Access → PlacePhrase → Meant
@@ -66,7 +66,7 @@ parameter at t Var p = Variable at t p
 -- A variable is needed for a VAR parameter.
 abbrev pub given_as : ℕ → Access → ElanType → Meant → Verdict Actual
 given_as at Const t m = gives (actual.Value (value_of m))
-given_as at Var t m = variable at m >>= (λ x. gives (actual.Place x (kind_in t)))
+given_as at Var t m = variable at m >>= (λ x. gives (actual.Place x (shape_in t)))
 
 -- what parameters are given, from left to right
 abbrev pub given : ℕ → List Parameter → List Meant → Verdict (List Actual)
@@ -77,15 +77,15 @@ given at (p ∷ ps) (m ∷ ms) = given_as at p.access p.of m >>= (λ a. given at
 abbrev pub values_in : List Actual → List ValuePhrase
 values_in [] = []
 values_in (actual.Value v ∷ as') = v ∷ values_in as'
-values_in (actual.Place x k ∷ as') = values_in as'
+values_in (actual.Place x s ∷ as') = values_in as'
 
 -- what a callee that delivers this, or nothing, does with what it is given, if that suits it
 abbrev pub performed : ℕ → Callee → Option ElanType → List Actual → Verdict Meant
 performed at (Predefined (Operation o)) (Some t) as' = gives (Value at t (value.Apply o (values_in as')))
-performed at (Predefined (Change c)) r (actual.Place x k ∷ actual.Value v ∷ []) = gives (Done (action.Modify c x v ∷ []))
+performed at (Predefined (Change c)) r (actual.Place x s ∷ actual.Value v ∷ []) = gives (Done (action.Modify c x v ∷ []))
 performed at (Predefined (Request q)) r as' = gives (Done (action.Ask q as' ∷ []))
 performed at (Predefined ErrorStop) r (actual.Value v ∷ []) = gives (Done (action.ErrorStop v ∷ []))
-performed at (Body n) (Some t) as' = gives (Value at t (value.Call n as' (kind_in t)))
+performed at (Body n) (Some t) as' = gives (Value at t (value.Call n as' (shape_in t)))
 performed at (Body n) None as' = gives (Done (action.Call n as' ∷ []))
 performed at c r as' = breaks (at, WrongType)
 
@@ -108,7 +108,7 @@ applied at s sort x ms = applied_as at (is_known s sort x (length ms)) ms (chose
 abbrev pub referred : ℕ → ℕ → Delivery → Ruled Meant
 referred at n Open = hangs
 referred at n Nothing = told (gives (Done (action.Refer n ∷ [])))
-referred at n (Of t) = told (gives (Value at t (value.Refer n (kind_in t))))
+referred at n (Of t) = told (gives (Value at t (value.Refer n (shape_in t))))
 
 -- A refinement does not call itself through any chain. A name that no refinement has is unknown.
 abbrev pub refined : Known → ℕ → Scope → Option ℕ → Ruled Meant
@@ -209,7 +209,7 @@ agrees (Of t) m = delivers t m
 
 abbrev pub leave_with : Exit → Option ElanType → ValuePhrase → Action
 leave_with e None v = action.Leave e
-leave_with e (Some t) v = action.LeaveWith e (kind_in t) v
+leave_with e (Some t) v = action.LeaveWith e (shape_in t) v
 
 -- It names the refinement, PROC or OP in which it stands.
 abbrev pub leaving : Known → ℕ → Option (Exit × ℕ) → Meant → Verdict Meant

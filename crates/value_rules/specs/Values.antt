@@ -1,12 +1,8 @@
 -- Numbers, texts, brackets, CAND and COR.
-use Rattle.std.specs.Prelude.{ℕ, ℤ, true, false, ◌&&◌, if◌then◌else◌, nat_le, List, length}
+use Rattle.std.specs.Prelude.{ℕ, ℤ, true, false, ◌&&◌, if◌then◌else◌, nat_le, List, length, Option, Some, None}
 use Rattle.elan_types.specs.declared.elan_type.ElanType.{ElanType}
-use Rattle.elan_types.specs.declared.elan_type.ElanType.TheVariants as types
 use Rattle.elan_types.specs.declared.elan_type.ElanType.TheVariants.{Int, Bool as Truths, Text}
-use Rattle.elan_scope.specs.declared.scope.Scope.{Scope}
-use Rattle.elan_scope.specs.declared.type_name.TypeName.{TypeName}
-use Rattle.elan_scope.specs.Types.{concrete}
-use Rattle.elan_types.specs.Types.{kind_in}
+use Rattle.elan_types.specs.Types.{concrete, shape_in}
 use Rattle.elan_types.specs.declared.core_phrase.ValuePhrase.{ValuePhrase}
 use Rattle.elan_types.specs.declared.core_phrase.ValuePhrase.TheVariants as value
 use Rattle.elan_types.specs.declared.why.Why.TheVariants.{WrongType}
@@ -36,19 +32,19 @@ denoter at (denoters.Text x) = text at x
 
 -- A variable in brackets is a value. What delivers nothing does in brackets what it does without.
 abbrev pub bracketed : ℕ → Meant → Meant
-bracketed at (Variable p t x) = Value at t (value.Load x (kind_in t))
+bracketed at (Variable p t x) = Value at t (value.Load x (shape_in t))
 bracketed at (Value p t v) = Value at t v
 bracketed at m = m
 
 -- CONCR of a type of the text's own: the same place or value, as of its concrete type
-abbrev pub concr_as : List TypeName → ℕ → ElanType → (ElanType → Meant) → Verdict Meant
-concr_as ts at (types.Own t) go = gives (go (concrete ts t))
-concr_as ts at t go = breaks (at, WrongType)
+abbrev pub concr_as : ℕ → Option ElanType → (ElanType → Meant) → Verdict Meant
+concr_as at (Some t) go = gives (go t)
+concr_as at None go = breaks (at, WrongType)
 
-abbrev pub concr : ℕ → Scope → Meant → Verdict Meant
-concr at s (Variable p t x) = concr_as s.types at t (λ u. Variable at u x)
-concr at s (Value p t v) = concr_as s.types at t (λ u. Value at u v)
-concr at s m = breaks (at, WrongType)
+abbrev pub concr : ℕ → Meant → Verdict Meant
+concr at (Variable p t x) = concr_as at (concrete t) (λ u. Variable at u x)
+concr at (Value p t v) = concr_as at (concrete t) (λ u. Value at u v)
+concr at m = breaks (at, WrongType)
 
 -- the truth value that is made of two
 abbrev pub of_truths : ℕ → Meant → Meant → ValuePhrase → Verdict Meant

@@ -1,9 +1,12 @@
 //! Calls: operators with their operands, and procedures with their actuals.
 
-ghost use Rattle.std.specs.Prelude.{◌≡◌, ◌++◌, ◌∷◌, [], IfOk, Option, Some, List, drop};
+ghost use Rattle.std.specs.Prelude.{◌≡◌, ◌++◌, ◌∷◌, [], IfOk, Option, Some, List};
 ghost use Rattle.elan_types.specs.declared.elan_type.ElanType.{ElanType as ElanTypes};
 ghost use Rattle.elan_types.specs.declared.core_phrase.Actual.{Actual as Actuals};
-ghost use Rattle.elan_scope.specs.declared.callable.Callee.TheVariants as callees;
+ghost use Rattle.eu_base.specs.Operations.{result_kind};
+ghost use Rattle.elan_types.specs.Types.{shape_in, type_in};
+ghost use Rattle.elan_scope.specs.Callees as callees;
+ghost use Rattle.elan_scope.specs.Predefined as table;
 ghost use Rattle.elan_scope.specs.declared.heading.Sort.TheVariants as sorts;
 ghost use Rattle.elan_scope.specs.declared.predefined.Predefined.TheVariants as names;
 ghost use Rattle.elan_scope.specs.walks.Seen as seen;
@@ -16,30 +19,28 @@ ghost use Rattle.elan_meant.specs.Verdict.{Verdict, Tells, told, unless};
 use elan_meant::arity::two_of;
 use elan_meant::meant::Meant;
 use elan_meant::operands::{chosen, is_unclear};
-use elan_meant::part::{delivering, done, value_in, variable};
+use elan_meant::part::{delivering, delivering_as, done, value_in, variable};
 use elan_meant::row::{Judged, and, pushed};
-use elan_scope::callable::{Callable, Callee};
+use elan_scope::callable::{Callable, Called, Parameters};
 use elan_scope::heading::Sort;
 use elan_scope::predefined::Predefined;
 use elan_scope::scope::Scope;
 use elan_scope::trouble::Trouble;
-use elan_types::{
-    Access, Action, Actual, Change, ElanType, Operation, Parameter, ValuePhrase, Why,
-};
+use elan_types::{Access, Action, Actual, Change, ElanType, Formal, Operation, ValuePhrase, Why};
 use eu_base::{List, NoMemory};
 use std::alloc::Global;
 
 // ---- what is given
 
 // A VAR parameter needs a variable.
-fn given_as(at: u32, parameter: Parameter, operand: Meant) -> Result<Actual, Trouble>
-    ensures { Tells result (spec.given_as at parameter.access parameter.of operand) }
+fn given_as(at: u32, parameter: Formal, operand: Meant) -> Result<Actual, Trouble>
+    ensures { (t : ElanTypes) → parameter.shape ≡ shape_in t → Tells result (spec.given_as at parameter.access t operand) }
 {
     match parameter.access {
         Access::Const => Ok(Actual::Value(value_in(operand))),
         Access::Var => {
             let place = variable(at, operand)?;
-            Ok(Actual::Place(place, parameter.of.kind()))
+            Ok(Actual::Place(place, parameter.shape))
         }
     }
 }
@@ -48,26 +49,17 @@ fn given_as(at: u32, parameter: Parameter, operand: Meant) -> Result<Actual, Tro
 fn give(
     at: u32,
     actuals: Result<List<Actual>, Trouble>,
-    rest: &[Parameter],
+    rest: Parameters<'_>,
     operand: Meant,
 ) -> Result<List<Actual>, Trouble>
-    ensures { (given : Verdict (List Actuals)) → Tells actuals given → Tells result (walk.given_next at rest.now operand given) }
+    ensures { (given : Verdict (List Actuals)) → Tells actuals given → Tells result (walk.given_next at (seen.parameters rest.entry) operand given) }
 {
-    match rest {
-        [] => {
+    match rest.first() {
+        None => {
             operand.let_go();
             actuals
         }
-        [parameter, _others @ ..] => and(actuals, given_as(at, *parameter, operand)),
-    }
-}
-
-fn behind_first(parameters: &[Parameter]) -> &[Parameter]
-    ensures { result.now ≡ drop 1 parameters.now }
-{
-    match parameters {
-        [] => parameters,
-        [_first, others @ ..] => others,
+        Some(parameter) => and(actuals, given_as(at, parameter, operand)),
     }
 }
 
@@ -75,16 +67,16 @@ fn behind_first(parameters: &[Parameter]) -> &[Parameter]
 fn given(
     alloc: Global,
     at: u32,
-    parameters: &[Parameter],
+    parameters: Parameters<'_>,
     operands: List<Meant>,
 ) -> Result<List<Actual>, Trouble>
-    ensures { Tells result (spec.given at parameters.now operands) }
+    ensures { Tells result (spec.given at (seen.parameters parameters.entry) operands) }
 {
     let mut actuals = Ok(List::new(alloc));
     let mut rest = parameters;
     for operand in operands.into_vec() {
         actuals = give(at, actuals, rest, operand);
-        rest = behind_first(rest);
+        rest = rest.behind_first();
     }
     actuals
 }
@@ -99,7 +91,10 @@ fn add_value(
 {
     match actual {
         Actual::Value(value) => pushed(values, Ok(value)),
-        Actual::Place(_place, _kind) => values,
+        Actual::Place(place, _shape) => {
+            place.let_go();
+            values
+        }
     }
 }
 
@@ -114,17 +109,20 @@ fn values_in(alloc: Global, actuals: List<Actual>) -> Result<List<ValuePhrase>, 
 }
 
 // The result of an operation.
-fn operated(
-    alloc: Global,
-    at: u32,
-    operation: Operation,
-    of: ElanType,
-    actuals: List<Actual>,
-) -> Judged
-    ensures { Tells result (spec.performed at (callees.Predefined (names.Operation operation)) (Some of) actuals) }
+fn operated(alloc: Global, at: u32, operation: Operation, actuals: List<Actual>) -> Judged
+    ensures { Tells result (spec.performed at (callees.Predefined (names.Operation operation)) (Some (type_in (result_kind operation))) actuals) }
 {
     let values = values_in(alloc, actuals)?;
+    let of = ElanType::of_kind(operation.result_kind());
     delivering(alloc, at, of, ValuePhrase::Apply(operation, values))
+}
+
+// The phrase goes by a call of its own.
+fn let_go(actual: Actual) {
+    match actual {
+        Actual::Value(value) => value.let_go(),
+        Actual::Place(place, _shape) => place.let_go(),
+    }
 }
 
 #[tactic(auto, using(crate::proofs::Given::changed_is))]
@@ -134,9 +132,17 @@ fn changed(alloc: Global, at: u32, change: Change, actuals: List<Actual>) -> Jud
     match two_of(actuals) {
         None => Err(Trouble::Breaks(at, Why::WrongType)),
         Some((first, second)) => match first {
-            Actual::Value(_value) => Err(Trouble::Breaks(at, Why::WrongType)),
-            Actual::Place(place, _kind) => match second {
-                Actual::Place(_other, _kind) => Err(Trouble::Breaks(at, Why::WrongType)),
+            Actual::Value(value) => {
+                value.let_go();
+                let_go(second);
+                Err(Trouble::Breaks(at, Why::WrongType))
+            }
+            Actual::Place(place, _shape) => match second {
+                Actual::Place(other, _shape) => {
+                    place.let_go();
+                    other.let_go();
+                    Err(Trouble::Breaks(at, Why::WrongType))
+                }
                 Actual::Value(value) => done(alloc, Action::Modify(change, place, value)),
             },
         },
@@ -159,47 +165,38 @@ fn stopped(alloc: Global, at: u32, actuals: List<Actual>) -> Judged
 {
     match one_of(actuals) {
         None => Err(Trouble::Breaks(at, Why::WrongType)),
-        Some(Actual::Place(_place, _kind)) => Err(Trouble::Breaks(at, Why::WrongType)),
+        Some(Actual::Place(place, _shape)) => {
+            place.let_go();
+            Err(Trouble::Breaks(at, Why::WrongType))
+        }
         Some(Actual::Value(value)) => done(alloc, Action::ErrorStop(value)),
     }
 }
 
-fn predefined(
-    alloc: Global,
-    at: u32,
-    callee: Predefined,
-    result_type: Option<ElanType>,
-    actuals: List<Actual>,
-) -> Judged
-    ensures { Tells result (spec.performed at (callees.Predefined callee) result_type actuals) }
+fn predefined(alloc: Global, at: u32, callee: Predefined, actuals: List<Actual>) -> Judged
+    ensures { Tells result (spec.performed at (callees.Predefined callee) (table.result callee) actuals) }
 {
     match callee {
-        Predefined::Operation(operation) => match result_type {
-            None => Err(Trouble::Breaks(at, Why::WrongType)),
-            Some(of) => operated(alloc, at, operation, of, actuals),
-        },
+        Predefined::Operation(operation) => operated(alloc, at, operation, actuals),
         Predefined::Change(change) => changed(alloc, at, change, actuals),
         Predefined::Request(name) => done(alloc, Action::Ask(name, actuals)),
         Predefined::ErrorStop => stopped(alloc, at, actuals),
     }
 }
 
-fn performed(
-    alloc: Global,
-    at: u32,
-    callee: Callee,
-    result_type: Option<ElanType>,
-    actuals: List<Actual>,
-) -> Judged
-    ensures { Tells result (spec.performed at callee result_type actuals) }
+fn performed(alloc: Global, at: u32, called: Called<'_>, actuals: List<Actual>) -> Judged
+    ensures { Tells result (spec.performed at (seen.callee called.entry) (seen.result called.entry) actuals) }
 {
-    match (callee, result_type) {
-        (Callee::Predefined(callee), result_type) => {
-            predefined(alloc, at, callee, result_type, actuals)
-        }
-        (Callee::Body(number), None) => done(alloc, Action::Call(number, actuals)),
-        (Callee::Body(number), Some(of)) => {
-            delivering(alloc, at, of, ValuePhrase::Call(number, actuals, of.kind()))
+    match called {
+        Called::Predefined(callee) => predefined(alloc, at, callee, actuals),
+        Called::Body(number, _, None) => done(alloc, Action::Call(number, actuals)),
+        Called::Body(number, _, Some(of)) => {
+            delivering_as(
+                alloc,
+                at,
+                of,
+                ValuePhrase::Call(number, actuals, of.shape()),
+            )
         }
     }
 }
@@ -208,8 +205,8 @@ fn performed(
 pub fn called(alloc: Global, at: u32, callable: Callable<'_>, operands: List<Meant>) -> Judged
     ensures { Tells result (spec.called at (seen.callable callable.entry) operands) }
 {
-    let actuals = given(alloc, at, callable.parameters, operands)?;
-    performed(alloc, at, callable.callee, callable.result, actuals)
+    let actuals = given(alloc, at, callable.what.parameters(), operands)?;
+    performed(alloc, at, callable.what, actuals)
 }
 
 /// An operator with its operands, or an identifier with its actuals. It hangs on a type that has no meaning, where that could take

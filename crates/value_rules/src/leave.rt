@@ -1,6 +1,8 @@
 //! LEAVE.
 
 ghost use Rattle.std.specs.Prelude.{◌≡◌, ◌∷◌, []};
+ghost use Rattle.std.specs.Option.{option_map_or};
+ghost use Rattle.elan_scope.specs.declared.delivery.Delivery.TheVariants as deliver;
 ghost use Rattle.elan_types.specs.declared.core_phrase.Action.TheVariants as leaves;
 ghost use Rattle.elan_meant.specs.declared.meant.Meant.TheVariants as means;
 ghost use Rattle.value_rules.specs.Calls as spec;
@@ -21,15 +23,15 @@ use elan_types::{Action, Exit, Why};
 use std::alloc::Global;
 
 // Nothing is asked of the value where it is not known what is left.
-fn agrees(delivery: Delivery, value: &Meant) -> bool
-    ensures { result ≡ spec.agrees delivery value.now }
+fn agrees(delivery: Option<&Delivery>, value: &Meant) -> bool
+    ensures { result ≡ spec.agrees (option_map_or (λ d. d.now) delivery.entry deliver.Open) value.now }
 {
     match (delivery, value) {
-        (Delivery::Open, Meant::Absent) => true,
-        (Delivery::Open, Meant::Variable { .. }) => true,
-        (Delivery::Open, Meant::Value { .. }) => true,
-        (Delivery::Nothing, Meant::Absent) => true,
-        (Delivery::Of(of), value) => delivers(of, value),
+        (None | Some(Delivery::Open), Meant::Absent) => true,
+        (None | Some(Delivery::Open), Meant::Variable { .. }) => true,
+        (None | Some(Delivery::Open), Meant::Value { .. }) => true,
+        (Some(Delivery::Nothing), Meant::Absent) => true,
+        (Some(Delivery::Of(of)), value) => delivers(of, value),
         _ => false,
     }
 }
@@ -38,7 +40,10 @@ fn leave_of(exit: Exit, value: Meant) -> Action
     ensures { result ≡ walk.leave_of exit value }
 {
     match type_in(&value) {
-        Some(of) => Action::LeaveWith(exit, of.kind(), value_in(value)),
+        Some(of) => {
+            let shape = of.shape();
+            Action::LeaveWith(exit, shape, value_in(value))
+        }
         None => {
             value.let_go();
             Action::Leave(exit)
@@ -54,8 +59,8 @@ fn leave_unit(alloc: Global, action: Action) -> Judged
     Ok(Meant::Left(units))
 }
 
-fn leave_as(alloc: Global, at: u32, exit: Exit, delivery: Delivery, value: Meant) -> Judged
-    ensures { Tells result (walk.leave_as at exit delivery value) }
+fn leave_as(alloc: Global, at: u32, exit: Exit, delivery: Option<&Delivery>, value: Meant) -> Judged
+    ensures { Tells result (walk.leave_as at exit (option_map_or (λ d. d.now) delivery.entry deliver.Open) value) }
 {
     if agrees(delivery, &value) {
         leave_unit(alloc, leave_of(exit, value))

@@ -1,6 +1,8 @@
 //! Identifiers without actuals, and names in their declarations.
 
-ghost use Rattle.std.specs.Prelude.{◌≡◌, []};
+ghost use Rattle.std.specs.Prelude.{◌≡◌, [], option_map};
+ghost use Rattle.std.specs.Option.{option_map_or};
+ghost use Rattle.elan_scope.specs.declared.delivery.Delivery.TheVariants as deliver;
 ghost use Rattle.elan_types.specs.declared.core_phrase.Access.TheVariants as accesses;
 ghost use Rattle.elan_meant.specs.declared.meant.Meant.TheVariants as means;
 ghost use Rattle.value_rules.specs.Calls as spec;
@@ -11,7 +13,7 @@ ghost use Rattle.elan_meant.specs.Verdict.{gives, told, unless, Tells};
 use crate::call::applied_alone;
 use crate::value::denoter;
 use elan_meant::meant::Meant;
-use elan_meant::part::{delivering, done};
+use elan_meant::part::{delivering_as, done};
 use elan_meant::row::Judged;
 use elan_scope::callable::{has_open, is_open_result};
 use elan_scope::delivery::Delivery;
@@ -50,25 +52,26 @@ impl Held {
     }
 }
 
-fn variable(at: u32, of: ElanType, held: Held) -> Meant
-    ensures { result ≡ means.Variable at of (spec.place_in held.home held.number held.access) }
+fn variable(alloc: Global, at: u32, of: &ElanType, held: Held) -> Judged
+    ensures { Tells result (gives (means.Variable at of.now (spec.place_in held.home held.number held.access))) }
 {
-    Meant::Variable {
+    let of = of.try_clone(alloc)?;
+    Ok(Meant::Variable {
         at,
         of,
         place: held.place(),
-    }
+    })
 }
 
-fn constant(alloc: Global, at: u32, of: ElanType, held: Held) -> Judged
-    ensures { Tells result (gives (spec.constant at of (spec.place_in held.home held.number held.access))) }
+fn constant(alloc: Global, at: u32, of: &ElanType, held: Held) -> Judged
+    ensures { Tells result (gives (spec.constant at of.now (spec.place_in held.home held.number held.access))) }
 {
-    delivering(alloc, at, of, ValuePhrase::Load(held.place(), of.kind()))
+    delivering_as(alloc, at, of, ValuePhrase::Load(held.place(), of.shape()))
 }
 
 // A CONST parameter is a constant, a VAR parameter a variable.
-fn parameter(alloc: Global, at: u32, home: Home, number: usize, parameter: Parameter) -> Judged
-    ensures { Tells result (gives (spec.parameter at parameter.of parameter.access (spec.place_in home number parameter.access))) }
+fn parameter(alloc: Global, at: u32, home: Home, number: usize, parameter: &Parameter) -> Judged
+    ensures { Tells result (gives (spec.parameter at parameter.now.of parameter.now.access (spec.place_in home number parameter.now.access))) }
 {
     let held = Held {
         home,
@@ -76,21 +79,23 @@ fn parameter(alloc: Global, at: u32, home: Home, number: usize, parameter: Param
         access: parameter.access,
     };
     match parameter.access {
-        Access::Const => constant(alloc, at, parameter.of, held),
-        Access::Var => Ok(variable(at, parameter.of, held)),
+        Access::Const => constant(alloc, at, &parameter.of, held),
+        Access::Var => variable(alloc, at, &parameter.of, held),
     }
 }
 
 // ---- refinements
 
 // Where it is not known what a refinement delivers, a call of it hangs on that.
-fn referred(alloc: Global, at: u32, number: usize, delivery: Delivery) -> Judged
-    ensures { Is result (spec.referred at number delivery) }
+fn referred(alloc: Global, at: u32, number: usize, delivery: Option<&Delivery>) -> Judged
+    ensures { Is result (spec.referred at number (option_map_or (λ d. d.now) delivery.entry deliver.Open)) }
 {
     match delivery {
-        Delivery::Open => Err(Trouble::Hangs),
-        Delivery::Nothing => done(alloc, Action::Refer(number)),
-        Delivery::Of(of) => delivering(alloc, at, of, ValuePhrase::Refer(number, of.kind())),
+        None | Some(Delivery::Open) => Err(Trouble::Hangs),
+        Some(Delivery::Nothing) => done(alloc, Action::Refer(number)),
+        Some(Delivery::Of(of)) => {
+            delivering_as(alloc, at, of, ValuePhrase::Refer(number, of.shape()))
+        }
     }
 }
 
@@ -160,9 +165,9 @@ fn denoted(
         return Err(Trouble::Hangs);
     }
     match found.denotes {
-        Denotes::Variable(of) => Ok(variable(at, *of, plainly_held(found))),
-        Denotes::Constant(of) => constant(alloc, at, *of, plainly_held(found)),
-        Denotes::Parameter(given) => parameter(alloc, at, found.home, found.number, *given),
+        Denotes::Variable(of) => variable(alloc, at, of, plainly_held(found)),
+        Denotes::Constant(of) => constant(alloc, at, of, plainly_held(found)),
+        Denotes::Parameter(given) => parameter(alloc, at, found.home, found.number, given),
         Denotes::Procedure => applied_alone(alloc, at, scope, name),
         Denotes::Refinement => refined_as(alloc, known, usage, at, scope, name),
         Denotes::Denoter(written) => denoter(alloc, at, written),
@@ -207,7 +212,9 @@ fn declared_as(alloc: Global, at: u32, found: Found<'_>) -> Judged
     ensures { Tells result (gives (spec.declared_as at found.entry.home found.entry.number found.entry.denotes.now)) }
 {
     match found.denotes {
-        Denotes::Variable(of) | Denotes::Constant(of) => Ok(variable(at, *of, plainly_held(found))),
+        Denotes::Variable(of) | Denotes::Constant(of) => {
+            variable(alloc, at, of, plainly_held(found))
+        }
         Denotes::Parameter(_) | Denotes::Procedure | Denotes::Refinement | Denotes::Denoter(_) =>
             Ok(Meant::Done(List::new(alloc))),
     }
@@ -267,10 +274,10 @@ pub fn heading(
     at: u32,
     scope: &Scope,
     of: Headed<'_>,
-    delivered: Option<ElanType>,
+    delivered: Option<&ElanType>,
     missing: bool,
 ) -> Judged
-    ensures { Is result (spec.heading_ruled at of.entry.parameters.now delivered missing
+    ensures { Is result (spec.heading_ruled at of.entry.parameters.now (option_map (λ t. t.now) delivered.entry) missing
         (scopes.first_heading (scopes.is_alike of.entry.sort of.entry.name.now (scopes.types_of of.entry.parameters.now)) scope.now.headings)) }
 {
     let open = has_open(of.parameters);

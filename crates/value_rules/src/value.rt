@@ -10,15 +10,13 @@ ghost use Rattle.value_rules.specs.walks.Steps as walk;
 ghost use Rattle.elan_meant.specs.Verdict.{gives, Tells};
 
 use elan_meant::meant::Meant;
-use elan_meant::operands::delivers;
+use elan_meant::operands::delivers_kind;
 use elan_meant::part::{delivering, value_of};
 use elan_meant::row::{Judged, both};
 use elan_scope::denoter::Denoter;
-use elan_scope::scope::Scope;
 use elan_scope::trouble::Trouble;
-use elan_scope::type_name::concrete;
 use elan_types::{ElanType, ValuePhrase, Why};
-use eu_base::{Boxed, Bytes, TEXT_BYTES};
+use eu_base::{Boxed, Bytes, Kind, TEXT_BYTES};
 use std::alloc::Global;
 
 /// A number that is written.
@@ -63,12 +61,10 @@ pub fn bracketed(alloc: Global, at: u32, meant: Meant) -> Judged
     ensures { Tells result (gives (spec.bracketed at meant)) }
 {
     match meant {
-        Meant::Variable { at: _at, of, place } => delivering(
-            alloc,
-            at,
-            of,
-            ValuePhrase::Load(place, of.kind()),
-        ),
+        Meant::Variable { at: _at, of, place } => {
+            let shape = of.shape();
+            delivering(alloc, at, of, ValuePhrase::Load(place, shape))
+        }
         Meant::Value { at: _at, of, value } => Ok(Meant::Value { at, of, value }),
         other => Ok(other),
     }
@@ -103,7 +99,7 @@ fn decided(alloc: Global, at: u32, stop: bool, left: Meant, right: Meant) -> Jud
 fn of_truths(alloc: Global, at: u32, stop: bool, left: Meant, right: Meant) -> Judged
     ensures { Tells result (walk.of_truths at stop left right) }
 {
-    if delivers(ElanType::Bool, &left) && delivers(ElanType::Bool, &right) {
+    if delivers_kind(Kind::Truth, &left) && delivers_kind(Kind::Truth, &right) {
         decided(alloc, at, stop, left, right)
     } else {
         left.let_go();
@@ -127,28 +123,24 @@ pub fn cor(alloc: Global, at: u32, left: Meant, right: Meant) -> Judged
 }
 
 /// CONCR: the same place or value, as of the concrete type of one of the text's own.
-pub fn concr(at: u32, scope: &Scope, meant: Meant) -> Judged
-    ensures { Tells result (spec.concr at scope.now meant) }
+pub fn concr(at: u32, meant: Meant) -> Judged
+    ensures { Tells result (spec.concr at meant) }
 {
     match meant {
-        Meant::Variable {
-            at: _at,
-            of: ElanType::Own(own),
-            place,
-        } => Ok(Meant::Variable {
-            at,
-            of: concrete(scope.types.as_slice(), own),
-            place,
-        }),
-        Meant::Value {
-            at: _at,
-            of: ElanType::Own(own),
-            value,
-        } => Ok(Meant::Value {
-            at,
-            of: concrete(scope.types.as_slice(), own),
-            value,
-        }),
+        Meant::Variable { at: _at, of, place } => match of.into_concrete() {
+            Some(of) => Ok(Meant::Variable { at, of, place }),
+            None => {
+                place.let_go();
+                Err(Trouble::Breaks(at, Why::WrongType))
+            }
+        },
+        Meant::Value { at: _at, of, value } => match of.into_concrete() {
+            Some(of) => Ok(Meant::Value { at, of, value }),
+            None => {
+                value.into_inner().let_go();
+                Err(Trouble::Breaks(at, Why::WrongType))
+            }
+        },
         other => {
             other.let_go();
             Err(Trouble::Breaks(at, Why::WrongType))

@@ -6,11 +6,19 @@ use Rattle.elan_tree.specs.declared.written_type.Label.{Label}
 use Rattle.elan_tree.specs.declared.phrase.Expr.{Expr}
 use Rattle.elan_tree.specs.declared.phrase.Counter.{Counter}
 use Rattle.elan_scope.specs.declared.delivery.Delivery.{Delivery}
-use Rattle.elan_scope.specs.declared.delivery.Delivery.TheVariants.{Nothing}
+use Rattle.elan_scope.specs.declared.delivery.Delivery.TheVariants.{Open, Nothing, Of}
 use Rattle.elan_scope.specs.declared.scope.Scope.{Scope}
 use Rattle.elan_scope.specs.Phrase as form
 use Rattle.elan_scope.specs.Phrase.{Phrase, row, leaf, pair}
+use Rattle.elan_judge.specs.declared.role.Wanted.{Wanted}
+use Rattle.elan_judge.specs.declared.role.Wanted.TheVariants as wants
 use Rattle.elan_judge.specs.Shape.{role, all_empty, Counted, number, label_phrases, expr, counter}
+
+-- what the last unit of a list is asked for, as the definitions have it
+abbrev pub wanted : Wanted → Delivery
+wanted wants.Open = Open
+wanted wants.Nothing = Nothing
+wanted (wants.Of t) = Of t.now
 
 abbrev pub is_empty : Option Phrase → Bool
 is_empty u = is_none u

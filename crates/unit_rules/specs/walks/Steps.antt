@@ -1,19 +1,28 @@
 -- Steps of the code. No definition of meaning needs them.
 use Rattle.std.specs.Prelude.{pos, Bool, ◌&&◌, List, [], ◌∷◌, Option}
 use Rattle.std.specs.Option.{unwrap_or}
+use Rattle.eu_base.specs.declared.shape.Shape.{Shape}
+use Rattle.elan_types.specs.declared.elan_type.ElanType.{ElanType}
 use Rattle.elan_types.specs.declared.elan_type.ElanType.TheVariants.{Int}
+use Rattle.elan_types.specs.Types.{shape_in}
 use Rattle.elan_types.specs.declared.core_phrase.ValuePhrase.{ValuePhrase}
 use Rattle.elan_types.specs.declared.core_phrase.ValuePhrase.TheVariants as value
 use Rattle.elan_types.specs.declared.core_phrase.Action.TheVariants as action
 use Rattle.elan_meant.specs.declared.meant.Meant.{Meant}
 use Rattle.elan_meant.specs.declared.meant.Meant.TheVariants.{Done}
 use Rattle.elan_scope.specs.Ruled.{Ruled, gives, ◌>>=◌}
+use Rattle.elan_meant.specs.Verdict.{Verdict}
+use Rattle.elan_meant.specs.Verdict as verdict
 use Rattle.elan_meant.specs.Operands.{delivers}
 use Rattle.elan_meant.specs.Parts.{actions, may_deliver, written, unit_of}
 
 -- nothing is done where parts have meaning
 abbrev pub nothing_done : Ruled (List Meant) → Ruled Meant
 nothing_done parts = parts >>= (λ ms. gives (Done []))
+
+-- the shape of the type that two phrases deliver
+abbrev pub agreed_shape : Verdict ElanType → Verdict Shape
+agreed_shape q = verdict.◌>>=◌ q (λ t. verdict.gives (shape_in t))
 
 abbrev pub uncounted : Meant → Meant → Meant → Meant
 uncounted c us u = unit_of (action.Loop (written c) (actions us) (written u) ∷ [])

@@ -1,8 +1,8 @@
-use Rattle.std.proofs.Common.{rules, arith, ℕ, ℤ, ◌≡◌, ◌++◌, ◌∷◌, ◌∙◌, List, [], map, take, Ok, Err, Option, Some, None, ap, sym, subst}
+use Rattle.std.proofs.Common.{rules, arith, ℕ, ℤ, ◌≡◌, ◌++◌, ◌∷◌, ◌∙◌, List, [], map, take, Ok, Err, Option, Some, None, option_map, ap, sym, subst}
 use Rattle.elan_tree.specs.declared.phrase.Counter.{Counter}
 use Rattle.elan_tree.specs.declared.phrase.Expr.TheViews.{size-Expr, size-Unit, size_is-Branch, sized-Select, sized-Loop, weight-Expr-If-2}
 use Rattle.std.proofs.lemmas.List.{append-nil}
-use Rattle.elan_scope.specs.declared.delivery.Delivery.{Delivery}
+use Rattle.elan_judge.specs.declared.role.Wanted.{Wanted}
 use Rattle.elan_scope.specs.declared.delivery.Delivery.TheVariants.{Open, Nothing}
 use Rattle.unit_rules.specs.Units as units
 use Rattle.elan_scope.specs.Answer.{Is}
@@ -284,30 +284,30 @@ judge_unit-returns-in-Some t c =
 pub judge_role-returns-in_ok-meant-in-Of : goal.judge_role-returns-in_ok-meant-in-Of
 judge_role-returns-in_ok-meant-in-Of t c =
     let p = shape.written (shape.unit c.args.scope.now c.args.unit.now) in
-    subst (λ (d : Delivery). Is c.must_deliver.result (judged c.args.known.now (shape.role d p))) (sym c.in-Of.is)
-    (one_is c.args.known.now (form.place p) (form.must_deliver c.in-Of.of) p c.must_deliver.result c.in_ok-meant-in-Of.meant c.in_ok-meant-in-Of.ensures
-    (subst (λ (a : ℕ). Tells c.must_deliver.result (units.must_deliver a c.in-Of.of c.in_ok-meant-in-Of.meant)) (c.unit_place.ensures c.args.scope.now)
+    subst (λ (d : Wanted). Is c.must_deliver.result (judged c.args.known.now (shape.role (walk.wanted d) p))) (sym c.in-Of.is)
+    (one_is c.args.known.now (form.place p) (form.must_deliver c.in-Of.of.now) p c.must_deliver.result c.in_ok-meant-in-Of.meant c.in_ok-meant-in-Of.ensures
+    (subst (λ (a : ℕ). Tells c.must_deliver.result (units.must_deliver a c.in-Of.of.now c.in_ok-meant-in-Of.meant)) (c.unit_place.ensures c.args.scope.now)
     c.must_deliver.ensures))
 
 pub add_role-returns-in-None : goal.add_role-returns-in-None
 add_role-returns-in-None t c = λ done h.
     let p = shape.written (shape.unit c.args.scope.now c.args.unit.now) in
-    subst (λ (o : Option Delivery). Is c.args.row (judged_all c.args.known.now (all_of (done ++ walk.in_role o p)))) (sym c.in-None.is)
+    subst (λ (o : Option Wanted). Is c.args.row (judged_all c.args.known.now (all_of (done ++ walk.in_role (option_map walk.wanted o) p)))) (sym c.in-None.is)
     (subst (λ (ps : List Phrase). Is c.args.row (judged_all c.args.known.now (all_of ps))) (sym (append-nil done)) h)
 
 pub add_role-returns-in-Some : goal.add_role-returns-in-Some
 add_role-returns-in-Some t c = λ done h.
     let p = shape.written (shape.unit c.args.scope.now c.args.unit.now) in
-    subst (λ (o : Option Delivery). Is c.with.result (judged_all c.args.known.now (all_of (done ++ walk.in_role o p)))) (sym c.in-Some.is)
-    (row_is c.args.known.now c.with.result done (shape.role c.in-Some.wanted p)
-    (c.with.ensures (judged_all c.args.known.now (all_of done)) (judged c.args.known.now (shape.role c.in-Some.wanted p)) h c.judge_role.ensures))
+    subst (λ (o : Option Wanted). Is c.with.result (judged_all c.args.known.now (all_of (done ++ walk.in_role (option_map walk.wanted o) p)))) (sym c.in-Some.is)
+    (row_is c.args.known.now c.with.result done (shape.role (walk.wanted c.in-Some.wanted) p)
+    (c.with.ensures (judged_all c.args.known.now (all_of done)) (judged c.args.known.now (shape.role (walk.wanted c.in-Some.wanted) p)) h c.judge_role.ensures))
 
 pub judge_roles-loop-i-preserved : goal.judge_roles-loop-i-preserved
 judge_roles-loop-i-preserved t c =
-    roles_go c.args.known.now c.args.scope.now c.args.wanted c.loop-i.row c.add_role-row.result c.args.units.now c.loop-i.i c.index-units-i.result
-    c.asked-role.result _ c.loop-i-test.true c.index-units-i.is
+    roles_go c.args.known.now c.args.scope.now (walk.wanted c.args.wanted) c.loop-i.row c.add_role-row.result c.args.units.now c.loop-i.i c.index-units-i.result
+    (option_map walk.wanted c.asked-role.result) _ c.loop-i-test.true c.index-units-i.is
     (c.asked-role.ensures c.args.scope.now) c.add_role-row.ensures c.loop-i.invariant
 
 pub judge_roles-returns : goal.judge_roles-returns
 judge_roles-returns t c =
-    roles_end c.args.known.now c.args.scope.now c.args.wanted c.loop-i.row c.args.units.now c.loop-i.i _ c.loop-i-test.false c.loop-i.invariant
+    roles_end c.args.known.now c.args.scope.now (walk.wanted c.args.wanted) c.loop-i.row c.args.units.now c.loop-i.i _ c.loop-i-test.false c.loop-i.invariant

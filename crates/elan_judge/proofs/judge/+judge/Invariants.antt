@@ -3,6 +3,7 @@ use Rattle.elan_scope.specs.Answer.{Is}
 use Rattle.elan_rules.specs.Meaning.{judged_all}
 use Rattle.elan_scope.specs.Phrase.{all_of}
 use Rattle.elan_judge.specs.Shape.{expr, item}
+use Rattle.elan_judge.specs.walks.Steps.{wanted}
 use Rattle.elan_judge.proofs.Rows.{Grown, left_roles, left_branches, left_cases}
 use Rattle.elan_judge.proofs.judge.+judge.Given as goal
 
@@ -21,4 +22,4 @@ invariant-judge_cases-loop-case l =
     Grown l.known l.row (left_cases l.known l.scope l.earlier (drop l.case-index l.cases)) (left_cases l.known l.scope [] l.cases)
 
 abbrev pub invariant-judge_roles-loop-i : goal.invariant-judge_roles-loop-i
-invariant-judge_roles-loop-i l = Grown l.known l.row (left_roles l.known l.scope l.wanted (drop l.i l.units)) (left_roles l.known l.scope l.wanted l.units)
+invariant-judge_roles-loop-i l = Grown l.known l.row (left_roles l.known l.scope (wanted l.wanted) (drop l.i l.units)) (left_roles l.known l.scope (wanted l.wanted) l.units)

@@ -9,6 +9,6 @@ use Rattle.elan_levels.proofs.bodies.for_each.Goals as goal
 pub returns : goal.returns
 returns c =
     sym (append-nil c.loop-name.out)
-    ∙ sym (at_drop_all (λ (ns : List Name). c.loop-name.out ++ all_held (named_as ns (denotes.Parameter c.args.parameter)))
+    ∙ sym (at_drop_all (λ (ns : List Name). c.loop-name.out ++ all_held (named_as ns (denotes.Parameter c.args.parameter.now)))
     c.args.names.now c.loop-name._name-index c.loop-name-test.false)
-    ∙ c.loop-name.invariant.1
+    ∙ c.loop-name.invariant

@@ -6,6 +6,5 @@ use Rattle.elan_levels.proofs.bodies.for_each.Given as goal
 
 abbrev pub invariant-loop-name : goal.invariant-loop-name
 invariant-loop-name l =
-    (l.parameter ≡ l.fn.parameter)
-    × (l.out ++ all_held (named_as (drop l._name-index l.names) (denotes.Parameter l.fn.parameter))
-    ≡ l.fn.out ++ all_held (named_as l.names (denotes.Parameter l.fn.parameter)))
+    l.out ++ all_held (named_as (drop l._name-index l.names) (denotes.Parameter l.parameter))
+    ≡ l.fn.out ++ all_held (named_as l.names (denotes.Parameter l.parameter))

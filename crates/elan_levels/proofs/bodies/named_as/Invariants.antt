@@ -5,9 +5,8 @@ use Rattle.elan_levels.proofs.bodies.named_as.Given as goal
 
 abbrev pub invariant-loop-name : goal.invariant-loop-name
 invariant-loop-name l =
-    (l.parameter ≡ l.fn.parameter)
-    × (l.out.wanted ≡ false
+    l.out.wanted ≡ false
     → (l.fn.out.wanted ≡ false)
-    × (l.out.entries ++ named_as (drop l.name-index l.names) (denotes.Parameter l.fn.parameter) ≡ l.fn.out.entries ++ named_as l.names (denotes.Parameter l.fn.parameter))
+    × (l.out.entries ++ named_as (drop l.name-index l.names) (denotes.Parameter l.parameter) ≡ l.fn.out.entries ++ named_as l.names (denotes.Parameter l.parameter))
     × (l.out.here.now ≡ l.fn.out.here.now)
-    × (l.out.around.now ≡ l.fn.out.around.now))
+    × (l.out.around.now ≡ l.fn.out.around.now)

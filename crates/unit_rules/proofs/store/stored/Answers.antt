@@ -6,5 +6,5 @@ returns-in-Err c = stored_fails c.args.at c.args.left c.args.right c.in-Err.trou
 
 pub returns-in-Ok-variable : goal.returns-in-Ok-variable
 returns-in-Ok-variable c =
-    rw c.kind.ensures (rw c.value_in.ensures
-    (stored_is c.args.at c.args.left c.args.right c.in-Ok.of c.in-Ok-variable.place c.in-Ok.ensures c.in-Ok-variable.ensures))
+    rw c.value_in.ensures
+    (stored_is c.args.at c.args.left c.args.right c.in-Ok.shape c.in-Ok-variable.place c.in-Ok.ensures c.in-Ok-variable.ensures)

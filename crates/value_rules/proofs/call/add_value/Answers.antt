@@ -14,4 +14,4 @@ returns-in-Value c =
 pub returns-in-Place : goal.returns-in-Place
 returns-in-Place c =
     λ done h. subst (λ (l : List ValuePhrase). IfOk c.args.values (λ (list : List ValuePhrase). list ≡ l))
-    (sym (ap (λ (a : Actual). values_in (done ++ a ∷ [])) c.in-Place.is ∙ place_more done c.in-Place._place c.in-Place._kind)) h
+    (sym (ap (λ (a : Actual). values_in (done ++ a ∷ [])) c.in-Place.is ∙ place_more done c.in-Place.place c.in-Place._shape)) h

@@ -1,16 +1,17 @@
-use Rattle.std.proofs.Common.{sym, subst}
-use Rattle.elan_scope.specs.declared.callable.Callee.TheVariants as callees
+use Rattle.std.proofs.Common.{None, sym, subst}
+use Rattle.elan_scope.specs.Callees as callees
 use Rattle.elan_scope.specs.declared.predefined.Predefined.{Predefined}
+use Rattle.elan_scope.specs.Predefined.{result}
 use Rattle.elan_meant.specs.Verdict.{Tells}
 use Rattle.value_rules.specs.Calls.{performed}
 use Rattle.value_rules.proofs.call.predefined.Goals as goal
 
 pub returns-in-Change : goal.returns-in-Change
 returns-in-Change c =
-    subst (λ (p : Predefined). Tells c.changed.result (performed c.args.at (callees.Predefined p) c.args.result_type c.args.actuals)) (sym c.in-Change.is)
-    (c.changed.ensures c.args.result_type)
+    subst (λ (p : Predefined). Tells c.changed.result (performed c.args.at (callees.Predefined p) (result p) c.args.actuals)) (sym c.in-Change.is)
+    (c.changed.ensures None)
 
 pub returns-in-ErrorStop : goal.returns-in-ErrorStop
 returns-in-ErrorStop c =
-    subst (λ (p : Predefined). Tells c.stopped.result (performed c.args.at (callees.Predefined p) c.args.result_type c.args.actuals)) (sym c.in-ErrorStop.is)
-    (c.stopped.ensures c.args.result_type)
+    subst (λ (p : Predefined). Tells c.stopped.result (performed c.args.at (callees.Predefined p) (result p) c.args.actuals)) (sym c.in-ErrorStop.is)
+    (c.stopped.ensures None)
