@@ -1,18 +1,18 @@
 -- The headings of a level, the units of its bodies, and the bodies of its meaning stand side by side.
 use Rattle.std.proofs.Common.{◌≡◌, ℕ, suc, ◌+◌, Bool, true, false, if◌then◌else◌, List, [], ◌∷◌, ◌++◌, map, length, Option, Some, None, refl, sym, ap, subst}
 use Rattle.elan_scope.specs.Scope.{types_of, variables_of}
-use Rattle.std.proofs.Common.{◌∙◌, arith}
-use Rattle.std.specs.Prelude.{slice_get, nat_eq}
+use Rattle.std.proofs.Common.{◌∙◌, arith, append_assoc}
+use Rattle.std.specs.Prelude.{slice_get, nat_eq, flat_map}
 use Rattle.elan_types.specs.declared.elan_type.ElanType.{ElanType}
 use Rattle.elan_types.specs.declared.elan_type.Parameter.{Parameter}
 use Rattle.elan_types.specs.declared.core_phrase.Scope.{Scope as Owner}
 use Rattle.elan_types.specs.declared.core_phrase.Scope.TheVariants as owner
 use Rattle.elan_types.specs.declared.core_phrase.Body.{Body}
-use Rattle.elan_types.specs.declared.why.Why.TheVariants.{Doubled, WrongType}
+use Rattle.elan_types.specs.declared.why.Why.TheVariants.{Doubled}
 use Rattle.eu_base.specs.declared.value.Kind.{Kind}
 use Rattle.elan_types.specs.declared.core_phrase.Formal as core
-use Rattle.elan_types.specs.declared.core_phrase.Access.TheVariants.{Const}
-use Rattle.elan_types.specs.Typing.{formal, frame_of, scope_of}
+use Rattle.elan_types.specs.Typing.{Held, OfKind, cells_of, frame_of, scope_of}
+use Rattle.elan_types.proofs.Shapes.{cell_is}
 use Rattle.elan_types.specs.Types.{held_const, kind_in, formal_of}
 use Rattle.elan_tree.specs.declared.written_type.Name.{Name}
 use Rattle.elan_tree.specs.declared.written_type.TypePhrase.{TypePhrase}
@@ -44,20 +44,22 @@ use Rattle.elan_scope.specs.Phrase.{plain, Phrase, phrase, Parts, none, part, al
 use Rattle.elan_scope.specs.Ruled.{Ruled, gives, before}
 use Rattle.elan_scope.specs.declared.delivery.Delivery.TheVariants.{Open}
 use Rattle.elan_scope.specs.Known.{delivered}
-use Rattle.elan_check.specs.Refinements.{stated}
+use Rattle.elan_bodies.specs.Refinements.{stated}
 use Rattle.elan_scope.specs.declared.known.Known.{Known}
 use Rattle.value_rules.specs.Calls as calls
 use Rattle.unit_rules.specs.Units as u
 use Rattle.elan_meant.specs.Verdict as verdict
 use Rattle.elan_rules.specs.Rules.{ruled}
 use Rattle.elan_judge.specs.Shape as shape
-use Rattle.elan_check.specs.Level as l
+use Rattle.elan_bodies.specs.Level as l
 use Rattle.elan_rules.specs.Meaning.{judged, judged_all}
 use Rattle.elan_rules.proofs.First.{bind_gives, before_gives, gives_is}
 use Rattle.elan_judge.proofs.InScope.{InScope, body_units_in}
+use Rattle.elan_bodies.proofs.Inferred.{unless_gives}
 use Rattle.elan_levels.proofs.Held.{held_append}
 use Rattle.elan_levels.proofs.OwnNames.{own_held}
 use Rattle.elan_rules.proofs.TypedPerformed.{owner_with}
+use Rattle.elan_rules.proofs.TypedCalls.{held_cells}
 
 -- ---- lists
 
@@ -74,31 +76,32 @@ split kn (x ∷ xs) ys ms e =
       q.4 ∙ ap (λ (ns : List Meant). q.0 ∷ ns) r.4,
     )
 
-append_assoc' : {A : Type 0} (xs ys zs : List A) → xs ++ ys ++ zs ≡ xs ++ (ys ++ zs)
-append_assoc' [] ys zs = refl
-append_assoc' (x ∷ xs) ys zs = ap (λ l. x ∷ l) (append_assoc' xs ys zs)
-
 pub bodies_append : (ms ns : List Meant) → u.bodies_of (ms ++ ns) ≡ u.bodies_of ms ++ u.bodies_of ns
 bodies_append [] ns = refl
 bodies_append (m ∷ ms) ns =
-    ap (λ (bs : List Body). u.bodies_in m ++ bs) (bodies_append ms ns) ∙ sym (append_assoc' (u.bodies_in m) (u.bodies_of ms) (u.bodies_of ns))
+    ap (λ (bs : List Body). u.bodies_in m ++ bs) (bodies_append ms ns) ∙ sym (append_assoc (u.bodies_in m) (u.bodies_of ms) (u.bodies_of ns))
 
--- the frame of a body has what its names hold
-formals_append : (ps qs : List Parameter) → map formal_of (ps ++ qs) ≡ map formal_of ps ++ map formal_of qs
-formals_append [] qs = refl
-formals_append (p ∷ ps) qs = ap (λ (fs : List core.Formal). formal_of p ∷ fs) (formals_append ps qs)
+-- the frame of a body has the cells of what its names hold
+abbrev cells : List Parameter → List Held
+cells ps = flat_map cells_of (map formal_of ps)
 
-const_formals : (ts : List ElanType) → map formal_of (map held_const ts) ≡ map (formal Const) (map kind_in ts)
-const_formals [] = refl
-const_formals (t ∷ ts) = ap (λ (fs : List core.Formal). formal Const (kind_in t) ∷ fs) (const_formals ts)
+cells_append : (ps qs : List Parameter) → cells (ps ++ qs) ≡ cells ps ++ cells qs
+cells_append [] qs = refl
+cells_append (p ∷ ps) qs =
+    ap (λ (hs : List Held). cells_of (formal_of p) ++ hs) (cells_append ps qs) ∙ sym (append_assoc (cells_of (formal_of p)) (cells ps) (cells qs))
 
-frame_held : (ts : List TypeName) (fs : List Formal) (w : Written) → frame_of (frame ts fs w) ≡ map formal_of (all_held (body_names ts fs w))
+const_cells : (ts : List ElanType) → cells (map held_const ts) ≡ map OfKind (map kind_in ts)
+const_cells [] = refl
+const_cells (t ∷ ts) =
+    ap (λ (ks : List Kind). map OfKind ks ++ cells (map held_const ts)) (cell_is (kind_in t))
+    ∙ ap (λ (hs : List Held). OfKind (kind_in t) ∷ hs) (const_cells ts)
+
+frame_held : (ts : List TypeName) (fs : List Formal) (w : Written) → frame_of (frame ts fs w) ≡ held_cells (body_names ts fs w)
 frame_held ts fs w =
     let here = body_types ts w ++ ts in
     let us = types_of (all_held (own_names here w)) in
-    ap (λ (gs : List core.Formal). map formal_of (parameters ts fs) ++ gs) (sym (ap (map formal_of) (own_held here w.units w.refinements) ∙ const_formals us))
-    ∙ sym (formals_append (parameters ts fs) (all_held (own_names here w)))
-    ∙ ap (map formal_of) (sym (held_append (parameter_names ts fs) (own_names here w)))
+    ap (λ (hs : List Held). cells (parameters ts fs) ++ hs) (sym (ap cells (own_held here w.units w.refinements) ∙ const_cells us))
+    ∙ sym (cells_append (parameters ts fs) (all_held (own_names here w))) ∙ ap cells (sym (held_append (parameter_names ts fs) (own_names here w)))
 
 -- ---- rows
 
@@ -115,14 +118,14 @@ abbrev pub Frames : List Body → Option Within → Type 0
 Frames all None = Unit {0}
 Frames all (Some v) =
     (fs : List core.Formal) × (vs : List Kind) × (scope_of (slice_get all v.number) ≡ Some (owner.Own fs vs))
-    × (fs ++ map (formal Const) vs ≡ map formal_of (all_held v.names))
+    × (frame_of (owner.Own fs vs) ≡ held_cells v.names)
 
 abbrev pub within : ℕ → List Entry → List TypeName → Option Within
 within n names types = Some (record { number = n; names = names; types = types })
 
 abbrev pub Stands : List Body → ℕ → What → Scope → Body → Type 0
 Stands all n (Routine sort ps r) z b =
-    (names : List Entry) × (types : List TypeName) × (z.routine ≡ within n names types) × (z.refinement ≡ None) × (frame_of b.scope ≡ map formal_of (all_held names))
+    (names : List Entry) × (types : List TypeName) × (z.routine ≡ within n names types) × (z.refinement ≡ None) × (frame_of b.scope ≡ held_cells names)
 Stands all n (Refinement home) z b = (z.refinement ≡ Some n) × (number_of z.routine ≡ home) × Frames all z.routine
 
 module _ (kn : Known) (s : Scope) (all : List Body) where
@@ -234,15 +237,10 @@ module _ (kn : Known) (s : Scope) (all : List Body) where
       by_test true h = ap u.bodies_in (sym (gives_is (calls.declared_as at f.home f.number f.denotes) m h)) ∙ declared_as_quiet at f.home f.number f.denotes
       by_test false h = absurd cc
 
-  -- what is not hanging is told
-  unless_gives : (c : Bool) (q : Ruled Meant) (m : Meant) → verdict.unless c q ≡ gives m → (c ≡ false) × (q ≡ gives m)
-  unless_gives true q m e = absurd cc
-  unless_gives false q m e = (refl, e)
-
   declares_quiet : (z : Scope) (n : Name) → Quiet (l.declares z n)
   declares_quiet z n m e =
       declared_quiet n.at (scope.find_own z n.text) m
-      (unless_gives (calls.declares_open n.at (scope.find_own z n.text)) (verdict.told (calls.declared n.at (scope.find_own z n.text))) m e).1
+      (unless_gives (calls.declares_open n.at (scope.find_own z n.text)) (verdict.told (calls.declared n.at (scope.find_own z n.text))) m e)
 
   all_declare_quiet : (z : Scope) (ns : List Name) → AllQuiet (map (l.declares z) ns)
   all_declare_quiet z [] = tt
@@ -267,7 +265,7 @@ module _ (kn : Known) (s : Scope) (all : List Body) where
   heading_quiet : (at : ℕ) (ps : List Parameter) (r : Option ElanType) (missing : Bool) (o : Option (ℕ × Heading)) (m : Meant)
       → calls.heading_ruled at ps r missing o ≡ gives m → u.bodies_in m ≡ []
   heading_quiet at ps r missing o m e =
-      by_test (has_open ps) (unless_gives (calls.heading_open ps r (calls.heading at ps missing o)) (verdict.told (calls.heading at ps missing o)) m e).1
+      by_test (has_open ps) (unless_gives (calls.heading_open ps r (calls.heading at ps missing o)) (verdict.told (calls.heading at ps missing o)) m e)
     where
       by_test : (c : Bool) → verdict.told (if c then calls.headed_as at missing else calls.headed at missing o) ≡ gives m → u.bodies_in m ≡ []
       by_test true h = headed_as_quiet at missing m h
@@ -285,7 +283,7 @@ module _ (kn : Known) (s : Scope) (all : List Body) where
   pub type_quiet : (n : Name) → Quiet (leaf n.at (form.type_name s n.text))
   type_quiet n m e =
       type_named_quiet n.at (scope.find_own_type s n.text) m
-      (unless_gives (calls.is_open_type n.at (scope.find_own_type s n.text)) (verdict.told (calls.type_declared n.at (scope.find_own_type s n.text))) m e).1
+      (unless_gives (calls.is_open_type n.at (scope.find_own_type s n.text)) (verdict.told (calls.type_declared n.at (scope.find_own_type s n.text))) m e)
 
   pub procedure_quiet : (n : Name) (fs : List Formal) → AllQuiet (l.procedure_name s n fs)
   procedure_quiet n [] = (declares_quiet s n, tt)

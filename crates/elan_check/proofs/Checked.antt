@@ -14,7 +14,7 @@ use Rattle.elan_rules.specs.Meaning.{judged}
 use Rattle.elan_check.specs.declared.error.CheckError.{CheckError}
 use Rattle.elan_check.specs.declared.error.CheckError.TheVariants.{NoMemory, NoMeaning, NotBuilt}
 use Rattle.elan_unbuilt.specs.NotBuilt.{not_built}
-use Rattle.elan_check.specs.Level.{text}
+use Rattle.elan_bodies.specs.Level.{text}
 use Rattle.elan_check.specs.Text.{Means, Refused, IsNotBuilt, IsCore, IsRefusal, Answers, earliest, known}
 use Rattle.type_names.specs.Faults.{first_fault, level_faults}
 use Rattle.elan_check.proofs.Bodies.{known_is}

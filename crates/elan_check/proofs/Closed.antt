@@ -1,12 +1,9 @@
 -- Where no name and no heading has a type without meaning, nothing hangs on one.
 use Rattle.std.proofs.Common.{◌≡◌, ℕ, zero, suc, ◌+◌, Bool, true, false, ◌||◌, ◌&&◌, if◌then◌else◌, List, [], ◌∷◌, ◌++◌, length, Option, Some, None, refl, sym, ap, subst, ◌∙◌}
-use Rattle.std.specs.Prelude.{flat_map, map, nat_eq, slice_get}
+use Rattle.std.specs.Prelude.{nat_eq, slice_get}
 use Rattle.elan_types.specs.declared.core_phrase.Exit.{Exit}
-use Rattle.std.specs.List.{enumerate_from}
 use Rattle.std.specs.Option.{option_or, option_map_or}
 use Rattle.std.specs.Str.{bytes_eq}
-use Rattle.elan_types.specs.declared.elan_type.ElanType.{ElanType}
-use Rattle.elan_types.specs.declared.elan_type.Parameter.{Parameter}
 use Rattle.elan_types.specs.Types.{is_open}
 use Rattle.elan_scope.specs.declared.scope.Denotes.{Denotes}
 use Rattle.elan_scope.specs.declared.scope.Denotes.TheVariants as denotes
@@ -21,14 +18,13 @@ use Rattle.elan_scope.specs.declared.heading.Sort.TheVariants.{Procedure, Operat
 use Rattle.elan_scope.specs.declared.heading.What.{What}
 use Rattle.elan_scope.specs.declared.heading.What.TheVariants.{Routine, Refinement}
 use Rattle.elan_scope.specs.declared.heading.Heading.{Heading}
-use Rattle.elan_scope.specs.Types.{first_type}
 use Rattle.elan_scope.specs.Names.{first_from, held}
 use Rattle.elan_scope.specs.Scope as scope
 use Rattle.elan_scope.specs.Scope.{Found, Callable, first, found_in, first_named, from_inside, is_refinement, own_callable, own_callables, has_open, is_open_result, is_open_callable}
 use Rattle.elan_scope.specs.Phrase as form
 use Rattle.elan_scope.specs.Phrase.{Plain, plain}
 use Rattle.elan_meant.specs.declared.meant.Meant.{Meant}
-use Rattle.elan_meant.specs.Operands.{takes, may_take, nearest, is_unclear, becomes}
+use Rattle.elan_meant.specs.Operands.{takes, may_take, is_unclear, becomes}
 use Rattle.elan_meant.specs.Parts.{nth}
 use Rattle.value_rules.specs.Calls as c
 use Rattle.value_rules.specs.Calls.{holds_open, denotes_open, is_open_name, declares_open, is_open_type}
@@ -217,7 +213,7 @@ nothing_hangs z h at (form.number n) i ms = refl
 nothing_hangs z h at (form.truth b) i ms = refl
 nothing_hangs z h at (form.text x) i ms = refl
 nothing_hangs z h at form.bracket i ms = refl
-nothing_hangs z h at (form.concr y) i ms = refl
+nothing_hangs z h at form.concr i ms = refl
 nothing_hangs z h at form.cand i ms = refl
 nothing_hangs z h at form.cor i ms = refl
 nothing_hangs z h at form.choice i ms = refl

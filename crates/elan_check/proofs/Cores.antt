@@ -1,10 +1,9 @@
 -- The core of a level, from what its parts mean.
-use Rattle.std.proofs.Common.{◌≡◌, ℕ, List, [], ◌∷◌, Option, Some, None, Ok, Err, refl, sym, ap, subst, ◌∙◌}
+use Rattle.std.proofs.Common.{◌≡◌, List, [], ◌∷◌, Option, Some, None, Ok, Err, refl, sym, ap, subst, ◌∙◌}
 use Rattle.eu_base.specs.declared.value.Kind.{Kind}
 use Rattle.elan_types.specs.declared.core_phrase.Action.{Action}
 use Rattle.elan_types.specs.declared.core_phrase.Body.{Body}
 use Rattle.elan_types.specs.declared.core_phrase.Core.{Core}
-use Rattle.elan_types.specs.declared.why.Why.{Why}
 use Rattle.elan_types.specs.Typing.{IsWellTyped}
 use Rattle.elan_tree.specs.declared.tree.Level.{Level}
 use Rattle.elan_scope.specs.declared.known.Known.{Known}
@@ -22,8 +21,8 @@ use Rattle.elan_check.specs.declared.error.CheckError.{CheckError}
 use Rattle.elan_check.specs.declared.error.CheckError.TheVariants.{NoMemory, NoMeaning, NotBuilt}
 use Rattle.type_names.specs.Faults.{first_fault, level_faults}
 use Rattle.elan_levels.specs.Bodies.{headings, level_names}
-use Rattle.elan_check.specs.Level.{level_bodies, level_parts, level_phrase}
-use Rattle.elan_check.specs.Refinements.{known_of}
+use Rattle.elan_bodies.specs.Level.{level_bodies, level_parts, level_phrase}
+use Rattle.elan_bodies.specs.Refinements.{known_of}
 use Rattle.elan_check.specs.Text.{Answers, IsFault, earliest, judged_level}
 use Rattle.elan_check.proofs.WellTyped.{level_typed}
 use Rattle.elan_check.proofs.Spots.{never_hangs}
@@ -63,11 +62,6 @@ module _ (w : Level) (k : Known) (is : k ≡ known_of (headings w) (level_bodies
           subst (λ (ks : List Kind). IsWellTyped (record { variables = ks; bodies = core.bodies; units = core.units })) (sym v)
               (level_typed w core.units core.bodies m),
         )
-
-    pub fault_is : (at : ℕ) (why : Why) → judged_all k (all_of (level_parts w)) ≡ breaks (at, why) → Answers w (Err (NoMeaning at why))
-    fault_is at why e =
-        ap (λ (fs : List Fault). earliest (first_fault fs) (judged_level w)) faultless
-        ∙ ap (λ (q : Ruled Meant). earliest None q) (level_is (breaks (at, why)) e)
 
     pub none_hangs : judged_all k (all_of (level_parts w)) ≡ hangs → ⊥
     none_hangs e = never_hangs w faultless (level_is hangs e)

@@ -23,14 +23,15 @@ use Rattle.value_rules.specs.Calls as c
 use Rattle.elan_meant.specs.Verdict.{told, unless}
 use Rattle.elan_rules.specs.Rules.{rule, ruled, hangs_on}
 use Rattle.elan_rules.specs.Meaning.{judged, judged_all, phrases, phrases_of}
-use Rattle.elan_check.specs.Refinements.{stated, last_unit, last_part, unit_delivery, outcome, called_by, called_in}
+use Rattle.elan_bodies.specs.Refinements.{stated, last_unit, last_part, unit_delivery, outcome, called_by, called_in}
 use Rattle.elan_rules.proofs.First.{Faultless, whole, open_one, bind_faultless, before_faultless, breaks_has_fault}
-use Rattle.elan_check.proofs.Calls.{called_append}
+use Rattle.elan_bodies.proofs.Alike.{in_first, in_rest}
+use Rattle.elan_bodies.proofs.Calls.{called_append}
 use Rattle.elan_judge.proofs.InScope.{Names, InScope, AllIn}
 use Rattle.elan_rules.proofs.Hung.{named_open}
 use Rattle.elan_meant.proofs.Told.{told_never_hangs}
 use Rattle.call_graph.proofs.Walks.{In}
-use Rattle.elan_check.proofs.Settled.{not_open}
+use Rattle.elan_bodies.proofs.Settled.{not_open}
 use Rattle.elan_check.proofs.Closed.{ScopeClosed, nothing_hangs, name_closed, leave_closed}
 use Rattle.elan_rules.proofs.TypedCalls.{first_at}
 
@@ -61,18 +62,6 @@ before_both hangs hangs h k = open_one
 pub clear : {A : Type 0} (b : Bool) (q : Ruled A) → b ≡ false → unless b q ≡ hangs → q ≡ hangs
 clear true q h e = absurd cc
 clear false q h e = e
-
-in_first : (n : ℕ) (xs ys : List ℕ) → In n xs → In n (xs ++ ys)
-in_first n [] ys h = absurd h
-in_first n (x ∷ xs) ys h =
-    elim h [
-      | inl e ↦ inl e
-      | inr e ↦ inr (in_first n xs ys e)
-    ]
-
-in_rest : (n : ℕ) (xs ys : List ℕ) → In n ys → In n (xs ++ ys)
-in_rest n [] ys h = h
-in_rest n (x ∷ xs) ys h = inr (in_rest n xs ys h)
 
 in_left : (n : ℕ) (ps qs : List Phrase) → In n (flat_map called_by ps) → In n (flat_map called_by (ps ++ qs))
 in_left n ps qs h = subst (In n) (sym (called_append ps qs)) (in_first n (flat_map called_by ps) (flat_map called_by qs) h)

@@ -1,8 +1,7 @@
 -- The core of a text is well typed.
-use Rattle.std.proofs.Common.{◌≡◌, ℕ, zero, suc, ◌+◌, List, [], ◌∷◌, ◌++◌, length, Option, Some, refl, sym, ap, subst, ◌∙◌, arith}
+use Rattle.std.proofs.Common.{◌≡◌, ℕ, zero, suc, ◌+◌, List, [], ◌∷◌, ◌++◌, length, Some, refl, sym, ap, subst, ◌∙◌, arith}
 use Rattle.std.specs.Prelude.{slice_get}
 use Rattle.elan_types.specs.declared.core_phrase.Body.{Body}
-use Rattle.elan_tree.specs.declared.tree.Refinement.{Refinement as Refined}
 use Rattle.elan_tree.specs.declared.tree.LevelUnit.{LevelUnit}
 use Rattle.elan_tree.specs.declared.tree.LevelUnit.TheVariants as level
 use Rattle.elan_scope.specs.declared.heading.Sort.TheVariants.{Procedure, Operator}
@@ -22,13 +21,13 @@ use Rattle.unit_rules.specs.Units as u
 use Rattle.elan_meant.specs.Verdict.{told}
 use Rattle.elan_rules.specs.Rules.{ruled}
 use Rattle.elan_judge.specs.Shape as shape
-use Rattle.elan_check.specs.Level as l
+use Rattle.elan_bodies.specs.Level as l
 use Rattle.elan_rules.specs.Meaning.{judged, judged_all}
 use Rattle.elan_rules.proofs.First.{bind_gives, before_gives, gives_is}
+use Rattle.elan_bodies.proofs.Counts.{unit_headings_count}
 use Rattle.elan_check.proofs.Aligned.{Inside, Row, Rows, rows_append, routine_rows, procedure_quiet, type_quiet}
 use Rattle.elan_levels.specs.walks.Headings.{all_headings}
-use Rattle.elan_scope.specs.declared.type_name.TypeName.{TypeName}
-use Rattle.elan_check.specs.walks.Units.{all_unit_bodies, level_units}
+use Rattle.elan_bodies.specs.walks.Units.{all_unit_bodies, level_units}
 
 -- ---- the rows of a level
 
@@ -48,16 +47,6 @@ pub inside_rest : (k : ℕ) (bs cs all : List Body) → Inside k (bs ++ cs) all 
 inside_rest k bs cs all h i b e =
     let z : k + length bs + i ≡ k + (length bs + i) = omega arith in
     ap (slice_get all) z ∙ h (length bs + i) b (behind bs cs i ∙ e)
-
-refinements_count : (o : Option ℕ) (rs : List Refined) → length (b.refinement_headings o rs) ≡ length rs
-refinements_count o [] = refl
-refinements_count o (r ∷ rs) = ap suc (refinements_count o rs)
-
-headings_count : (ts : List TypeName) (k : ℕ) (v : LevelUnit) → length (b.unit_headings ts k v) ≡ b.bodies_in v
-headings_count ts k (level.Plain v) = refl
-headings_count ts k (level.Proc at r n fs w) = ap suc (refinements_count (Some k) w.refinements)
-headings_count ts k (level.Op at r n fs w) = ap suc (refinements_count (Some k) w.refinements)
-headings_count ts k (level.NewType at n of) = refl
 
 module _ (kn : Known) (s : Scope) (all : List Body) where
   pub rows_count : (n : ℕ) (hs : List Heading) (ps : List Phrase) (bs : List Body) → Rows kn s all n hs ps bs → length bs ≡ length hs
@@ -101,24 +90,13 @@ module _ (kn : Known) (s : Scope) (all : List Body) where
       let h' : Inside k (u.bodies_in q.0 ++ u.bodies_of q.1) all = subst (λ (ns : List Meant). Inside k (u.bodies_of ns) all) q.4 h in
       let first = unit_rows k v q.0 q.2 (inside_first k (u.bodies_in q.0) (u.bodies_of q.1) all h') in
       let count : length (u.bodies_in q.0) ≡ b.bodies_in v =
-      rows_count k (b.unit_headings s.types k v) (l.unit_bodies s k v) (u.bodies_in q.0) first ∙ headings_count s.types k v in
+      rows_count k (b.unit_headings s.types k v) (l.unit_bodies s k v) (u.bodies_in q.0) first ∙ unit_headings_count s.types k v in
       let rest =
       units_rows (k + b.bodies_in v) vs q.1 q.3
       (subst (λ (n : ℕ). Inside (k + n) (u.bodies_of q.1) all) count (inside_rest k (u.bodies_in q.0) (u.bodies_of q.1) all h')) in
       subst (λ (ns : List Meant). Rows kn s all k (all_headings s.types k (v ∷ vs)) (all_unit_bodies s k (v ∷ vs)) (u.bodies_of ns)) (sym q.4)
       (rows_append kn s all k (k + b.bodies_in v) (b.unit_headings s.types k v) (all_headings s.types (k + b.bodies_in v) vs) (l.unit_bodies s k v)
       (all_unit_bodies s (k + b.bodies_in v) vs) (u.bodies_in q.0) (u.bodies_of q.1) (ap (λ (n : ℕ). k + n) (sym count)) first rest)
-
-  pub all_count : (k : ℕ) (vs : List LevelUnit) → length (all_headings s.types k vs) ≡ b.bodies_of_units vs
-  all_count k [] = refl
-  all_count k (v ∷ vs) =
-      both (b.unit_headings s.types k v) (all_headings s.types (k + b.bodies_in v) vs)
-      ∙ ap (λ (n : ℕ). n + length (all_headings s.types (k + b.bodies_in v) vs)) (headings_count s.types k v)
-      ∙ ap (λ (n : ℕ). b.bodies_in v + n) (all_count (k + b.bodies_in v) vs)
-    where
-      both : (xs ys : List Heading) → length (xs ++ ys) ≡ length xs + length ys
-      both [] ys = let z : 0 + length ys ≡ length ys = omega arith in sym z
-      both (x ∷ xs) ys = let z : suc (length xs) + length ys ≡ suc (length xs + length ys) = omega arith in ap suc (both xs ys) ∙ sym z
 
   -- ---- rows by their numbers
 

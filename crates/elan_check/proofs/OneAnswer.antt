@@ -1,5 +1,5 @@
 -- A text has one answer: a core, or a refusal, or it has what is not built yet.
-use Rattle.std.proofs.Common.{◌≡◌, ℕ, ◌<◌, ◌≤◌, Bool, List, [], ◌∷◌, true, false, if◌then◌else◌, Option, Some, None, refl, sym, ap, ◌∙◌, subst, arith, ◌⊎◌, inl, inr}
+use Rattle.std.proofs.Common.{◌≡◌, ℕ, ◌<◌, ◌≤◌, Bool, List, [], ◌∷◌, true, false, if◌then◌else◌, Option, Some, None, refl, sym, ap, ◌∙◌, subst, arith, inl, inr}
 use Rattle.eu_base.specs.declared.value.Kind.{Kind}
 use Rattle.elan_types.specs.declared.env.Env.{Env}
 use Rattle.elan_types.specs.declared.core_phrase.Core.{Core}
@@ -21,7 +21,7 @@ use Rattle.elan_rules.specs.Meaning.{judged, judged_all}
 use Rattle.elan_check.proofs.Bodies.{known_is}
 use Rattle.elan_check.proofs.Spots.{never_hangs}
 use Rattle.elan_unbuilt.specs.NotBuilt.{not_built}
-use Rattle.elan_check.specs.Level.{text, level_in, level_parts}
+use Rattle.elan_bodies.specs.Level.{text, level_in, level_parts}
 use Rattle.elan_rules.specs.Meaning as phrase
 use Rattle.elan_check.specs.Text.{Means, Refused, IsEarliest, earliest, known, HasAnswer, meaning, refusal, not_yet, HasOneAnswer}
 use Rattle.type_names.specs.Faults.{first_fault, level_faults}

@@ -22,18 +22,17 @@ use Rattle.elan_scope.specs.Known.{delivered}
 use Rattle.elan_scope.specs.declared.delivery.Delivery.{Delivery}
 use Rattle.elan_scope.specs.Phrase.{Phrase, all_of, around, leaf}
 use Rattle.elan_scope.specs.Answer.{Is}
-use Rattle.elan_meant.specs.Verdict.{Tells}
 use Rattle.elan_rules.specs.Meaning.{judged, judged_all}
 use Rattle.elan_scope.specs.Ruled.{Ruled, gives, joined}
 use Rattle.elan_scope.specs.Scope.{first_heading, is_alike, types_of}
 use Rattle.value_rules.specs.Calls as calls
 use Rattle.unit_rules.specs.Units as u
 use Rattle.elan_judge.specs.Shape as shape
-use Rattle.elan_levels.specs.Bodies.{parameters, result, frame, body_within, bodies_in}
-use Rattle.elan_check.specs.Level as l
+use Rattle.elan_levels.specs.Bodies.{parameters, result, frame, body_within, routine_scope, bodies_in}
+use Rattle.elan_bodies.specs.Level as l
 pub use Rattle.elan_judge.proofs.Rows.{Grown, starts, grows, grows_all, ends, left_at, left_none}
 use Rattle.elan_judge.proofs.Rows.{one_is}
-use Rattle.elan_check.specs.walks.Units.{level_units}
+use Rattle.elan_bodies.specs.walks.Units.{level_units}
 
 -- what is said of a row and the next phrase
 abbrev Joins : Result (List Meant) Trouble → Result Meant Trouble → Result (List Meant) Trouble → Type 0
@@ -147,10 +146,10 @@ module _ (k : Known) (row : Result (List Meant) Trouble) (s : Scope) (n at : ℕ
   abbrev pub headed : Phrase
   headed = form.leaf at (form.heading s sort x (parameters s.types fs) (result s.types r) (l.is_missing (result s.types r) (l.body_units s n at x r fs b)))
 
-  pub routine_row : (z : Scope) → z ≡ l.routine_scope s (body_within s.types n fs b) → Is row (judged_all k (all_of ((ps ++ headed ∷ []) ++ l.inside z n r fs b))) →
+  pub routine_row : (z : Scope) → z ≡ routine_scope s (body_within s.types n fs b) → Is row (judged_all k (all_of ((ps ++ headed ∷ []) ++ l.inside z n r fs b))) →
       Is row (judged_all k (all_of (l.heading_phrases s n at x r fs b sort ps ++ l.body_phrases s n at x r fs b)))
   routine_row z e h =
-      let inner = l.routine_scope s (body_within s.types n fs b) in
+      let inner = routine_scope s (body_within s.types n fs b) in
       let here : Is row (judged_all k (all_of ((ps ++ headed ∷ []) ++ l.inside inner n r fs b))) =
       subst (λ (y : Scope). Is row (judged_all k (all_of ((ps ++ headed ∷ []) ++ l.inside y n r fs b)))) e h in
       subst (λ (qs : List Phrase). Is row (judged_all k (all_of qs)))

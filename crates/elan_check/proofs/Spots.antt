@@ -5,7 +5,6 @@ use Rattle.std.specs.Prelude.{slice_get, slice_index_or}
 use Rattle.elan_types.specs.declared.elan_type.ElanType.{ElanType}
 use Rattle.elan_types.specs.declared.elan_type.Parameter.{Parameter}
 use Rattle.elan_types.specs.declared.core_phrase.Scope.{Scope as Owner}
-use Rattle.elan_types.specs.declared.core_phrase.Scope.TheVariants as owner
 use Rattle.elan_meant.specs.declared.meant.Meant.{Meant}
 use Rattle.elan_tree.specs.declared.written_type.Name.{Name}
 use Rattle.elan_tree.specs.declared.written_type.TypePhrase.{TypePhrase}
@@ -31,14 +30,16 @@ use Rattle.elan_scope.specs.Known.{delivered, delivery_at, leads_back}
 use Rattle.elan_scope.specs.declared.known.Known.{Known}
 use Rattle.elan_rules.specs.Rules.{rule, ruled, hangs_on}
 use Rattle.elan_judge.specs.Shape as shape
-use Rattle.elan_check.specs.Level as l
+use Rattle.elan_bodies.specs.Level as l
 use Rattle.elan_rules.specs.Meaning.{judged, judged_all}
-use Rattle.elan_check.specs.Refinements.{stated, called_in, known_of}
+use Rattle.elan_bodies.specs.Refinements.{stated, called_in, known_of}
 use Rattle.elan_rules.proofs.First.{Faultless, whole, open_one, bind_faultless, before_faultless}
 use Rattle.elan_judge.proofs.InScope.{InScope, body_units_in, statement_in}
 use Rattle.elan_meant.proofs.Told.{told_never_hangs}
 use Rattle.call_graph.proofs.Walks.{In, Call, no_walk}
-use Rattle.elan_check.proofs.Settled.{open_last, calls_are}
+use Rattle.elan_bodies.proofs.Settled.{open_last, calls_are}
+use Rattle.elan_bodies.proofs.Counts.{unit_headings_count, all_headings_count}
+use Rattle.elan_bodies.proofs.Places.{same_length}
 use Rattle.elan_check.proofs.Hanging.{before_both, bind_hangs, before_hangs, IsHeaded, Leaf, leaf_of, body_leaf, clear}
 use Rattle.elan_check.proofs.Closed.{ScopeClosed, HeadingsClosed, nothing_hangs}
 use Rattle.elan_check.proofs.Clean as clean
@@ -47,7 +48,7 @@ use Rattle.elan_scope.specs.Scope.{has_open, is_open_result}
 use Rattle.value_rules.specs.Calls.{heading_open}
 use Rattle.elan_meant.specs.Verdict.{Verdict, told, is_given}
 use Rattle.elan_levels.specs.walks.Headings.{all_headings}
-use Rattle.elan_check.specs.walks.Units.{all_unit_bodies, level_units}
+use Rattle.elan_bodies.specs.walks.Units.{all_unit_bodies, level_units}
 
 module _ (kn : Known) (s : Scope) where
   -- the units of a body without fault, in their scope
@@ -204,7 +205,7 @@ module _ (kn : Known) (s : Scope) where
   RoutineClosed k t fs w =
       (has_open (parameters s.types fs) ≡ false)
       × (is_open_result (result s.types t) ≡ false)
-      × ScopeClosed (l.routine_scope s (b.body_within s.types k fs w))
+      × ScopeClosed (b.routine_scope s (b.body_within s.types k fs w))
 
   module _ (k : ℕ) (at : ℕ) (x : List ℕ) (t : Option TypePhrase) (fs : List Formal) (w : Written) (rc : RoutineClosed k t fs w) where
     abbrev inner : Scope
@@ -262,16 +263,6 @@ module _ (kn : Known) (s : Scope) where
 
   -- ---- units
 
-  refinements_count : (o : Option ℕ) (rs : List Refined) → length (b.refinement_headings o rs) ≡ length rs
-  refinements_count o [] = refl
-  refinements_count o (r ∷ rs) = ap suc (refinements_count o rs)
-
-  headings_count : (k : ℕ) (v : LevelUnit) → length (b.unit_headings s.types k v) ≡ b.bodies_in v
-  headings_count k (level.Plain v) = refl
-  headings_count k (level.Proc at r n fs w) = ap suc (refinements_count (Some k) w.refinements)
-  headings_count k (level.Op at r n fs w) = ap suc (refinements_count (Some k) w.refinements)
-  headings_count k (level.NewType at n of) = refl
-
   abbrev pub UnitClosed : ℕ → LevelUnit → Type 0
   UnitClosed k (level.Plain v) = Unit {0}
   UnitClosed k (level.Proc at r n fs w) = RoutineClosed k r fs w
@@ -295,7 +286,7 @@ module _ (kn : Known) (s : Scope) where
   units_spots k (v ∷ vs) c f =
       let g = before_faultless kn (judged kn (l.level_unit s k v)) (judged_all kn (all_of (level_units s (k + b.bodies_in v) vs))) f in
       spots_append k (k + b.bodies_in v) (b.unit_headings s.types k v) (all_headings s.types (k + b.bodies_in v) vs) (l.unit_bodies s k v)
-      (all_unit_bodies s (k + b.bodies_in v) vs) (ap (λ (n : ℕ). k + n) (sym (headings_count k v))) (unit_spots k v c.0 g.0)
+      (all_unit_bodies s (k + b.bodies_in v) vs) (ap (λ (n : ℕ). k + n) (sym (unit_headings_count s.types k v))) (unit_spots k v c.0 g.0)
       (units_spots (k + b.bodies_in v) vs c.1 g.1)
 
   unit_lead : ScopeClosed s → (k : ℕ) (v : LevelUnit) → UnitClosed k v → judged kn (l.level_unit s k v) ≡ hangs → HangsIn
@@ -316,17 +307,6 @@ module _ (kn : Known) (s : Scope) where
       (lead_append (level_units s 0 w.units) (l.refinements s (b.bodies_of_units w.units) w.refinements) (units_lead cl 0 w.units c)
       (refinements_lead s cl (b.bodies_of_units w.units) w.refinements refl)) e
 
-  count_append : (xs ys : List Heading) → length (xs ++ ys) ≡ length xs + length ys
-  count_append [] ys = let z : 0 + length ys ≡ length ys = omega arith in sym z
-  count_append (x ∷ xs) ys = let z : suc (length xs) + length ys ≡ suc (length xs + length ys) = omega arith in ap suc (count_append xs ys) ∙ sym z
-
-  all_count : (k : ℕ) (vs : List LevelUnit) → length (all_headings s.types k vs) ≡ b.bodies_of_units vs
-  all_count k [] = refl
-  all_count k (v ∷ vs) =
-      count_append (b.unit_headings s.types k v) (all_headings s.types (k + b.bodies_in v) vs)
-      ∙ ap (λ (n : ℕ). n + length (all_headings s.types (k + b.bodies_in v) vs)) (headings_count k v)
-      ∙ ap (λ (n : ℕ). b.bodies_in v + n) (all_count (k + b.bodies_in v) vs)
-
   pub level_spots : (w : Level) → ScopeClosed s → UnitsClosed 0 w.units
       → Faultless (judged kn (row 0 form.level (level_units s 0 w.units ++ l.refinements s (b.bodies_of_units w.units) w.refinements)))
       → Spots 0 (all_headings s.types 0 w.units ++ b.refinement_headings None w.refinements)
@@ -338,16 +318,10 @@ module _ (kn : Known) (s : Scope) where
       let h = split (level_units s 0 w.units) (l.refinements s (b.bodies_of_units w.units) w.refinements) g in
       let z : 0 + length (all_headings s.types 0 w.units) ≡ length (all_headings s.types 0 w.units) = omega arith in
       spots_append 0 (b.bodies_of_units w.units) (all_headings s.types 0 w.units) (b.refinement_headings None w.refinements) (all_unit_bodies s 0 w.units)
-      (l.all_refined_units s (b.bodies_of_units w.units) w.refinements) (sym (all_count 0 w.units) ∙ sym z) (units_spots 0 w.units c h.0)
+      (l.all_refined_units s (b.bodies_of_units w.units) w.refinements) (sym (all_headings_count s.types 0 w.units) ∙ sym z) (units_spots 0 w.units c h.0)
       (refinement_spots s cl (b.bodies_of_units w.units) None w.refinements refl h.1)
 
 -- ---- a level
-
-pub same_length : {A B : Type 0} (xs : List A) (ys : List B) (i : ℕ) (x : A) → slice_get xs i ≡ Some x → length ys ≡ length xs → (y : B) × (slice_get ys i ≡ Some y)
-same_length [] ys i x e h = absurd cc
-same_length (a ∷ xs) [] i x e h = absurd (let z : 0 ≡ suc (length xs) = h in omega (arith, z))
-same_length (a ∷ xs) (c ∷ ys) zero x e h = (c, refl)
-same_length (a ∷ xs) (c ∷ ys) (suc i) x e h = same_length xs ys i x e (let z : suc (length ys) ≡ suc (length xs) = h in omega (arith, z))
 
 map_length : (ps : List Phrase) → length (map called_in ps) ≡ length ps
 map_length [] = refl

@@ -3,7 +3,7 @@ use Rattle.std.proofs.Common.{◌≡◌, ℕ, suc, ◌+◌, true, List, [], ◌�
 use Rattle.std.specs.Prelude.{slice_get, map, option_map}
 use Rattle.eu_base.specs.declared.value.Kind.{Kind}
 use Rattle.elan_types.specs.declared.core_phrase.Formal.{Formal}
-use Rattle.elan_types.specs.Types.{kind_in, formal_of}
+use Rattle.elan_types.specs.Types.{shape_in, formal_of}
 use Rattle.elan_types.specs.declared.elan_type.ElanType.{ElanType}
 use Rattle.elan_types.specs.declared.elan_type.Parameter.{Parameter}
 use Rattle.elan_types.specs.declared.core_phrase.Action.{Action}
@@ -31,7 +31,7 @@ use Rattle.elan_scope.specs.declared.heading.Heading.{Heading}
 use Rattle.elan_meant.specs.declared.meant.Meant.{Meant}
 use Rattle.elan_meant.specs.declared.meant.Meant.TheVariants.{Absent, Variable, Value, Done, Left, Labels, Bodies, Level}
 use Rattle.std.specs.Option.{option_or}
-use Rattle.elan_scope.specs.Scope.{number_of, all_held, variables_of}
+use Rattle.elan_scope.specs.Scope.{number_of, variables_of}
 use Rattle.elan_scope.specs.declared.scope.Scope.{Scope}
 use Rattle.elan_scope.specs.declared.scope.Within.{Within}
 use Rattle.elan_scope.specs.declared.type_name.TypeName.{TypeName}
@@ -47,9 +47,9 @@ use Rattle.elan_meant.specs.Parts as p
 use Rattle.unit_rules.specs.Units as u
 use Rattle.elan_rules.specs.Rules.{ruled}
 use Rattle.elan_judge.specs.Shape as shape
-use Rattle.elan_check.specs.Level as l
+use Rattle.elan_bodies.specs.Level as l
 use Rattle.elan_rules.specs.Meaning.{judged, judged_all}
-use Rattle.elan_check.specs.Refinements.{stated, delivery_of, known_of}
+use Rattle.elan_bodies.specs.Refinements.{stated, delivery_of, known_of}
 use Rattle.elan_check.specs.Text.{Means}
 use Rattle.elan_rules.proofs.First.{bind_gives, before_gives, gives_is}
 use Rattle.elan_check.proofs.Bodies.{known_is}
@@ -58,17 +58,18 @@ use Rattle.elan_rules.proofs.TypeEquations.{Stand}
 use Rattle.elan_rules.proofs.Typed as ty
 use Rattle.elan_rules.proofs.TypedUnits.{content_as_good, content_of_good}
 use Rattle.elan_rules.proofs.TypedPerformed.{owner_with, Headed, Delivering, BodyFits}
-use Rattle.elan_rules.proofs.TypedCalls.{FrameIs, Fits}
+use Rattle.elan_rules.proofs.TypedCalls.{held_cells, FrameIs, Fits}
 use Rattle.elan_judge.proofs.TypedRules.{good}
-use Rattle.elan_check.proofs.Settled.{told_found, refinement_found}
+use Rattle.elan_bodies.proofs.Counts.{all_headings_count}
+use Rattle.elan_bodies.proofs.Settled.{told_found, refinement_found}
 use Rattle.elan_check.proofs.Aligned.{Made, Inside, Frames, within, Stands, Row, Rows, rows_append, refinement_rows, split, bodies_append}
-use Rattle.elan_check.proofs.LevelRows.{units_rows, rows_count, all_count, inside_first, row_of_heading, heading_of_body}
+use Rattle.elan_check.proofs.LevelRows.{units_rows, rows_count, inside_first, row_of_heading, heading_of_body}
 use Rattle.elan_levels.specs.walks.Headings.{all_headings}
-use Rattle.elan_check.specs.walks.Units.{all_unit_bodies, level_units}
+use Rattle.elan_bodies.specs.walks.Units.{all_unit_bodies, level_units}
 
 -- ---- what a body delivers
 
-content_result : (o : Option ElanType) (m : Meant) (c : Content) → c ≡ u.content_as o m → result_of_content c ≡ option_map kind_in o
+content_result : (o : Option ElanType) (m : Meant) (c : Content) → c ≡ u.content_as o m → result_of_content c ≡ option_map shape_in o
 content_result None m c e = ap result_of_content e
 content_result (Some t) m c e = ap result_of_content e
 
@@ -76,7 +77,7 @@ headed_of : (w : What) (m : Meant) (c : Body) → Made w m c → Headed w c
 headed_of (Routine sort ps r) m c h = (h.0, h.1, content_result r m c.content h.2)
 headed_of (Refinement home) m c h = h.0
 
-told_delivers : (o : Option ElanType) (c : Body) → result_of_content c.content ≡ option_map kind_in o → Delivering (stated (Routine Procedure [] o)) c
+told_delivers : (o : Option ElanType) (c : Body) → result_of_content c.content ≡ option_map shape_in o → Delivering (stated (Routine Procedure [] o)) c
 told_delivers None c e = e
 told_delivers (Some t) c e = e
 
@@ -165,7 +166,7 @@ module _ (w : Written) (us : List Action) (all : List Body) where
       subst (λ (bs : List Body). Inside 0 bs all) q.5 (λ i b e. let z : 0 + i ≡ i = omega arith in ap (slice_get all) z ∙ e) in
       let first = units_rows kn s all 0 w.units q.0 q.2 (inside_first 0 (u.bodies_of q.0) (u.bodies_of q.1) all inside) in
       let count : length (u.bodies_of q.0) ≡ after_units =
-      rows_count kn s all 0 (all_headings s.types 0 w.units) (all_unit_bodies s 0 w.units) (u.bodies_of q.0) first ∙ all_count kn s all 0 w.units in
+      rows_count kn s all 0 (all_headings s.types 0 w.units) (all_unit_bodies s 0 w.units) (u.bodies_of q.0) first ∙ all_headings_count s.types 0 w.units in
       let rest = refinement_rows kn s all s after_units w.refinements q.1 refl refl tt q.3 in
       let z : 0 + length (u.bodies_of q.0) ≡ length (u.bodies_of q.0) = omega arith in
       subst (λ (bs : List Body). Rows kn s all 0 hs ps bs) (sym q.5)
@@ -221,7 +222,7 @@ module _ (w : Written) (us : List Action) (all : List Body) where
 
   routine_fits : Rows kn s all 0 hs ps all → (n : ℕ) (c : Body) (z : Scope) (fs : List Formal) (ks : List Kind) (names : List Entry) (types : List TypeName)
       → slice_get all n ≡ Some c → z.headings ≡ s.headings → z.level ≡ s.level → c.scope ≡ owner.Own fs ks → z.routine ≡ within n names types
-      → z.refinement ≡ None → frame_of c.scope ≡ map formal_of (all_held names) → Fits (stand n) z kn
+      → z.refinement ≡ None → frame_of c.scope ≡ held_cells names → Fits (stand n) z kn
   routine_fits rs n c z fs ks names types i zh zl own rt rf fr =
       let owned : owner_in all (Some n) ≡ Some n = owner_here n c i ∙ ap (λ (o : Owner). owner_at n (Some o)) own in
       record {
@@ -240,7 +241,7 @@ module _ (w : Written) (us : List Action) (all : List Body) where
       → FrameIs (frame_in all (owner_at n (Some (owner_with home)))) v
   refined_frame n home None e f = tt
   refined_frame n home (Some v) e f =
-      subst (λ (o : Option ℕ). frame_in all (owner_at n (Some (owner_with o))) ≡ map formal_of (all_held v.names)) e
+      subst (λ (o : Option ℕ). frame_in all (owner_at n (Some (owner_with o))) ≡ held_cells v.names) e
       (ap frame_at f.2 ∙ f.3)
 
   refined_owner : (n : ℕ) (home : Option ℕ) → owner_at n (Some (owner_with home)) ≡ home

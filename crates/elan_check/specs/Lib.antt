@@ -1,4 +1,2 @@
-pub mod Level
-pub mod Refinements
 pub mod Text
 pub mod walks

@@ -1,5 +1,5 @@
 -- The meaning of a text, and why it has none.
-use Rattle.std.specs.Prelude.{◌≡◌, ◌≤◌, ◌<◌, ◌⊎◌, nat_lt, if◌then◌else◌, true, false, List, [], Option, Some, None, Result, Ok, Err}
+use Rattle.std.specs.Prelude.{◌≡◌, ◌≤◌, ◌<◌, ◌⊎◌, nat_lt, if◌then◌else◌, true, false, [], Option, Some, None, Result, Ok, Err}
 use Rattle.elan_types.specs.declared.env.Env.{Env}
 use Rattle.elan_types.specs.declared.core_phrase.Core.{Core}
 use Rattle.elan_tree.specs.declared.tree.Tree.{Tree}
@@ -14,9 +14,9 @@ use Rattle.elan_levels.specs.Bodies.{level_names, headings}
 use Rattle.elan_meant.specs.declared.meant.Meant.{Meant}
 use Rattle.elan_scope.specs.Ruled.{Fault, Ruled, gives, breaks}
 use Rattle.type_names.specs.Faults.{first_fault, level_faults}
-use Rattle.elan_check.specs.Level.{level_in, level_phrase, level_bodies, text}
+use Rattle.elan_bodies.specs.Level.{level_in, level_phrase, level_bodies, text}
 use Rattle.elan_scope.specs.declared.known.Known.{Known}
-use Rattle.elan_check.specs.Refinements.{bodies_within, known_of}
+use Rattle.elan_bodies.specs.Refinements.{bodies_within, known_of}
 use Rattle.elan_rules.specs.Meaning as phrase
 
 -- The text has a phrase or a name that is not built yet.

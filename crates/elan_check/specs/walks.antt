@@ -1,5 +1,1 @@
-pub mod Seen
-pub mod Rounds
-pub mod OnTheWay
 pub mod Over
-pub mod Units

@@ -12,21 +12,21 @@ ghost use Rattle.elan_scope.specs.Phrase.{all_of};
 ghost use Rattle.elan_rules.specs.Meaning.{judged, judged_all};
 ghost use Rattle.elan_scope.specs.Answer.{Is};
 ghost use Rattle.elan_levels.specs.Bodies as bodies;
-ghost use Rattle.elan_check.specs.Level as spec;
-ghost use Rattle.elan_check.specs.walks.Units as of_units;
-ghost use Rattle.elan_check.specs.Refinements as refinements;
+ghost use Rattle.elan_bodies.specs.Level as spec;
+ghost use Rattle.elan_bodies.specs.walks.Units as of_units;
+ghost use Rattle.elan_bodies.specs.Refinements as refinements;
 ghost use Rattle.elan_check.specs.Text as text;
 
-use crate::deliveries::known_of;
 use crate::error::CheckError;
 use crate::routine::{Routine, is_over, judge_refinements, judge_routine};
+use elan_bodies::known_of;
 use elan_judge::judge::judge_role;
+use elan_judge::role::Wanted;
 use elan_levels::bodies::{held_kinds, level_names, level_types};
 use elan_levels::heading::{first_refinement, headings, number_behind};
 use elan_meant::meant::Meant;
 use elan_meant::row::{Judged, Row};
 use elan_meant::together::{let_go, none, one, with};
-use elan_scope::delivery::Delivery;
 use elan_scope::heading::Sort;
 use elan_scope::known::Known;
 use elan_scope::scope::Scope;
@@ -65,7 +65,7 @@ fn judge_level_unit(
     ensures kept { scope.new ≡ scope.old }
 {
     match unit {
-        LevelUnit::Plain(unit) => judge_role(alloc, known, scope, Delivery::Nothing, unit),
+        LevelUnit::Plain(unit) => judge_role(alloc, known, scope, Wanted::Nothing, unit),
         LevelUnit::NewType { name, .. } => {
             type_declared(alloc, name.at, scope, name.text.as_slice())
         }

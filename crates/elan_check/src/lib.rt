@@ -1,14 +1,11 @@
 //! What a text means: its names and types, and the first phrase that breaks a rule.
 #![tactic(auto)]
 
-mod deliveries;
 mod error;
 mod laws;
 mod level;
 mod routine;
-mod settle;
 mod text;
-mod walk;
 
 pub use error::CheckError;
 pub use laws::{

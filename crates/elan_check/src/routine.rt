@@ -1,6 +1,6 @@
 //! The meaning of PROCs, OPs and refinements.
 
-ghost use Rattle.std.specs.Prelude.{◌≡◌, ◌++◌, List, map, None, IfOk};
+ghost use Rattle.std.specs.Prelude.{◌≡◌, ◌++◌, List, map, option_map, None, IfOk};
 ghost use Rattle.elan_scope.specs.declared.known.Known.{Known};
 ghost use Rattle.elan_scope.specs.declared.scope.Scope.{Scope};
 ghost use Rattle.elan_scope.specs.Known.{delivered};
@@ -9,19 +9,19 @@ ghost use Rattle.elan_scope.specs.Phrase.{Phrase, around, row, all_of};
 ghost use Rattle.elan_rules.specs.Meaning.{judged, judged_all};
 ghost use Rattle.elan_scope.specs.Answer.{Is};
 ghost use Rattle.elan_levels.specs.Bodies as bodies;
-ghost use Rattle.elan_check.specs.Level as spec;
+ghost use Rattle.elan_bodies.specs.Level as spec;
 ghost use Rattle.elan_check.specs.walks.Over as walks;
 ghost use Rattle.elan_judge.specs.Shape as shape;
 
 use elan_judge::judge::judge_units;
-use elan_judge::role::all_empty;
-use elan_levels::bodies::{body_within, own_kinds, parameters};
+use elan_judge::role::{Wanted, all_empty};
+use elan_levels::bodies::{own_kinds, parameters};
 use elan_levels::heading::{next_number, result_type};
+use elan_levels::within::{enter, leave};
 use elan_meant::meant::Meant;
 use elan_meant::row::{Judged, Row};
 use elan_meant::together::{let_go, with};
 use elan_rules::whole::refinement_phrase;
-use elan_scope::delivery::Delivery;
 use elan_scope::heading::Sort;
 use elan_scope::known::Known;
 use elan_scope::scope::Scope;
@@ -79,7 +79,7 @@ fn judge_refinement(
         alloc,
         known,
         scope,
-        Delivery::Open,
+        Wanted::Open,
         refinement.units.as_slice(),
     );
     scope.refinement = None;
@@ -158,9 +158,9 @@ fn frame(alloc: Global, scope: &Scope, of: Routine<'_>) -> Result<Owner, NoMemor
     ensures { IfOk result (λ frame. frame ≡ bodies.frame scope.now.types of.entry.formals.now of.entry.body.now) }
 {
     let types = scope.types.as_slice();
+    let variables = own_kinds(alloc, types, of.body)?;
     let parameters = parameters(alloc, types, of.formals)?;
     let parameters = formals(alloc, parameters.as_slice())?;
-    let variables = own_kinds(alloc, types, of.body)?;
     Ok(Owner::Own {
         parameters,
         variables,
@@ -173,8 +173,8 @@ fn judge_body(alloc: Global, known: &Known, scope: &Scope, of: Routine<'_>) -> J
         (around 0 (form.body (bodies.frame scope.now.types of.entry.formals.now of.entry.body.now) (bodies.result scope.now.types of.entry.result.now))
         (shape.units (delivered (bodies.result scope.now.types of.entry.result.now)) (map (shape.unit scope.now) of.entry.body.now.units)))) }
 {
-    let of_type = result_type(scope.types.as_slice(), of.result);
-    let wanted = Delivery::of(of_type);
+    let of_type = result_type(alloc, scope.types.as_slice(), of.result)?;
+    let wanted = Wanted::of(of_type.as_ref());
     let meant = judge_units(alloc, known, scope, wanted, of.body.units.as_slice())?;
     let Ok(owner) = frame(alloc, scope, of) else {
         meant.let_go();
@@ -183,8 +183,8 @@ fn judge_body(alloc: Global, known: &Known, scope: &Scope, of: Routine<'_>) -> J
     body(alloc, owner, of_type, meant)
 }
 
-fn is_missing(of: Option<ElanType>, units: &[Unit]) -> bool
-    ensures { (s : Scope) → result ≡ spec.is_missing of (map (shape.unit s) units.now) }
+fn is_missing(of: Option<&ElanType>, units: &[Unit]) -> bool
+    ensures { (s : Scope) → result ≡ spec.is_missing (option_map (λ t. t.now) of.entry) (map (shape.unit s) units.now) }
 {
     match of {
         None => false,
@@ -201,7 +201,8 @@ fn judge_heading(alloc: Global, scope: &Scope, of: Routine<'_>) -> Judged
 {
     let types = scope.types.as_slice();
     let parameters = parameters(alloc, types, of.formals)?;
-    let delivered = result_type(types, of.result);
+    let of_type = result_type(alloc, types, of.result)?;
+    let delivered = of_type.as_ref();
     let missing = is_missing(delivered, of.body.units.as_slice());
     let headed = Headed {
         sort: of.sort,
@@ -262,14 +263,12 @@ pub fn judge_routine(
         of.entry.body.now of.entry.sort ps)) }
     ensures kept { scope.new ≡ scope.old }
 {
-    let types = scope.types.as_slice();
-    let Ok(within) = body_within(alloc, of.number, types, of.formals, of.body) else {
-        let_go(names);
+    let row = with(names, judge_heading(alloc, scope, of));
+    let Ok(()) = enter(alloc, scope, of.number, of.formals, of.body) else {
+        let_go(row);
         return Err(Trouble::NoMemory);
     };
-    let row = with(names, judge_heading(alloc, scope, of));
-    scope.routine = Some(within);
     let row = judge_inside(alloc, known, scope, of, row);
-    scope.routine = None;
+    leave(scope);
     routine_of(alloc, row)
 }

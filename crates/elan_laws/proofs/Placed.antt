@@ -3,7 +3,7 @@ use Rattle.eu_base.specs.declared.operation.Way.{Way}
 use Rattle.std.proofs.Common.{ℕ, ℤ, Bool, true, false, ◌&&◌, if◌then◌else◌, nat_le, List, [], ◌∷◌, length, drop, Option, Some, None, nat_eq, zero, suc}
 use Rattle.elan_types.specs.declared.elan_type.ElanType.{ElanType}
 use Rattle.elan_types.specs.declared.elan_type.ElanType.TheVariants as type
-use Rattle.elan_types.specs.Types.{kind_in, is_own}
+use Rattle.elan_types.specs.Types.{concrete, shape_in, is_own}
 use Rattle.std.specs.Option.{option_map_or}
 use Rattle.elan_types.specs.declared.core_phrase.ValuePhrase.TheVariants as value
 use Rattle.elan_types.specs.declared.why.Why.{Why}
@@ -33,13 +33,12 @@ use Rattle.elan_scope.specs.declared.scope.Denotes.TheVariants as denotes
 use Rattle.elan_scope.specs.declared.scope.Usage.{Usage}
 use Rattle.elan_scope.specs.declared.scope.Usage.TheVariants.{Expression, Counter}
 use Rattle.elan_scope.specs.declared.known.Known.{Known}
-use Rattle.elan_scope.specs.declared.callable.Callee.{Callee}
-use Rattle.elan_scope.specs.declared.callable.Callee.TheVariants.{Predefined, Body}
+use Rattle.elan_scope.specs.Callees.{Callee}
+use Rattle.elan_scope.specs.Callees.{Predefined, Body}
 use Rattle.elan_scope.specs.declared.predefined.Predefined.TheVariants.{Operation, Change, Request, ErrorStop}
 use Rattle.elan_scope.specs.Known.{leads_back, delivery_at}
 use Rattle.std.specs.Prelude.{◌||◌, is_some}
 use Rattle.elan_scope.specs.declared.type_name.TypeName.{TypeName}
-use Rattle.elan_scope.specs.Types.{concrete}
 use Rattle.elan_scope.specs.Scope.{Callable, number_named, find, find_own, find_own_type, is_known, has_open, is_alike, left, first_heading}
 use Rattle.elan_scope.specs.Scope.{types_of, refinement_named}
 use Rattle.elan_scope.specs.Phrase as form
@@ -148,23 +147,20 @@ module _ (ns : List ℕ) where
     bracketed_placed (Value q t x) = here
     bracketed_placed _ = tt
 
-    concr_as_placed : (ts : List TypeName) (t : ElanType) (go : ElanType → Meant) → ((u : ElanType) → Placed (go u)) → Tells Placed (v.concr_as ts at t go)
-    concr_as_placed ts (type.Own t) go h = h (concrete ts t)
-    concr_as_placed ts type.Int go h = here
-    concr_as_placed ts type.Bool go h = here
-    concr_as_placed ts type.Text go h = here
-    concr_as_placed ts type.Open go h = here
+    concr_as_placed : (o : Option ElanType) (go : ElanType → Meant) → ((u : ElanType) → Placed (go u)) → Tells Placed (v.concr_as at o go)
+    concr_as_placed (Some u) go h = h u
+    concr_as_placed None go h = here
 
-    concr_placed : (s : Scope) (m : Meant) → Tells Placed (v.concr at s m)
-    concr_placed s (Variable q t x) = concr_as_placed s.types t (λ z. Variable at z x) (λ z. here)
-    concr_placed s (Value q t x) = concr_as_placed s.types t (λ z. Value at z x) (λ z. here)
-    concr_placed s _ = here
+    concr_placed : (m : Meant) → Tells Placed (v.concr at m)
+    concr_placed (Variable q t x) = concr_as_placed (concrete t) (λ z. Variable at z x) (λ z. here)
+    concr_placed (Value q t x) = concr_as_placed (concrete t) (λ z. Value at z x) (λ z. here)
+    concr_placed _ = here
 
     -- ---- calls
 
     given_as_placed : (a : Access) (t : ElanType) (m : Meant) → Placed m → Tells Any (r.given_as at a t m)
     given_as_placed Const t m h = tt
-    given_as_placed Var t m h = on_bind Any Any (p.variable at m) (λ x. gives (actual.Place x (kind_in t))) (variable_placed m h) (λ x k. tt)
+    given_as_placed Var t m h = on_bind Any Any (p.variable at m) (λ x. gives (actual.Place x (shape_in t))) (variable_placed m h) (λ x k. tt)
 
     given_placed : (ps : List Parameter) (ms : List Meant) → AllPlaced ms → Tells Any (r.given at ps ms)
     given_placed [] ms h = tt
@@ -363,7 +359,7 @@ module _ (ns : List ℕ) where
   rule_placed at (form.text x) ms h g = text_placed at h x
   rule_placed at (form.applied s sort x) ms h g = applied_placed at h s sort x ms g
   rule_placed at form.bracket ms h g = bracketed_placed at h (p.nth ms 0)
-  rule_placed at (form.concr s) ms h g = concr_placed at h s (p.nth ms 0)
+  rule_placed at form.concr ms h g = concr_placed at h (p.nth ms 0)
   rule_placed at form.cand ms h g =
       or_broken at h (value_walk.are_truths (p.nth ms 0) (p.nth ms 1))
       (value_walk.decided at false (p.value_of (p.nth ms 0)) (p.value_of (p.nth ms 1))) why.WrongType h

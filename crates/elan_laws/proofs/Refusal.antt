@@ -12,7 +12,7 @@ use Rattle.elan_rules.specs.Meaning.{phrases, IsFirst, judged, judged_all}
 use Rattle.elan_rules.proofs.First as first
 use Rattle.elan_unbuilt.specs.NotBuilt.{not_built}
 use Rattle.type_names.specs.Faults.{first_fault, level_faults}
-use Rattle.elan_check.specs.Level.{level_in, text}
+use Rattle.elan_bodies.specs.Level.{level_in, text}
 use Rattle.elan_check.specs.Text.{IsEarliest, Refused, known}
 use Rattle.elan_laws.specs.Places.{places, type_places}
 use Rattle.elan_laws.specs.Order.{Follows, ends, stays, goes_on, own, in_phrase, in_parts}

@@ -8,14 +8,14 @@ use Rattle.elan_types.specs.declared.core_phrase.Action.TheVariants as action
 use Rattle.elan_types.specs.declared.core_phrase.ValuePhrase.TheVariants as value
 use Rattle.eu_base.specs.declared.operation.Change.{Change as Changed}
 use Rattle.eu_base.specs.Operations.{change_kind}
-use Rattle.elan_types.specs.Types.{type_in, kind_in, held_const, held_var}
+use Rattle.elan_types.specs.Types.{type_in, shape_in, held_const, held_var}
 use Rattle.elan_scope.specs.declared.heading.Sort.{Sort}
 use Rattle.elan_scope.specs.declared.heading.What.{What}
 use Rattle.elan_scope.specs.declared.heading.What.TheVariants.{Routine, Refinement}
 use Rattle.elan_scope.specs.declared.heading.Heading.{Heading}
 use Rattle.elan_scope.specs.declared.scope.Scope.{Scope}
 use Rattle.elan_scope.specs.declared.scope.Within.{Within}
-use Rattle.elan_scope.specs.declared.callable.Callee.TheVariants.{Predefined}
+use Rattle.elan_scope.specs.Callees.{Predefined}
 use Rattle.elan_scope.specs.declared.predefined.Predefined.{Predefined as Name}
 use Rattle.elan_scope.specs.declared.predefined.Predefined.TheVariants.{Operation, Change, Request, ErrorStop}
 use Rattle.elan_scope.specs.Predefined.{Row, predefined, parameters, result}
@@ -48,7 +48,7 @@ module _ (at : ℕ) (ms : List Meant) where
 
   own_suits : (n : ℕ) (x : List ℕ) (w : What) → AllSuit (own_callable n x w)
   own_suits n x (Routine sort ps None) = (λ as' f g. (Done (action.Call n as' ∷ []), refl), tt)
-  own_suits n x (Routine sort ps (Some t)) = (λ as' f g. (Value at t (value.Call n as' (kind_in t)), refl), tt)
+  own_suits n x (Routine sort ps (Some t)) = (λ as' f g. (Value at t (value.Call n as' (shape_in t)), refl), tt)
   own_suits n x (Refinement home) = tt
 
   suit_append : (cs ds : List Callable) → AllSuit cs → AllSuit ds → AllSuit (cs ++ ds)
@@ -66,7 +66,7 @@ module _ (at : ℕ) (ms : List Meant) where
   changes c t [] as' f g = absurd cc
   changes c t (m ∷ []) as' f g = let e : false ≡ true = both (delivers t m) false f in absurd cc
   changes c t (Variable p u x ∷ n ∷ []) as' f g =
-      let given_is : actual.Place x (kind_in t) ∷ actual.Value (value_of n) ∷ [] ≡ as' = cc in
+      let given_is : actual.Place x (shape_in t) ∷ actual.Value (value_of n) ∷ [] ≡ as' = cc in
       subst (λ (l : List Actual). (m : Meant) × (performed at (Predefined (Change c)) None l ≡ gives m)) given_is
       (Done (action.Modify c x (value_of n) ∷ []), refl)
   changes c t (m ∷ n ∷ []) as' f g = absurd cc

@@ -4,6 +4,9 @@ use Rattle.std.proofs.Common.{append_assoc}
 use Rattle.std.specs.Prelude.{map, flat_map}
 use Rattle.std.specs.List.{list_any}
 use Rattle.std.specs.Option.{is_some}
+use Rattle.elan_types.specs.declared.elan_type.ElanType.TheVariants as elan
+use Rattle.elan_types.specs.Types.{is_open}
+use Rattle.elan_types.proofs.Types.{int_closed, bool_closed, text_closed}
 use Rattle.elan_types.specs.declared.why.Why.TheVariants.{Unknown, WrongPlace}
 use Rattle.elan_tree.specs.declared.written_type.Name.{Name}
 use Rattle.elan_tree.specs.declared.written_type.TypePhrase.{TypePhrase}
@@ -26,7 +29,7 @@ use Rattle.type_names.specs.declared.definition.Definition.{Definition}
 use Rattle.type_names.specs.Types.{written, first_from, names_of, body_definitions, level_definitions}
 use Rattle.type_names.specs.Faults as faults
 use Rattle.type_names.specs.Faults.{Here, here}
-use Rattle.elan_check.specs.Level.{level_in}
+use Rattle.elan_bodies.specs.Level.{level_in}
 use Rattle.elan_laws.specs.Places as at
 use Rattle.elan_laws.specs.Places.{type_places}
 use Rattle.elan_laws.specs.Order.{Follows, ends}
@@ -63,6 +66,10 @@ may_tell : (a : ℕ) (b : Bool) (g : Fault) → g.0 ≡ a → Follows (told_at (
 may_tell a true g e = subst (λ (n : ℕ). Follows (g.0 ∷ []) (n ∷ [])) e (all_of_it (g.0 ∷ []))
 may_tell a false g e = ends (a ∷ [])
 
+-- a fault that is not told
+none_told : (b : Bool) → b ≡ false → Follows (told_at (if b then (0, Unknown) ∷ [] else [])) []
+none_told b e = subst (λ (c : Bool). Follows (told_at (if c then (0, Unknown) ∷ [] else [])) []) (sym e) (ends [])
+
 -- ---- nodes
 
 abbrev types_in : List Node → List ℕ
@@ -75,9 +82,9 @@ types_append (x ∷ xs) ys =
 
 module _ (h : Here) where
   written_follows : (of : TypePhrase) → not (is_type_built of) ≡ false → Follows (told_at (faults.written_faults h (written of))) (at.type_name of)
-  written_follows (type.Int a) b = ends []
-  written_follows (type.Bool a) b = ends []
-  written_follows (type.Text a) b = ends []
+  written_follows (type.Int a) b = none_told (is_open elan.Int) int_closed
+  written_follows (type.Bool a) b = none_told (is_open elan.Bool) bool_closed
+  written_follows (type.Text a) b = none_told (is_open elan.Text) text_closed
   written_follows (type.Named n) b = by_test (is_some (first_type n.text h.seen))
     where
       by_test : (c : Bool) → Follows (told_at (if c then [] else (n.at, Unknown) ∷ [])) (n.at ∷ [])

@@ -4,15 +4,11 @@ use Rattle.std.specs.Prelude.{map, flat_map}
 use Rattle.std.specs.Str.{bytes_eq}
 use lib.Pointwise.{pointwise}
 use Rattle.elan_types.specs.declared.elan_type.ElanType.{ElanType}
-use Rattle.elan_types.specs.declared.elan_type.ElanType.TheVariants as elan
 use Rattle.elan_types.specs.Types.{same_type}
-use Rattle.elan_types.specs.Typing.{same_kind}
-use Rattle.eu_base.specs.declared.value.Kind.{Kind}
-use Rattle.eu_base.specs.declared.value.Kind.TheVariants as kinds
+use Rattle.elan_types.proofs.Types.{same_type_self}
 use Rattle.elan_scope.specs.declared.type_name.TypeName.{TypeName}
 use Rattle.type_names.specs.Types as types
 use Rattle.type_names.specs.declared.definition.Definition.{Definition}
-use Rattle.std.proofs.lemmas.Bool.Decides.{Decides-eqb}
 use Rattle.elan_tree.specs.declared.written_type.Name.{Name}
 use Rattle.elan_tree.specs.declared.written_type.TypePhrase.{TypePhrase}
 use Rattle.elan_tree.specs.declared.written_type.Formal.{Formal}
@@ -39,14 +35,14 @@ use Rattle.elan_scope.specs.Phrase as form
 use Rattle.elan_scope.specs.Phrase.{Phrase, leaf, all_of}
 use Rattle.elan_levels.specs.Declarations as d
 use Rattle.elan_levels.specs.Bodies as b
-use Rattle.elan_check.specs.Level as l
+use Rattle.elan_bodies.specs.Level as l
 use Rattle.elan_laws.specs.Served.{AreServed, AllServed}
 use Rattle.elan_laws.proofs.Declared.{NamedType, AllNamed, AllDefined, Fine, unit_alone_found, body_units_found}
 use Rattle.elan_laws.proofs.LookUps.{Has, in_first, in_second, Defines, defined_first, defined_second, type_named, bytes_self, named, own}
 use Rattle.elan_laws.proofs.LookUps.{HasHeading, heading_first, heading_second, heading_is, both_true, SubHeadings, Bodies}
 use Rattle.elan_laws.proofs.LookUps.{bodies_of, lead_append, nodes_lead, formals_lead, refinements_lead, units_lead}
 use Rattle.elan_levels.specs.walks.Headings.{all_headings}
-use Rattle.elan_check.specs.walks.Units.{level_units}
+use Rattle.elan_bodies.specs.walks.Units.{level_units}
 
 abbrev Sub : Scope → List Entry → Type 0
 Sub z es = (x : List ℕ) → Has es x → Has (own z) x
@@ -106,22 +102,9 @@ sort_self : (sort : Sort) → same_sort sort sort ≡ true
 sort_self Procedure = refl
 sort_self Operator = refl
 
-kind_self : (k : Kind) → same_kind k k ≡ true
-kind_self kinds.Int = refl
-kind_self kinds.Truth = refl
-kind_self kinds.Text = refl
-
-type_self : (t : ElanType) → same_type t t ≡ true
-type_self elan.Int = refl
-type_self elan.Bool = refl
-type_self elan.Text = refl
-type_self (elan.Own t) =
-    both_true (t.number == t.number) (same_kind t.kind t.kind) ((Decides-eqb t.number t.number).1 refl) (kind_self t.kind)
-type_self elan.Open = refl
-
 types_self : (ts : List ElanType) → pointwise same_type ts ts ≡ true
 types_self [] = refl
-types_self (t ∷ ts) = both_true (same_type t t) (pointwise same_type ts ts) (type_self t) (types_self ts)
+types_self (t ∷ ts) = both_true (same_type t t) (pointwise same_type ts ts) (same_type_self t) (types_self ts)
 
 -- a heading is alike to itself
 alike : (ts : List TypeName) (sort : Sort) (at : ℕ) (x : List ℕ) (fs : List Formal) (r : Option TypePhrase)

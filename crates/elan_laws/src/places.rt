@@ -8,7 +8,7 @@ ghost use Rattle.elan_scope.specs.Ruled.{Fault};
 ghost use Rattle.elan_rules.specs.Meaning.{phrases, IsFirst};
 ghost use Rattle.elan_unbuilt.specs.NotBuilt.{not_built};
 ghost use Rattle.type_names.specs.Faults.{level_faults};
-ghost use Rattle.elan_check.specs.Level.{level_in, text};
+ghost use Rattle.elan_bodies.specs.Level.{level_in, text};
 ghost use Rattle.elan_check.specs.Text.{Refused, known};
 ghost use Rattle.elan_laws.specs.Places.{places, type_places};
 ghost use Rattle.elan_laws.specs.Order.{Follows, IsSame, in_phrase, leaves};

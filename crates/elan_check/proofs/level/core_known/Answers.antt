@@ -2,7 +2,7 @@ use Rattle.std.proofs.Common.{sym, ◌∙◌}
 use Rattle.type_names.specs.Faults.{level_faults}
 use Rattle.elan_scope.specs.Phrase.{all_of}
 use Rattle.elan_rules.specs.Meaning.{judged_all}
-use Rattle.elan_check.specs.Level.{level_parts}
+use Rattle.elan_bodies.specs.Level.{level_parts}
 use Rattle.elan_check.proofs.Cores.{refused_is, no_first}
 use Rattle.elan_check.proofs.level.core_known.Goals as goal
 

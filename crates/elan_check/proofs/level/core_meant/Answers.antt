@@ -6,7 +6,7 @@ use Rattle.elan_scope.specs.Scope.{variables_of}
 use Rattle.elan_scope.specs.Phrase.{all_of}
 use Rattle.elan_scope.specs.Answer.{Fails}
 use Rattle.elan_rules.specs.Meaning.{judged_all}
-use Rattle.elan_check.specs.Level.{level_parts}
+use Rattle.elan_bodies.specs.Level.{level_parts}
 use Rattle.elan_check.proofs.Cores.{core_is, none_hangs}
 use Rattle.elan_check.proofs.level.core_meant.Goals as goal
 

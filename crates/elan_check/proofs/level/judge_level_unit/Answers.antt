@@ -4,7 +4,7 @@ use Rattle.elan_scope.specs.declared.heading.Sort.TheVariants.{Operator}
 use Rattle.elan_scope.specs.Answer.{Is}
 use Rattle.elan_rules.specs.Meaning.{judged}
 use Rattle.elan_unbuilt.specs.Operators.{operator_text}
-use Rattle.elan_check.specs.Level.{procedure_name, level_unit}
+use Rattle.elan_bodies.specs.Level.{procedure_name, level_unit}
 use Rattle.elan_check.proofs.Routines.{procedure_at, operator_at}
 use Rattle.elan_check.proofs.level.judge_level_unit.Goals as goal
 

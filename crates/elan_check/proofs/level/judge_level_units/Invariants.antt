@@ -1,7 +1,7 @@
 use Rattle.std.proofs.Common.{◌≡◌, drop}
 use Rattle.elan_check.proofs.Routines.{Grown}
 use Rattle.elan_check.proofs.level.judge_level_units.Given as goal
-use Rattle.elan_check.specs.walks.Units.{level_units}
+use Rattle.elan_bodies.specs.walks.Units.{level_units}
 
 pub record Kept (P Q : Type 0) : Type 0 where
   pub scope : P

@@ -3,7 +3,7 @@ use Rattle.elan_scope.specs.declared.known.Known.{Known}
 use Rattle.elan_scope.specs.Phrase.{Phrase, all_of}
 use Rattle.elan_rules.specs.Meaning.{judged_all}
 use Rattle.elan_scope.specs.Answer.{Is}
-use Rattle.elan_check.specs.Level.{declare_parameters}
+use Rattle.elan_bodies.specs.Level.{declare_parameters}
 use Rattle.elan_check.proofs.Routines.{Grown}
 use Rattle.elan_check.proofs.routine.declare_parameters.Given as goal
 

@@ -1,7 +1,7 @@
 use Rattle.std.proofs.Common.{◌++◌, ◌∷◌, []}
 use Rattle.elan_scope.specs.Phrase.{all_of}
 use Rattle.elan_rules.specs.Meaning.{judged, judged_all}
-use Rattle.elan_check.specs.Level.{declare_parameters}
+use Rattle.elan_bodies.specs.Level.{declare_parameters}
 use Rattle.elan_judge.proofs.Rows.{row_is}
 use Rattle.elan_check.proofs.Routines.{body_in, inside_goes}
 use Rattle.elan_check.proofs.routine.judge_inside.Goals as goal

@@ -7,7 +7,7 @@ use Rattle.elan_scope.specs.Phrase.{leaf, pair}
 use Rattle.elan_scope.specs.Answer.{Is}
 use Rattle.elan_rules.specs.Meaning.{judged}
 use Rattle.elan_judge.specs.Shape as shape
-use Rattle.elan_check.specs.Level as l
+use Rattle.elan_bodies.specs.Level as l
 use Rattle.elan_check.proofs.routine.judge_refinement.Goals as goal
 
 pub returns-clause-meaning : goal.returns-clause-meaning

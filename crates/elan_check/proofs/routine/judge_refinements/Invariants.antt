@@ -2,7 +2,7 @@ use Rattle.std.proofs.Common.{◌≡◌, ◌++◌, List, drop}
 use Rattle.elan_scope.specs.Phrase.{Phrase, all_of}
 use Rattle.elan_rules.specs.Meaning.{judged_all}
 use Rattle.elan_scope.specs.Answer.{Is}
-use Rattle.elan_check.specs.Level.{refinements}
+use Rattle.elan_bodies.specs.Level.{refinements}
 use Rattle.elan_check.proofs.Routines.{Grown}
 use Rattle.elan_check.proofs.routine.judge_refinements.Given as goal
 

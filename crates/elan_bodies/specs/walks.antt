@@ -1,0 +1,4 @@
+pub mod Seen
+pub mod Rounds
+pub mod OnTheWay
+pub mod Units

@@ -1,0 +1,25 @@
+-- What is known of bodies before all is found out.
+use Rattle.std.specs.Prelude.{◌≡◌, ◌⊎◌, ℕ, ◌+◌, List, map, length, Some, slice_get}
+use Rattle.elan_tree.specs.declared.tree.Level.{Level}
+use Rattle.elan_scope.specs.declared.delivery.Delivery.TheVariants.{Open}
+use Rattle.elan_scope.specs.declared.heading.Heading.{Heading}
+use Rattle.elan_scope.specs.declared.known.Known.{Known}
+use Rattle.elan_scope.specs.Known.{delivery_at}
+use Rattle.elan_levels.specs.Bodies.{headings}
+use Rattle.elan_bodies.specs.Level.{level_bodies}
+use Rattle.elan_bodies.specs.Refinements.{stated, called_in, known_of}
+
+-- Whatever the one knows the other knows too.
+abbrev pub AtMost : Known → Known → Type 0
+AtMost j k = (n : ℕ) → (delivery_at j n ≡ Open) ⊎ (delivery_at j n ≡ delivery_at k n)
+
+-- What headings tell is known, and nothing but what is known in the end.
+pub record IsOnTheWay (w : Level) (k : Known) : Type 0 where
+  pub calls : k.calls ≡ map called_in (level_bodies w)
+  pub count : length k.deliveries ≡ length (level_bodies w)
+  pub tells : (i : ℕ) (h : Heading) → slice_get (headings w) i ≡ Some h → (stated h.what ≡ Open → ⊥) → delivery_at k i ≡ stated h.what
+  pub most : AtMost k (known_of (headings w) (level_bodies w))
+
+-- These stand among all, from this number on.
+abbrev pub Holds : {A : Type 0} → List A → ℕ → List A → Type 0
+Holds all n xs = (i : ℕ) (x : _) → slice_get xs i ≡ Some x → slice_get all (n + i) ≡ Some x
