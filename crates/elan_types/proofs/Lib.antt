@@ -1,3 +1,4 @@
 pub mod Shapes
 pub mod Types
 pub mod Nested
+pub mod Sized

@@ -12,7 +12,8 @@ use Rattle.eu_base.specs.declared.shape.Shape.TheOpen.{Shape-F, Cell, Row, Struc
 use Rattle.eu_base.specs.declared.shape.Shape.TheFolds.{ind-Shape, map-Shape, fold-roll-Shape}
 use Rattle.eu_base.specs.Values.{kind_of, same_kind}
 use Rattle.eu_base.specs.Shapes.{cell_kinds, kinds_step, joined}
-use Rattle.elan_types.specs.Nested.{Nested, Parts, cell, made, none, part, flat, all_flat, is_cell_of, are_of, is_made_of, is_of_step, is_of, listed, parts_of, IsOneToOne, StandInOrder}
+use Rattle.elan_types.specs.Nested.{Nested, Parts, cell, made, none, part, flat, all_flat, is_cell_of, are_of, is_made_of, is_of_step, is_of, listed, parts_of}
+use Rattle.elan_types.specs.Nested.{IsOneToOne, StandInOrder}
 use Rattle.elan_types.specs.Eval.{part_of}
 use Rattle.elan_types.proofs.Shapes.{both, kind_is, same_kind_self}
 
@@ -220,14 +221,17 @@ field_stands s (f ∷ fields) zero (part w ps) u e i g =
 field_stands s (f ∷ fields) (suc k) (part w ps) u e i g =
     let b = both (is_of f w) (are_of (map is_of fields) ps) e in
     let n = length (joined (map cell_kinds (take k fields))) in
-    field_stands s fields k ps u b.1 i g
-    ∙ ap (take (length (cell_kinds s))) (sym (ap (λ (m : ℕ). drop m (flat w ++ all_flat ps)) (length-append (cell_kinds f) (joined (map cell_kinds (take k fields)))) ∙ next_cells f w n (all_flat ps) b.0))
+    let more = length-append (cell_kinds f) (joined (map cell_kinds (take k fields))) in
+    let same = ap (λ (m : ℕ). drop m (flat w ++ all_flat ps)) more ∙ next_cells f w n (all_flat ps) b.0 in
+    field_stands s fields k ps u b.1 i g ∙ ap (take (length (cell_kinds s))) (sym same)
 
 row_is : (n : ℕ) (s : Shape) (w : Nested) → is_of (shape.Row n s) w ≡ is_made_of (replicate n (is_of s)) w
-row_is n s w = ap (λ (r : Shape). is_of r w) (sym (shape.rolls-Row n s)) ∙ ap (λ (f : Nested → Bool). f w) (fold-roll-Shape (Nested → Bool) is_of_step (Row n s))
+row_is n s w =
+    ap (λ (r : Shape). is_of r w) (sym (shape.rolls-Row n s)) ∙ ap (λ (f : Nested → Bool). f w) (fold-roll-Shape (Nested → Bool) is_of_step (Row n s))
 
 struct_is : (ss : List Shape) (w : Nested) → is_of (shape.Struct ss) w ≡ is_made_of (map is_of ss) w
-struct_is ss w = ap (λ (r : Shape). is_of r w) (sym (shape.rolls-Struct ss)) ∙ ap (λ (f : Nested → Bool). f w) (fold-roll-Shape (Nested → Bool) is_of_step (Struct ss))
+struct_is ss w =
+    ap (λ (r : Shape). is_of r w) (sym (shape.rolls-Struct ss)) ∙ ap (λ (f : Nested → Bool). f w) (fold-roll-Shape (Nested → Bool) is_of_step (Struct ss))
 
 item_of : (s : Shape) (n k : ℕ) (w u : Nested) → is_made_of (replicate n (is_of s)) w ≡ true → slice_get (parts_of w) k ≡ Some u
     → flat u ≡ part_of (k * length (cell_kinds s)) (length (cell_kinds s)) (flat w)

@@ -1,5 +1,7 @@
 -- The shape of one cell, and shapes that are told to be the same.
-use Rattle.std.proofs.Common.{◌≡◌, ℕ, Bool, true, false, ◌&&◌, List, [], ◌∷◌, map, refl, sym, ap, ◌∙◌, eq-eqb, eqb-true}
+use Rattle.std.proofs.Common.{◌≡◌, ℕ, zero, suc, ◌+◌, ◌*◌, Bool, true, false, ◌&&◌, List, [], ◌∷◌, map, length, replicate, refl, sym, ap, ◌∙◌, eq-eqb, eqb-true}
+use Rattle.std.proofs.Common.{arith}
+use Rattle.std.proofs.lemmas.List.{length-append}
 use Rattle.eu_base.specs.declared.value.Kind.{Kind}
 use Rattle.eu_base.specs.declared.value.Kind.TheVariants as kinds
 use Rattle.eu_base.specs.declared.shape.Shape.{Shape, out-Shape, roll-Shape}
@@ -8,10 +10,22 @@ use Rattle.eu_base.specs.declared.shape.Shape.TheOpen.{Shape-F, Cell, Row, Struc
 use Rattle.eu_base.specs.declared.shape.Shape.TheViews.{out-roll-Shape, roll-out-Shape}
 use Rattle.eu_base.specs.declared.shape.Shape.TheFolds.{ind-Shape, map-Shape, fold-roll-Shape}
 use Rattle.eu_base.specs.Values.{same_kind}
-use Rattle.eu_base.specs.Shapes.{cell_kinds, is_cell, is_row, are_parts, is_struct, same_step, same_shape}
+use Rattle.eu_base.specs.Shapes.{cell_kinds, joined, is_cell, is_row, are_parts, is_struct, same_step, same_shape}
 
 pub cell_is : (k : Kind) → cell_kinds (shape.Cell k) ≡ k ∷ []
 cell_is k = ap cell_kinds (sym (shape.rolls-Cell k)) ∙ fold-roll-Shape _ _ (Cell k)
+
+pub row_kinds : (n : ℕ) (s : Shape) → cell_kinds (shape.Row n s) ≡ joined (replicate n (cell_kinds s))
+row_kinds n s = ap cell_kinds (sym (shape.rolls-Row n s)) ∙ fold-roll-Shape _ _ (Row n s)
+
+pub struct_kinds : (ss : List Shape) → cell_kinds (shape.Struct ss) ≡ joined (map cell_kinds ss)
+struct_kinds ss = ap cell_kinds (sym (shape.rolls-Struct ss)) ∙ fold-roll-Shape _ _ (Struct ss)
+
+pub joined_row : (n : ℕ) (ks : List Kind) → length (joined (replicate n ks)) ≡ n * length ks
+joined_row zero ks = omega arith
+joined_row (suc n) ks =
+    let e = joined_row n ks in
+    length-append ks (joined (replicate n ks)) ∙ (ap (λ m. length ks + m) e ∙ omega arith)
 
 pub both : (a b : Bool) → (a && b) ≡ true → (a ≡ true) × (b ≡ true)
 both true b e = (refl, e)

@@ -11,7 +11,7 @@ pub use core_phrase::{
     Access, Action, Actual, Arm, Body, Content, Core, Exit, Formal, Items, Part, PlacePhrase,
     Scope, ValueArm, ValuePhrase,
 };
-pub use elan_type::{ElanType, Parameter, formals};
+pub use elan_type::{ElanType, FieldType, Parameter, formals};
 pub use env::Env;
 pub use eu_base::{Change, Operation, RequestName, Way};
 pub use laws::{flat_values_are_one_to_one, parts_stand_in_order};

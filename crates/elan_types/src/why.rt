@@ -11,6 +11,8 @@ pub enum Why {
     WrongType,
     /// A variable is needed.
     NoVariable,
-    /// A phrase stands where it cannot: a LEAVE of another name, or a refinement that calls itself.
+    /// A phrase stands where it cannot: a LEAVE of another name, a refinement that calls itself, or a type that contains itself.
     WrongPlace,
+    /// The size of a row is outside 1 to 16,384, or a type has more than 16,384 cells, or its shape more than 800 nodes.
+    TooLarge,
 }
