@@ -1,6 +1,6 @@
 -- What is kept by name is the first declaration of each.
 use Rattle.std.proofs.Common.{◌≡◌, ℕ, ◌+◌, Bool, true, false, if◌then◌else◌, List, [], ◌∷◌, ◌++◌, length, Option, Some, None, refl, sym, ap, subst, ◌∙◌, append_assoc}
-use Rattle.std.specs.Prelude.{is_some, option_map, slice_get}
+use Rattle.std.specs.Prelude.{is_some, option_and_then, slice_get}
 use Rattle.std.specs.Str.{bytes_eq}
 use Rattle.std.specs.Global.{Vec}
 use Rattle.std.specs.HashMap.{HashMap, UpdatesBy}
@@ -9,17 +9,16 @@ use Rattle.std.proofs.lemmas.Slice.Eq.{bytes_eq-Decides}
 use Rattle.std.proofs.lemmas.Cmp.{nat_list_eq_equiv}
 use Rattle.std.proofs.lemmas.List.{length-append}
 use Rattle.elan_scope.specs.declared.scope.Entry.{Entry}
-use Rattle.elan_scope.specs.declared.directory.First.{First}
-use Rattle.elan_scope.specs.Names.{held, first_from}
-use Rattle.elan_scope.specs.walks.Firsts.{first_of, first_at, entry_at, earlier, kept, HasFirsts, KeepsOne}
+use Rattle.elan_scope.specs.Names.{cells_held, first_from}
+use Rattle.elan_scope.specs.walks.Firsts.{cells_before, first_at, numbered, entry_found, earlier, kept, HasFirsts, KeepsOne}
 
 -- ---- one declaration
 
-none_earlier : (o : Option First) → earlier o None ≡ o
+none_earlier : (o : Option ℕ) → earlier o None ≡ o
 none_earlier None = refl
 none_earlier (Some f) = refl
 
-some_stays : (o : Option First) (f : First) → is_some o ≡ true → o ≡ earlier o (Some f)
+some_stays : (o : Option ℕ) (f : ℕ) → is_some o ≡ true → o ≡ earlier o (Some f)
 some_stays None f e = absurd cc
 some_stays (Some g) f e = refl
 
@@ -34,7 +33,7 @@ pub others_kept : {K X : Type 0} (eq : K → K → Bool) (test : K → Bool) (ol
 unfolding KeepsOthers
 others_kept eq test old new h = h
 
-module _ {S : Type 0} (m n : HashMap (Vec ℕ) First S) (name : List ℕ) (f : First) where
+module _ {S : Type 0} (m n : HashMap (Vec ℕ) ℕ S) (name : List ℕ) (f : ℕ) where
   -- where one of the name is kept
   pub was_kept : is_some (kept m name) ≡ true → (x : List ℕ) → kept m x ≡ earlier (kept m x) (if bytes_eq name x then Some f else None)
   was_kept h x = by_test (bytes_eq name x) refl
@@ -48,7 +47,7 @@ module _ {S : Type 0} (m n : HashMap (Vec ℕ) First S) (name : List ℕ) (f : F
       → kept n x ≡ earlier (kept m x) (if bytes_eq name x then Some f else None)
   is_kept h u x = by_test (bytes_eq name x) refl
     where
-      no_other : (o : Option First) → is_some o ≡ false → Some f ≡ earlier o (Some f)
+      no_other : (o : Option ℕ) → is_some o ≡ false → Some f ≡ earlier o (Some f)
       no_other None e = refl
       no_other (Some g) e = absurd cc
 
@@ -63,47 +62,64 @@ module _ {S : Type 0} (m n : HashMap (Vec ℕ) First S) (name : List ℕ) (f : F
 -- ---- all of them
 
 -- what is kept, and what is found behind
-abbrev pub FindsRest : {S : Type 0} → HashMap (Vec ℕ) First S → ℕ → ℕ → List Entry → List Entry → Type 0
-FindsRest m k i rest es = (x : List ℕ) → earlier (kept m x) (first_at k i rest x) ≡ first_at 0 0 es x
+abbrev pub FindsRest : {S : Type 0} → HashMap (Vec ℕ) ℕ S → ℕ → List Entry → List Entry → Type 0
+FindsRest m i rest es = (x : List ℕ) → earlier (kept m x) (first_at i rest x) ≡ first_at 0 es x
 
 module _ {S : Type 0} where
-  pub at_start : (m : HashMap (Vec ℕ) First S) (es : List Entry) → m.entries ≡ [] → FindsRest m 0 0 es es
-  at_start m es e x =
-      ap (λ (ps : List (Vec ℕ × First)). earlier (lookup (λ k. bytes_eq x k.items) ps) (first_at 0 0 es x)) e
+  pub at_start : (m : HashMap (Vec ℕ) ℕ S) (es : List Entry) → m.entries ≡ [] → FindsRest m 0 es es
+  at_start m es e x = ap (λ (ps : List (Vec ℕ × ℕ)). earlier (lookup (λ k. bytes_eq x k.items) ps) (first_at 0 es x)) e
 
-  pub at_end : (m : HashMap (Vec ℕ) First S) (k i : ℕ) (es : List Entry) → FindsRest m k i [] es → HasFirsts m es
-  at_end m k i es h x = sym (none_earlier (kept m x)) ∙ h x
+  pub at_end : (m : HashMap (Vec ℕ) ℕ S) (i : ℕ) (es : List Entry) → FindsRest m i [] es → HasFirsts m es
+  at_end m i es h x = sym (none_earlier (kept m x)) ∙ h x
 
-  pub one_more : (m n : HashMap (Vec ℕ) First S) (k i : ℕ) (e : Entry) (rest es : List Entry) → KeepsOne m n (first_of k i) e
-      → FindsRest m k i (e ∷ rest) es → FindsRest n (k + length (held e.denotes)) (i + 1) rest es
-  one_more m n k i e rest es one h x =
-      ap (λ (o : Option First). earlier o (first_at (k + length (held e.denotes)) (i + 1) rest x)) (one x)
-      ∙ by_kept (kept m x) (bytes_eq e.name x) ∙ h x
+  pub one_more : (m n : HashMap (Vec ℕ) ℕ S) (i : ℕ) (e : Entry) (rest es : List Entry) → KeepsOne m n i e → FindsRest m i (e ∷ rest) es
+      → FindsRest n (i + 1) rest es
+  one_more m n i e rest es one h x =
+      ap (λ (o : Option ℕ). earlier o (first_at (i + 1) rest x)) (one x) ∙ by_kept (kept m x) (bytes_eq e.name x) ∙ h x
     where
-      by_kept : (o : Option First) (b : Bool)
-          → earlier (earlier o (if b then Some (first_of k i) else None)) (first_at (k + length (held e.denotes)) (i + 1) rest x)
-          ≡ earlier o (if b then Some (first_of k i) else first_at (k + length (held e.denotes)) (i + 1) rest x)
+      by_kept : (o : Option ℕ) (b : Bool)
+          → earlier (earlier o (if b then Some i else None)) (first_at (i + 1) rest x) ≡ earlier o (if b then Some i else first_at (i + 1) rest x)
       by_kept None true = refl
       by_kept None false = refl
-      by_kept (Some f) b = refl
+      by_kept (Some j) b = refl
 
 -- ---- what stands there
 
-at_seam : (before : List Entry) (e : Entry) (es : List Entry) → slice_get (before ++ e ∷ es) (length before) ≡ Some e
+at_seam : {A : Type 0} (before : List A) (e : A) (es : List A) → slice_get (before ++ e ∷ es) (length before) ≡ Some e
 at_seam [] e es = refl
 at_seam (d ∷ ds) e es = at_seam ds e es
 
-found_at : (before es : List Entry) (k i : ℕ) (x : List ℕ) → length before ≡ i → entry_at (before ++ es) (first_at k i es x) ≡ first_from k es x
-found_at before [] k i x l = refl
-found_at before (e ∷ es) k i x l =
-    by_test (found_at (before ++ e ∷ []) es (k + length (held e.denotes)) (i + 1) x (length-append before (e ∷ []) ∙ ap (λ n. n + 1) l)) (bytes_eq e.name x)
-  where
-    by_test : entry_at ((before ++ e ∷ []) ++ es) (first_at (k + length (held e.denotes)) (i + 1) es x) ≡ first_from (k + length (held e.denotes)) es x
-        → (b : Bool)
-        → entry_at (before ++ e ∷ es) (if b then Some (first_of k i) else first_at (k + length (held e.denotes)) (i + 1) es x)
-        ≡ (if b then Some (k, e) else first_from (k + length (held e.denotes)) es x)
-    by_test rest true = ap (option_map (λ (d : Entry). (k, d))) (ap (slice_get (before ++ e ∷ es)) (sym l) ∙ at_seam before e es)
-    by_test rest false = ap (λ ds. entry_at ds (first_at (k + length (held e.denotes)) (i + 1) es x)) (sym (append_assoc before (e ∷ []) es)) ∙ rest
+-- a declaration, and its number
+here : (ns : List ℕ) (before : List Entry) (i k : ℕ) (e : Entry) (ms : List ℕ) (es : List Entry) → length ns ≡ i → length before ≡ i
+    → numbered (slice_get (ns ++ k ∷ ms) i) (slice_get (before ++ e ∷ es) i) ≡ Some (k, e)
+here ns before i k e ms es l m =
+    ap (λ (o : Option ℕ). numbered o (slice_get (before ++ e ∷ es) i)) (ap (slice_get (ns ++ k ∷ ms)) (sym l) ∙ at_seam ns k ms)
+    ∙ ap (λ (o : Option Entry). numbered (Some k) o) (ap (slice_get (before ++ e ∷ es)) (sym m) ∙ at_seam before e es)
 
-pub first_found : (es : List Entry) (x : List ℕ) → entry_at es (first_at 0 0 es x) ≡ first_from 0 es x
-first_found es x = found_at [] es 0 0 x refl
+abbrev numbered_at : List ℕ → List Entry → Option ℕ → Option (ℕ × Entry)
+numbered_at ns es found = option_and_then (λ i. numbered (slice_get ns i) (slice_get es i)) found
+
+found_at : (ns : List ℕ) (before es : List Entry) (k i : ℕ) (x : List ℕ) → length ns ≡ i → length before ≡ i
+    → numbered_at (ns ++ cells_before k es) (before ++ es) (first_at i es x) ≡ first_from k es x
+found_at ns before [] k i x l m = refl
+found_at ns before (e ∷ es) k i x l m =
+    by_test
+    (found_at (ns ++ k ∷ []) (before ++ e ∷ []) es (k + cells_held e.denotes) (i + 1) x (length-append ns (k ∷ []) ∙ ap (λ n. n + 1) l)
+    (length-append before (e ∷ []) ∙ ap (λ n. n + 1) m))
+    (bytes_eq e.name x)
+  where
+    by_test : numbered_at ((ns ++ k ∷ []) ++ cells_before (k + cells_held e.denotes) es) ((before ++ e ∷ []) ++ es) (first_at (i + 1) es x)
+        ≡ first_from (k + cells_held e.denotes) es x
+        → (b : Bool)
+        → numbered_at (ns ++ k ∷ cells_before (k + cells_held e.denotes) es) (before ++ e ∷ es) (if b then Some i else first_at (i + 1) es x)
+        ≡ (if b then Some (k, e) else first_from (k + cells_held e.denotes) es x)
+    by_test rest true = here ns before i k e (cells_before (k + cells_held e.denotes) es) es l m
+    by_test rest false =
+        ap (λ (ms : List ℕ). numbered_at ms (before ++ e ∷ es) (first_at (i + 1) es x))
+        (sym (append_assoc ns (k ∷ []) (cells_before (k + cells_held e.denotes) es)))
+        ∙ ap (λ (ds : List Entry). numbered_at ((ns ++ k ∷ []) ++ cells_before (k + cells_held e.denotes) es) ds (first_at (i + 1) es x))
+        (sym (append_assoc before (e ∷ []) es))
+        ∙ rest
+
+pub first_found : (es : List Entry) (x : List ℕ) → entry_found es (first_at 0 es x) ≡ first_from 0 es x
+first_found es x = found_at [] [] es 0 0 x refl refl

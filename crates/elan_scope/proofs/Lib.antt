@@ -4,3 +4,4 @@ pub mod Kept
 pub mod Ends
 pub mod Named
 pub mod Numbered
+pub mod Counted

@@ -1,8 +1,9 @@
 -- Names in the order in which they are declared.
-use Rattle.std.specs.Prelude.{ℕ, ◌+◌, List, [], ◌∷◌, length, Option, Some, None, if◌then◌else◌}
+use Rattle.std.specs.Prelude.{ℕ, ◌+◌, List, [], ◌∷◌, length, flat_map, Option, Some, None, if◌then◌else◌}
 use Rattle.std.specs.Str.{bytes_eq}
 use Rattle.elan_types.specs.declared.elan_type.Parameter.{Parameter}
-use Rattle.elan_types.specs.Types.{held_const}
+use Rattle.elan_types.specs.Types.{held_const, formal_of}
+use Rattle.elan_types.specs.Typing.{cells_of}
 use Rattle.elan_scope.specs.declared.scope.Denotes.{Denotes}
 use Rattle.elan_scope.specs.declared.scope.Denotes.TheVariants as denotes
 use Rattle.elan_scope.specs.declared.scope.Entry.{Entry}
@@ -16,10 +17,14 @@ held denotes.Procedure = []
 held denotes.Refinement = []
 held (denotes.Denoter d) = []
 
--- the first declaration of a name, with the number of variables, constants and parameters before it
+-- the number of cells of what is held: those of each value, and one for the place that a VAR parameter holds
+abbrev pub cells_held : Denotes → ℕ
+cells_held d = length (flat_map (λ p. cells_of (formal_of p)) (held d))
+
+-- the first declaration of a name, with the number of cells of what is held before it
 abbrev pub first_from : ℕ → List Entry → List ℕ → Option (ℕ × Entry)
 first_from k [] x = None
-first_from k (e ∷ es) x = if bytes_eq e.name x then Some (k, e) else first_from (k + length (held e.denotes)) es x
+first_from k (e ∷ es) x = if bytes_eq e.name x then Some (k, e) else first_from (k + cells_held e.denotes) es x
 
 abbrev pub first_named : List Entry → List ℕ → Option (ℕ × Entry)
 first_named = first_from 0

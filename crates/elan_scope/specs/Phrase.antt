@@ -22,6 +22,9 @@ pub data Plain : Type 0 where
   bracket : Plain
   -- CONCR of a value or place of one of the text's own types
   concr : Plain
+  -- a value or place of a row and an index, and one of a structure
+  index : Plain
+  field : List ℕ → Plain
   cand : Plain
   cor : Plain
   -- conditions, each before its units, and the units of ELSE

@@ -7,12 +7,13 @@ use lib.Pointwise.{pointwise}
 use Rattle.std.specs.Option.{is_some, option_or, option_map_or}
 use Rattle.std.specs.Str.{bytes_eq}
 use Rattle.eu_base.specs.declared.value.Kind.{Kind}
+use Rattle.eu_base.specs.Shapes.{cell_kinds}
 use Rattle.elan_types.specs.declared.elan_type.ElanType.{ElanType}
 use Rattle.elan_types.specs.declared.elan_type.Parameter.{Parameter}
 use Rattle.elan_types.specs.declared.core_phrase.Exit.{Exit}
 use Rattle.elan_types.specs.declared.core_phrase.Exit.TheVariants as exits
 use Rattle.elan_types.specs.Typing.{same_home}
-use Rattle.elan_types.specs.Types.{same_type, kind_in, is_open}
+use Rattle.elan_types.specs.Types.{same_type, shape_in, is_open}
 use Rattle.elan_scope.specs.declared.scope.Denotes.{Denotes}
 use Rattle.elan_scope.specs.declared.scope.Denotes.TheVariants as denotes
 use Rattle.elan_scope.specs.declared.scope.Entry.{Entry}
@@ -31,7 +32,7 @@ use Rattle.elan_scope.specs.Callees.{Predefined, Body}
 use Rattle.elan_scope.specs.Predefined.{Row, predefined, parameters, result}
 use Rattle.elan_scope.specs.declared.type_name.TypeName.{TypeName}
 use Rattle.elan_scope.specs.Types.{first_type}
-pub use Rattle.elan_scope.specs.Names.{held, first_from, first_named}
+pub use Rattle.elan_scope.specs.Names.{held, cells_held, first_from, first_named}
 
 -- the number of the PROC or OP
 abbrev pub number_of : Option Within → Option ℕ
@@ -45,9 +46,9 @@ all_held es = flat_map (λ e. held e.denotes) es
 abbrev pub types_of : List Parameter → List ElanType
 types_of ps = map (λ p. p.of) ps
 
--- the kinds of the variables and constants of a level
+-- the kinds of the cells of variables and constants
 abbrev pub variables_of : List Entry → List Kind
-variables_of es = map kind_in (types_of (all_held es))
+variables_of es = flat_map (λ t. cell_kinds (shape_in t)) (types_of (all_held es))
 
 -- ---- identifiers without actuals
 
@@ -101,7 +102,7 @@ abbrev pub first_in : {A : Type 0} → (Layer → Option A) → List Layer → O
 first_in look [] = None
 first_in look (l ∷ ls) = option_or (look l) (first_in look ls)
 
--- a declaration that was found, with the number of variables, constants and parameters before it in its home
+-- a declaration that was found, with the number of cells of what is held before it in its home
 pub record Found : Type 0 where
   pub home : Home
   pub number : ℕ

@@ -1,6 +1,6 @@
 //! What can be called with operands.
 
-ghost use Rattle.std.specs.Prelude.{◌≡◌, map, option_map, length, slice_get, drop};
+ghost use Rattle.std.specs.Prelude.{◌≡◌, IfOk, map, option_map, length, slice_get, drop};
 ghost use Rattle.std.specs.Option.{is_some};
 ghost use Rattle.elan_types.specs.Types.{formal_of};
 ghost use Rattle.elan_scope.specs.Predefined.{predefined};
@@ -12,7 +12,8 @@ use crate::headings::Headings;
 use crate::predefined::{Operand, Predefined, Row, rows};
 use crate::scope::Scope;
 use elan_types::{ElanType, Formal, Parameter};
-use eu_base::Shape;
+use eu_base::{NoMemory, Shape};
+use std::alloc::Global;
 
 /// What is called.
 #[derive(Clone, Copy)]
@@ -49,17 +50,17 @@ impl<'a> Parameters<'a> {
     }
 
     /// What a core knows of the first, if there is one.
-    #[tactic(auto, using(elan_types::proofs::Types::kind_type))]
-    pub fn first(self) -> Option<Formal>
-        ensures { result ≡ option_map formal_of (slice_get (seen.parameters self.entry) 0) }
+    #[tactic(auto, using(elan_types::proofs::Types::type_shape))]
+    pub fn first(self, alloc: Global) -> Result<Option<Formal>, NoMemory>
+        ensures { IfOk result (λ formal. formal ≡ option_map formal_of (slice_get (seen.parameters self.entry) 0)) }
     {
         match self {
-            Parameters::Own([parameter, _others @ ..]) => Some(parameter.formal()),
-            Parameters::Predefined([operand, _others @ ..]) => Some(Formal {
+            Parameters::Own([parameter, _others @ ..]) => Ok(Some(parameter.formal(alloc)?)),
+            Parameters::Predefined([operand, _others @ ..]) => Ok(Some(Formal {
                 shape: Shape::Cell(operand.kind),
                 access: operand.access,
-            }),
-            Parameters::Own([]) | Parameters::Predefined([]) => None,
+            })),
+            Parameters::Own([]) | Parameters::Predefined([]) => Ok(None),
         }
     }
 
@@ -198,8 +199,8 @@ fn is_own(headings: &Headings, sort: Sort, name: &[u8], count: usize) -> bool
     false
 }
 
-// Whether what is predefined has a name and so many parameters.
-fn is_predefined(sort: Sort, name: &[u8], count: usize) -> bool
+/// Whether what is predefined has a name and so many parameters.
+pub fn is_predefined(sort: Sort, name: &[u8], count: usize) -> bool
     ensures { result ≡ is_some (spec.first (spec.has_as_many sort name.now count) (map spec.predefined_callable predefined)) }
 {
     let mut rest = rows();

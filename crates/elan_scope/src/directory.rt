@@ -1,6 +1,6 @@
 //! What a level or a body declares, found by name.
 
-ghost use Rattle.std.specs.Prelude.{◌≡◌, Some, option_map, IfOk, OnOk};
+ghost use Rattle.std.specs.Prelude.{◌≡◌, option_map, IfOk, OnOk};
 ghost use Rattle.elan_scope.specs.Names as names;
 ghost use Rattle.elan_scope.specs.walks.Firsts as spec;
 
@@ -11,24 +11,18 @@ use std::alloc::Global;
 use std::collections::HashMap;
 use std::marker::Model;
 
-/// Where the first declaration of a name stands: how many variables, constants and parameters are before it, and how many
-/// declarations.
-#[derive(Clone, Copy)]
-pub struct First {
-    pub number: usize,
-    pub index: usize,
-}
-
-/// Declarations in text order, which contracts see as a list. Of many, the first of each name is kept by the name, so that no
-/// look-up goes over all of them.
+/// Declarations in text order, which contracts see as a list. Of many, the place of the first of each name is kept by the name,
+/// so that no look-up goes over all of them.
 #[derive(Drop)]
 pub struct Directory {
     entries: List<Entry>,
-    firsts: Option<HashMap<Vec<u8>, First>>,
+    // How many cells are before each of them.
+    numbers: List<usize>,
+    firsts: Option<HashMap<Vec<u8>, usize>>,
 }
 
 impl Model for Directory {
-    ghost use Rattle.std.specs.Prelude.{List};
+    ghost use Rattle.std.specs.Prelude.{◌≡◌, List};
     ghost use Rattle.elan_scope.specs.declared.scope.Entry.{Entry};
     ghost use Rattle.std.specs.Coded.{codes};
     ghost use Rattle.elan_types.specs.contracts.elan_type.ElanType as types;
@@ -37,27 +31,38 @@ impl Model for Directory {
 
     ghost coded = { Prim.hlevel (codes, types.the_row.coded) };
 
-    ghost use Rattle.elan_scope.specs.walks.Firsts.{AreKept};
+    ghost use Rattle.elan_scope.specs.walks.Firsts.{AreKept, cells_before};
 
     ghost view = { λ directory. directory.entries };
 
-    ghost invariant = { λ directory. AreKept directory.firsts directory.entries };
+    ghost invariant = { λ directory. (directory.numbers ≡ cells_before 0 directory.entries) × AreKept directory.firsts directory.entries };
 }
 
 // So many names are looked through one after another.
 const FEW: usize = 8;
 
-fn first_named<'a>(entries: &'a [Entry], name: &[u8]) -> Option<(usize, &'a Entry)>
-    ensures { option_map (λ f. (f.0, f.1.now)) result ≡ names.first_named entries.now name.now }
+// How many cells are before each declaration.
+fn cells_before(alloc: Global, entries: &[Entry]) -> Result<List<usize>, NoMemory>
+    ensures { IfOk result (λ numbers. numbers ≡ spec.cells_before 0 entries.now) }
 {
-    let mut number = 0;
-    let mut rest = entries;
-    while let [entry, others @ ..] = rest {
+    let mut numbers = List::new(alloc);
+    let mut number = 0_usize;
+    for entry in entries {
+        numbers.push(number)?;
+        let cells = entry.denotes.cells().ok_or(NoMemory)?;
+        number = number.checked_add(usize::from(cells)).ok_or(NoMemory)?;
+    }
+    Ok(numbers)
+}
+
+// The place of the first declaration of a name.
+fn first_at(entries: &[Entry], name: &[u8]) -> Option<usize>
+    ensures { result ≡ spec.first_at 0 entries.now name.now }
+{
+    for (index, entry) in entries.iter().enumerate() {
         if is_one(entry.name.as_slice(), name) {
-            return Some((number, entry));
+            return Some(index);
         }
-        number += entry.denotes.count();
-        rest = others;
     }
     None
 }
@@ -65,32 +70,30 @@ fn first_named<'a>(entries: &'a [Entry], name: &[u8]) -> Option<(usize, &'a Entr
 // Keeps a declaration, unless one of its name is kept.
 fn keep(
     alloc: Global,
-    firsts: &mut HashMap<Vec<u8>, First>,
-    first: First,
+    firsts: &mut HashMap<Vec<u8>, usize>,
+    index: usize,
     entry: &Entry,
 ) -> Result<(), NoMemory>
-    ensures { OnOk result (spec.KeepsOne firsts.old firsts.new first entry.now) }
+    ensures { OnOk result (spec.KeepsOne firsts.old firsts.new index entry.now) }
 {
     let name = entry.name.as_slice();
     if firsts.contains_key(name) {
         return Ok(());
     }
     let name = Vec::from_slice(alloc, name)?;
-    firsts.insert(name, first)?;
+    firsts.insert(name, index)?;
     Ok(())
 }
 
 // Keeps the first declaration of each name.
-fn firsts(alloc: Global, entries: &[Entry]) -> Result<HashMap<Vec<u8>, First>, NoMemory>
+fn firsts(alloc: Global, entries: &[Entry]) -> Result<HashMap<Vec<u8>, usize>, NoMemory>
     ensures { IfOk result (λ firsts. spec.HasFirsts firsts entries.now) }
 {
     let mut firsts = HashMap::new(alloc);
-    let mut number = 0;
     let mut index = 0;
     let mut rest = entries;
     while let [entry, others @ ..] = rest {
-        keep(alloc, &mut firsts, First { number, index }, entry)?;
-        number += entry.denotes.count();
+        keep(alloc, &mut firsts, index, entry)?;
         index += 1;
         rest = others;
     }
@@ -102,14 +105,20 @@ impl Directory {
     pub fn of(alloc: Global, entries: List<Entry>) -> Result<Directory, NoMemory>
         ensures { IfOk result (λ made. made ≡ entries) }
     {
+        let numbers = cells_before(alloc, entries.as_slice())?;
         if entries.len() <= FEW {
             return Ok(Directory {
                 entries,
+                numbers,
                 firsts: None,
             });
         }
         let firsts = Some(firsts(alloc, entries.as_slice())?);
-        Ok(Directory { entries, firsts })
+        Ok(Directory {
+            entries,
+            numbers,
+            firsts,
+        })
     }
 
     /// The declarations, lent.
@@ -119,25 +128,31 @@ impl Directory {
         self.entries.as_slice()
     }
 
-    // The declaration that stands there, with the number of variables, constants and parameters before it.
-    fn entry_at(&self, first: First) -> Option<(usize, &Entry)>
-        ensures { option_map (λ f. (f.0, f.1.now)) result ≡ spec.entry_at self.now (Some first) }
+    // The declaration at this place, with the number of cells of what is held before it.
+    fn entry_at(&self, index: usize) -> Option<(usize, &Entry)>
+        ensures { option_map (λ f. (f.0, f.1.now)) result ≡ spec.entry_at self.now index }
     {
-        let entry = self.entries.as_slice().get(first.index)?;
-        Some((first.number, entry))
+        let number = *self.numbers.as_slice().get(index)?;
+        let entry = self.entries.as_slice().get(index)?;
+        Some((number, entry))
     }
 
-    /// The first declaration of a name, with the number of variables, constants and parameters before it; `None` exactly where
-    /// there is none.
+    fn place_of(&self, name: &[u8]) -> Option<usize>
+        ensures { result ≡ spec.first_at 0 self.now name.now }
+    {
+        match &self.firsts {
+            None => first_at(self.entries.as_slice(), name),
+            Some(firsts) => firsts.get(name).copied(),
+        }
+    }
+
+    /// The first declaration of a name, with the number of cells of what is held before it; `None` exactly where there is none.
     pub fn first_named(&self, name: &[u8]) -> Option<(usize, &Entry)>
         ensures { option_map (λ f. (f.0, f.1.now)) result ≡ names.first_named self.now name.now }
     {
-        match &self.firsts {
-            None => first_named(self.entries.as_slice(), name),
-            Some(firsts) => match firsts.get(name) {
-                None => None,
-                Some(first) => self.entry_at(*first),
-            },
+        match self.place_of(name) {
+            None => None,
+            Some(index) => self.entry_at(index),
         }
     }
 }

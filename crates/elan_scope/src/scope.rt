@@ -1,6 +1,6 @@
 //! Where a phrase stands, and what names denote there.
 
-ghost use Rattle.std.specs.Prelude.{◌≡◌, ◌≤◌, option_map, length, slice_get};
+ghost use Rattle.std.specs.Prelude.{◌≡◌, ◌<◌, SomeIff, option_map, slice_get};
 ghost use Rattle.elan_scope.specs.Scope as spec;
 ghost use Rattle.elan_scope.specs.walks.Seen as seen;
 
@@ -33,18 +33,15 @@ pub enum Denotes {
 }
 
 impl Denotes {
-    /// How many variables, constants and parameters it is.
-    pub fn count(&self) -> usize
-        ensures held { result ≡ length (spec.held self.now) }
-        ensures few { result ≤ 1 }
+    /// The number of cells of what it holds; `None` exactly where they are more than 65,535.
+    #[tactic(auto, using(crate::proofs::Counted::value_cells, crate::proofs::Counted::given_cells))]
+    pub fn cells(&self) -> Option<u16>
+        ensures { SomeIff result (spec.cells_held self.now < 65536) (spec.cells_held self.now) }
     {
         match self {
-            Denotes::Variable(_) => 1,
-            Denotes::Constant(_) => 1,
-            Denotes::Parameter(_) => 1,
-            Denotes::Procedure => 0,
-            Denotes::Refinement => 0,
-            Denotes::Denoter(_) => 0,
+            Denotes::Variable(of) | Denotes::Constant(of) => of.cells(),
+            Denotes::Parameter(parameter) => parameter.cells(),
+            Denotes::Procedure | Denotes::Refinement | Denotes::Denoter(_) => Some(0),
         }
     }
 
@@ -97,7 +94,7 @@ pub enum Home {
     Routine,
 }
 
-/// A declaration that was found, with the number of variables, constants and parameters before it in its home.
+/// A declaration that was found, with the number of cells of what is held before it in its home.
 #[derive(Clone, Copy)]
 pub struct Found<'a> {
     pub home: Home,

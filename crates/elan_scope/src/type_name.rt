@@ -7,14 +7,36 @@ use crate::heading::is_one;
 use elan_types::ElanType;
 use eu_base::Bytes;
 
-/// A name that LET or TYPE gives to a type.
+/// What a name is where a type is written.
+#[derive(Drop)]
+pub enum Named {
+    /// LET or TYPE gives it to this type, which is open where it has no meaning.
+    Of(ElanType),
+    /// LET gives it to this number, which can be the size of a row.
+    Size(i16),
+    /// It denotes neither.
+    Other,
+}
+
+/// A name that a scope declares, as far as types are written with it.
 #[derive(Drop)]
 pub struct TypeName {
     /// The place of the name.
     pub at: u32,
     pub name: Bytes,
-    /// The type that it denotes; open where it denotes none.
-    pub of: ElanType,
+    pub of: Named,
+}
+
+impl TypeName {
+    /// Whether it denotes a type that has no meaning.
+    pub fn is_open(&self) -> bool
+        ensures { result ≡ spec.is_open_named self.now.of }
+    {
+        match &self.of {
+            Named::Of(of) => of.is_open(),
+            Named::Size(_) | Named::Other => false,
+        }
+    }
 }
 
 /// The first of these that has a name.

@@ -1,4 +1,9 @@
 pub mod Seen
 pub mod Looked
+pub mod Judged
+pub mod Told
+pub mod Rounds
 pub mod Searched
+pub mod Meaning
 pub mod Sound
+pub mod Sized

@@ -1,70 +1,46 @@
 -- Where no type breaks a rule, each name of a type denotes one.
-use Rattle.std.proofs.Common.{◌≡◌, ℕ, zero, suc, ◌+◌, Bool, true, false, ◌||◌, ◌&&◌, ◌==◌, if◌then◌else◌, List, [], ◌∷◌, ◌++◌, length, Option, Some, None}
-use Rattle.std.proofs.Common.{refl, sym, ap, subst, ◌∙◌, inl, arith, eq-eqb}
+use Rattle.std.proofs.Common.{◌≡◌, ℕ, ℤ, zero, suc, ◌+◌, ◌-◌, ◌≤◌, Bool, true, false, ◌&&◌, ◌==◌, if◌then◌else◌, List, [], ◌∷◌, ◌++◌, length}
+use Rattle.std.proofs.Common.{Option, Some, None, refl, sym, ap, subst, ◌∙◌, inl, inr, arith, eq-eqb}
 use Rattle.std.specs.Prelude.{map, option_to_list, option_map, slice_get, slice_index_or}
 use Rattle.std.specs.List.{list_any}
-use Rattle.std.specs.Option.{option_or, is_some}
+use Rattle.std.specs.Option.{option_or}
 use Rattle.std.specs.Str.{bytes_eq}
 use Rattle.std.proofs.lemmas.Slice.Eq.{bytes_eq-Decides}
 use Rattle.call_graph.specs.Chains.{leads}
-use Rattle.call_graph.proofs.Walks.{In, Call, no_walk}
+use Rattle.call_graph.proofs.Walks as walks
+use Rattle.call_graph.proofs.Walks.{Call, no_walk}
 use Rattle.elan_types.specs.declared.elan_type.ElanType.{ElanType}
 use Rattle.elan_types.specs.declared.elan_type.ElanType.TheVariants as types
 use Rattle.elan_types.specs.Types.{is_open}
-use Rattle.elan_types.proofs.Types.{open_is, open_open, own_not_open}
-use Rattle.elan_types.specs.declared.why.Why.TheVariants.{Unknown, WrongPlace}
+use Rattle.elan_types.proofs.Types.{open_open}
+use Rattle.elan_types.specs.declared.why.Why.TheVariants.{WrongPlace}
+use Rattle.elan_tree.specs.declared.tree.Refinement.{Refinement}
+use Rattle.elan_tree.specs.declared.written_type.TypePhrase.{TypePhrase}
 use Rattle.elan_scope.specs.declared.type_name.TypeName.{TypeName}
-use Rattle.elan_scope.specs.Types.{first_type, denoted_type}
-use Rattle.elan_scope.specs.Ruled.{Fault}
-use Rattle.type_names.specs.declared.definition.Written.{Written}
-use Rattle.type_names.specs.declared.definition.Written.TheVariants.{Of, Named}
+use Rattle.elan_scope.specs.declared.type_name.Named.{Named}
+use Rattle.elan_scope.specs.declared.type_name.Named.TheVariants as named
+use Rattle.type_names.specs.declared.definition.Defined.{Defined}
+use Rattle.type_names.specs.declared.definition.Defined.TheVariants as defined
 use Rattle.type_names.specs.declared.definition.Definition.{Definition}
-use Rattle.type_names.specs.Types.{meant, look, first_from, made, as_defined, by_definition, denoted, concrete, type_name, names_from, names_of}
-use Rattle.type_names.specs.Faults.{Here, here, calls, comes_back, named_by, named_faults, written_faults}
-use Rattle.type_names.specs.walks.Further as further
-use Rattle.type_names.proofs.Looked.{look_append}
+use Rattle.type_names.specs.Types.{meant, type_in, look, first_from, made, as_defined, by_definition, denoted, names_of}
+use Rattle.type_names.specs.Faults.{Here, here, calls, comes_back, named_in, names_in, number_named, numbers_named, named_faults, written_faults}
+use Rattle.type_names.proofs.Looked.{look_both}
+use Rattle.type_names.proofs.Meaning.{In, Looks, is_unknown, Found, no_fault, neither, right_false, both_ways, own_closed, meant_kept, is_meant}
+use Rattle.type_names.proofs.Rounds.{names_denote, seen_denotes}
 
--- each of these names denotes a type
+-- each of these names that denotes a type denotes one with meaning
 abbrev pub Mean : List TypeName → Type 0
-Mean ts = (x : List ℕ) (t : TypeName) → first_type x ts ≡ Some t → is_open t.of ≡ false
+Mean ts = (x : List ℕ) (t : ElanType) → look ts x ≡ Some (named.Of t) → is_open t ≡ false
 
--- a definition breaks no rule
-pub record Sound (h : Here) (d : Definition) : Type 0 where
-  pub named : named_faults h d.at d.written (first_from 0 h.definitions d.name) ≡ []
-  pub written : written_faults h d.written ≡ []
+-- What is written at a place under a name breaks no rule.
+abbrev pub SoundAs : Here → ℕ → List ℕ → Defined → Type 0
+SoundAs h at x (defined.Abbreviation of) = (named_faults h at of (first_from 0 h.definitions x) ≡ []) × (written_faults h of ≡ [])
+SoundAs h at x (defined.New of) = (named_faults h at of (first_from 0 h.definitions x) ≡ []) × (written_faults h of ≡ [])
+SoundAs h at x (defined.Number k) = Unit {0}
+SoundAs h at x defined.Other = Unit {0}
 
--- ---- types that are open
-
-pub no_fault : (b : Bool) (f : Fault) → (if b then f ∷ [] else []) ≡ [] → b ≡ false
-no_fault true f e = absurd cc
-no_fault false f e = refl
-
-right_false : (p q : Bool) → p ≡ true → (p && q) ≡ false → q ≡ false
-right_false true q e f = f
-right_false false q e f = absurd cc
-
-is_opened : (t : ElanType) → t ≡ types.Open → is_open t ≡ true
-is_opened t e = ap is_open e ∙ open_open
-
-both_ways : (b : Bool) → b ≡ false → b ≡ true → ⊥
-both_ways b h k = cc
-
-made_open : (n : ℕ) (t : ElanType) → made n t ≡ types.Open → t ≡ types.Open
-made_open n t e = by_test (is_open t) refl e
-  where
-    by_test : (b : Bool) → is_open t ≡ b → (if b then types.Open else types.Own n t) ≡ types.Open → t ≡ types.Open
-    by_test true h k = open_is t h
-    by_test false h k = absurd (own_not_open n t k)
-
-defined_open : (n : ℕ) (own : Bool) (t : ElanType) → as_defined n own t ≡ types.Open → t ≡ types.Open
-defined_open n true t e = made_open n t e
-defined_open n false t e = e
-
-abbrev pub unknown_if : ℕ → Option TypeName → List Fault
-unknown_if at o = if is_some o then [] else (at, Unknown) ∷ []
-
-pub not_unknown : (at : ℕ) → unknown_if at None ≡ [] → ⊥
-not_unknown at e = cc
+abbrev pub Sound : Here → Definition → Type 0
+Sound h d = SoundAs h d.at d.name d.what
 
 -- ---- definitions that are found
 
@@ -96,157 +72,267 @@ found_at ds x j e h =
     let n : e.name ≡ x = (bytes_eq-Decides e.name x).0 r.3 in
     (ap (slice_get ds) (sym z) ∙ r.2, ap (first_from 0 ds) n ∙ h)
 
+number_in : (ds : List Definition) (x : List ℕ) (xs : List (List ℕ)) (j : ℕ) → In x xs → number_named ds x ≡ Some j → walks.In j (numbers_named ds xs)
+number_in ds x [] j h e = absurd h
+number_in ds x (y ∷ xs) j h e =
+    elim h [
+      | inl i ↦ added_first (number_named ds y) (ap (number_named ds) i ∙ e)
+      | inr i ↦ added_second (number_named ds y) (number_in ds x xs j i e)
+    ]
+  where
+    added_first : (o : Option ℕ) → o ≡ Some j → walks.In j (option_to_list o ++ numbers_named ds xs)
+    added_first None k = absurd cc
+    added_first (Some n) k = let q : n ≡ j = cc in inl q
+
+    added_second : (o : Option ℕ) → walks.In j (numbers_named ds xs) → walks.In j (option_to_list o ++ numbers_named ds xs)
+    added_second None k = k
+    added_second (Some n) k = inr k
+
+none_back : (f : ℕ → Bool) (ns : List ℕ) (n : ℕ) → walks.In n ns → list_any f ns ≡ false → f n ≡ false
+none_back f [] n h e = absurd h
+none_back f (m ∷ ns) n h e =
+    let p = neither (f m) (list_any f ns) e in
+    elim h [
+      | inl i ↦ ap f (sym i) ∙ p.0
+      | inr i ↦ none_back f ns n i p.1
+    ]
+
+-- ---- what is denoted over more names
+
+made_known : (n : ℕ) (t : ElanType) → is_open (made n t) ≡ false → is_open t ≡ false
+made_known n t e = by_test (is_open t) e
+  where
+    by_test : (b : Bool) → is_open (if b then types.Open else types.Own n t) ≡ false → b ≡ false
+    by_test true h = absurd (both_ways (is_open types.Open) h open_open)
+    by_test false h = refl
+
+made_closed : (n : ℕ) (t : ElanType) → is_open t ≡ false → is_open (made n t) ≡ false
+made_closed n t e = ap (λ (b : Bool). is_open (if b then types.Open else types.Own n t)) e ∙ own_closed n t
+
+made_open : (n : ℕ) (t : ElanType) → is_open (made n t) ≡ true → is_open t ≡ true
+made_open n t e = by_test (is_open t) refl
+  where
+    by_test : (b : Bool) → is_open t ≡ b → b ≡ true
+    by_test true h = refl
+    by_test false h = absurd (both_ways (is_open (made n t)) (made_closed n t h) e)
+
+defined_kept : (l m : Looks) → ((x : List ℕ) → is_unknown (l x) ≡ false → l x ≡ m x) → (n : ℕ) (w : Defined)
+    → is_unknown (Some (as_defined l n w)) ≡ false → as_defined l n w ≡ as_defined m n w
+defined_kept l m less n (defined.Abbreviation of) e = ap (λ (t : ElanType). named.Of t) (meant_kept l m less of e)
+defined_kept l m less n (defined.New of) e = ap (λ (t : ElanType). named.Of (made n t)) (meant_kept l m less of (made_known n (meant l of) e))
+defined_kept l m less n (defined.Number k) e = refl
+defined_kept l m less n defined.Other e = refl
+
 module _ (around : List TypeName) (ds : List Definition) where
-  abbrev name_of : Option (ℕ × Definition) → Option TypeName
-  name_of o = option_map (λ f. type_name around ds f.0 f.1) o
+  -- what is known of names where so many may follow
+  abbrev look_at : ℕ → Looks
+  look_at zero x = None
+  look_at (suc f) x = denoted around ds f x
 
-  name_found_from : (k : ℕ) (rest : List Definition) (x : List ℕ) → first_type x (names_from around ds k rest) ≡ name_of (first_from k rest x)
-  name_found_from k [] x = refl
-  name_found_from k (d ∷ rest) x = by_test (bytes_eq d.name x) (name_found_from (k + 1) rest x)
+  abbrev one : (f : ℕ) (x : List ℕ) → denoted around ds f x ≡ by_definition (look_at f) (first_from 0 ds x) (look around x)
+  one zero x = refl
+  one (suc f) x = refl
+
+  abbrev by_name : ℕ → List ℕ → Option (ℕ × Definition) → Option Named
+  by_name f x o = by_definition (look_at f) o (look around x)
+
+  abbrev Less : Looks → Looks → Type 0
+  Less l m = (x : List ℕ) → is_unknown (l x) ≡ false → l x ≡ m x
+
+  found_kept : (l m : Looks) → Less l m → (o : Option (ℕ × Definition)) (q : Option Named) → is_unknown (by_definition l o q) ≡ false
+      → by_definition l o q ≡ by_definition m o q
+  found_kept l m less None q e = refl
+  found_kept l m less (Some f) q e = ap (λ (n : Named). Some n) (defined_kept l m less f.0 f.1.what e)
+
+  one_more : (f : ℕ) → Less (look_at f) (look_at (suc f))
+  one_more zero x e = absurd cc
+  one_more (suc f) x e =
+      one f x
+      ∙ found_kept (look_at f) (look_at (suc f)) (one_more f) (first_from 0 ds x) (look around x) (sym (ap is_unknown (one f x)) ∙ e)
+      ∙ sym (one (suc f) x)
+
+  some_more : (k f : ℕ) → Less (look_at f) (look_at (k + f))
+  some_more zero f x e = let z : 0 + f ≡ f = omega arith in ap (λ (n : ℕ). look_at n x) (sym z)
+  some_more (suc k) f x e =
+      let z : suc k + f ≡ suc (k + f) = omega arith in
+      let h = some_more k f x e in
+      h ∙ one_more (k + f) x (sym (ap is_unknown h) ∙ e) ∙ ap (λ (n : ℕ). look_at n x) (sym z)
+
+  abbrev last : ℕ
+  last = suc (length ds)
+
+  at_last : (f : ℕ) → f ≤ suc last → Less (look_at f) (denoted around ds last)
+  at_last f le x e =
+      let z : (suc last - f) + f ≡ suc last = omega (arith, le) in
+      some_more (suc last - f) f x e ∙ ap (λ (n : ℕ). look_at n x) z
+
+  -- a number is known at once
+  number_known : (f : ℕ) (x : List ℕ) (k : ℤ) → denoted around ds last x ≡ Some (named.Size k) → denoted around ds f x ≡ Some (named.Size k)
+  number_known f x k e = one f x ∙ by_found (first_from 0 ds x) (sym (one last x) ∙ e)
     where
-      by_test : (b : Bool) → first_type x (names_from around ds (k + 1) rest) ≡ name_of (first_from (k + 1) rest x)
-          → (if b then Some (type_name around ds k d) else first_type x (names_from around ds (k + 1) rest))
-          ≡ name_of (if b then Some (k, d) else first_from (k + 1) rest x)
-      by_test true h = refl
-      by_test false h = h
+      by_what : (l m : Looks) (n : ℕ) (w : Defined) → as_defined m n w ≡ named.Size k → as_defined l n w ≡ named.Size k
+      by_what l m n (defined.Abbreviation of) h = absurd cc
+      by_what l m n (defined.New of) h = absurd cc
+      by_what l m n (defined.Number i) h = h
+      by_what l m n defined.Other h = absurd cc
 
-  pub name_found : (x : List ℕ) → first_type x (names_of around ds) ≡ name_of (first_from 0 ds x)
-  name_found x = name_found_from 0 ds x
+      by_found : (o : Option (ℕ × Definition)) → by_definition (look_at last) o (look around x) ≡ Some (named.Size k)
+          → by_definition (look_at f) o (look around x) ≡ Some (named.Size k)
+      by_found None h = h
+      by_found (Some g) h =
+          let i : as_defined (look_at last) g.0 g.1.what ≡ named.Size k = cc in
+          ap (λ (n : Named). Some n) (by_what (look_at f) (look_at last) g.0 g.1.what i)
 
-  seen_found : (x : List ℕ) → first_type x (names_of around ds ++ around) ≡ option_or (name_of (first_from 0 ds x)) (first_type x around)
-  seen_found x = look_append x (names_of around ds) around ∙ ap (λ (o : Option TypeName). option_or o (first_type x around)) (name_found x)
+  module _ (rs : List Refinement) where
+    abbrev h : Here
+    h = here around ds rs
 
-  -- ---- what is denoted over further names
+    abbrev seen : List TypeName
+    seen = names_of around ds ++ around
 
-  abbrev look_at : ℕ → List ℕ → ElanType
-  look_at = further.look_at around ds
+    seen_is : (x : List ℕ) → look seen x ≡ denoted around ds last x
+    seen_is x = ap (λ (l : Looks). l x) (seen_denotes around ds)
 
-  pub denoted_is : (f : ℕ) (x : List ℕ) → denoted around ds f x ≡ by_definition (look_at f) (first_from 0 ds x) (look around x)
-  denoted_is zero x = refl
-  denoted_is (suc f) x = refl
+    less_seen : (f : ℕ) → f ≤ suc last → Less (look_at f) (look seen)
+    less_seen f le x e = at_last f le x e ∙ sym (seen_is x)
 
-  abbrev h : Here
-  h = here around ds
+    numbers_seen : (f : ℕ) (x : List ℕ) (k : ℤ) → look seen x ≡ Some (named.Size k) → denoted around ds f x ≡ Some (named.Size k)
+    numbers_seen f x k e = number_known f x k (sym (seen_is x) ∙ e)
 
-  module _ (means : Mean around) (sound : (i : ℕ) (d : Definition) → slice_get ds i ≡ Some d → Sound h d) where
-    -- the first definition of a name, whose type is open over so many further names
-    abbrev Goes : ℕ → ℕ → Type 0
-    Goes f c = (d : Definition) × (slice_get ds c ≡ Some d) × (first_from 0 ds d.name ≡ Some (c, d)) × (meant (look_at f) d.written ≡ types.Open)
+    module _ (means : Mean around) (sound : (i : ℕ) (d : Definition) → slice_get ds i ≡ Some d → Sound h d) where
+      -- the first definition of a name, whose type is not known over so many further names
+      record Goes (f c : ℕ) : Type 0 where
+        d : Definition
+        stands : slice_get ds c ≡ Some d
+        first : first_from 0 ds d.name ≡ Some (c, d)
+        unknown : is_unknown (Some (as_defined (look_at f) c d.what)) ≡ true
+        few : f ≤ suc last
 
-    abbrev Next : ℕ → List ℕ → Type 0
-    Next f x = (j : ℕ) × (e : Definition) × (first_from 0 ds x ≡ Some (j, e)) × (meant (look_at f) e.written ≡ types.Open)
+      abbrev n : ℕ
+      n = length (calls ds)
 
-    -- a name that is open leads to a definition that is
-    next : (f at : ℕ) (x : List ℕ) → written_faults h (Named at x) ≡ [] → denoted around ds f x ≡ types.Open → Next f x
-    next f at x w e = by_found (first_from 0 ds x) refl (sym (denoted_is f x) ∙ e)
-      where
-        around_open : (o : Option TypeName) → first_type x around ≡ o → first_from 0 ds x ≡ None → denoted_type o ≡ types.Open → ⊥
-        around_open (Some t) i j k = both_ways (is_open t.of) (means x t i) (is_opened t.of k)
-        around_open None i j k =
-            let q : first_type x (names_of around ds ++ around) ≡ None =
-            seen_found x ∙ ap (λ (o : Option (ℕ × Definition)). option_or (name_of o) (first_type x around)) j ∙ i in
-            not_unknown at (ap (unknown_if at) (sym q) ∙ w)
+      -- what is written breaks no rule, and yet its type is not known: a definition whose name is written goes on
+      record Next (f c : ℕ) (of : TypePhrase) : Type 0 where
+        to : ℕ
+        called : walks.In to (numbers_named ds (named_in of))
+        goes : Goes f to
 
-        by_found : (o : Option (ℕ × Definition)) → first_from 0 ds x ≡ o → by_definition (look_at f) o (look around x) ≡ types.Open → Next f x
-        by_found None i k = absurd (around_open (first_type x around) refl i k)
-        by_found (Some g) i k = (g.0, g.1, i, defined_open g.0 g.1.own (meant (look_at f) g.1.written) k)
+      next_named : (f c : ℕ) (of : TypePhrase) → suc f ≤ suc last → Found seen (denoted around ds f) (named_in of) → Next f c of
+      next_named f c of few g = by_found (first_from 0 ds g.name) refl
+        where
+          around_known : first_from 0 ds g.name ≡ None → ⊥
+          around_known i =
+              let here : (m : ℕ) → denoted around ds m g.name ≡ look around g.name = λ m. one m g.name ∙ ap (by_name m g.name) i in
+              let e : look around g.name ≡ Some (named.Of g.of) = sym (here last) ∙ sym (seen_is g.name) ∙ g.seen_as in
+              both_ways (is_open g.of) (means g.name g.of e) (sym (ap is_unknown (here f ∙ e)) ∙ g.unknown)
 
-    goes_at : (f : ℕ) (x : List ℕ) (n : Next f x) → Goes f n.0
-    goes_at f x n = let p = found_at ds x n.0 n.1 n.2 in (n.1, p.0, p.1, n.3)
+          by_found : (o : Option (ℕ × Definition)) → first_from 0 ds g.name ≡ o → Next f c of
+          by_found None i = absurd (around_known i)
+          by_found (Some (j, e)) i =
+              let at = found_at ds g.name j e i in
+              record {
+                to = j;
+                called = number_in ds g.name (named_in of) j g.within (ap (option_map (λ k. k.0)) i);
+                goes =
+                    record {
+                      d = e;
+                      stands = at.0;
+                      first = at.1;
+                      unknown =
+                          sym (ap is_unknown (one f g.name ∙ ap (by_name f g.name) i)) ∙ g.unknown;
+                      few = (let z : f ≤ suc last = omega (arith, few) in z);
+                    };
+              }
 
-    calls_at : (es : List Definition) (c : ℕ) (d : Definition) → slice_get es c ≡ Some d
-        → slice_index_or (map (λ (e : Definition). named_by ds e.written) es) c [] ≡ named_by ds d.written
-    calls_at [] c d e = absurd cc
-    calls_at (a ∷ es) zero d e = let i : a ≡ d = cc in ap (λ (q : Definition). named_by ds q.written) i
-    calls_at (a ∷ es) (suc c) d e = calls_at es c d e
+      -- what is written breaks no rule, and its type is not known
+      next : (f c : ℕ) (of : TypePhrase) → suc f ≤ suc last → written_faults h of ≡ [] → is_open (meant (denoted around ds f) of) ≡ true → Next f c of
+      next f c of few e o =
+          elim (is_meant seen rs (denoted around ds f) (less_seen (suc f) few) (numbers_seen f) of e) [
+            | inl m ↦ absurd (both_ways (is_open (meant (denoted around ds f) of)) m.closed o)
+            | inr g ↦ next_named f c of few g
+          ]
 
-    or_false : (b : Bool) → (b || false) ≡ false → b ≡ false
-    or_false true e = absurd cc
-    or_false false e = refl
+      calls_at : (es : List Definition) (c : ℕ) (d : Definition) → slice_get es c ≡ Some d
+          → slice_index_or (map (λ (e : Definition). numbers_named ds (names_in e.what)) es) c [] ≡ numbers_named ds (names_in d.what)
+      calls_at [] c d e = absurd cc
+      calls_at (a ∷ es) zero d e = let i : a ≡ d = cc in ap (λ (q : Definition). numbers_named ds (names_in q.what)) i
+      calls_at (a ∷ es) (suc c) d e = calls_at es c d e
 
-    abbrev n : ℕ
-    n = length (calls ds)
+      not_back : (c : ℕ) (d : Definition) (of : TypePhrase) (to : ℕ) → first_from 0 ds d.name ≡ Some (c, d)
+          → named_faults h d.at of (first_from 0 ds d.name) ≡ [] → walks.In to (numbers_named ds (named_in of)) → leads n (calls ds) to c ≡ false
+      not_back c d of to i e w =
+          let back : (if (d.at == d.at) && comes_back (calls ds) (numbers_named ds (named_in of)) c then (d.at, WrongPlace) ∷ [] else []) ≡ [] =
+          sym (ap (named_faults h d.at of) i) ∙ e in
+          none_back (λ m. leads n (calls ds) m c) (numbers_named ds (named_in of)) to w
+          (right_false (d.at == d.at) (comes_back (calls ds) (numbers_named ds (named_in of)) c) (eq-eqb d.at d.at refl)
+          (no_fault ((d.at == d.at) && comes_back (calls ds) (numbers_named ds (named_in of)) c) (d.at, WrongPlace) back))
 
-    step : (f c : ℕ) → Goes (suc f) c → Call (calls ds) n (Goes f) c
-    step f c g = by_written g.0.written refl
-      where
-        by_written : (w : Written) → g.0.written ≡ w → Call (calls ds) n (Goes f) c
-        by_written (Of t) i =
-            let s = sound c g.0 g.1 in
-            let b : is_open t ≡ false = no_fault (is_open t) (0, Unknown) (subst (λ (w : Written). written_faults h w ≡ []) i s.written) in
-            let o : t ≡ types.Open = sym (ap (meant (look_at (suc f))) i) ∙ g.3 in
-            absurd (both_ways (is_open t) b (is_opened t o))
-        by_written (Named at x) i =
-            let s = sound c g.0 g.1 in
-            let w = subst (λ (v : Written). written_faults h v ≡ []) i s.written in
-            let q = next f at x w (sym (ap (meant (look_at (suc f))) i) ∙ g.3) in
-            let by : named_by ds g.0.written ≡ q.0 ∷ [] =
-            ap (named_by ds) i ∙ ap (λ (o : Option (ℕ × Definition)). option_to_list (option_map (λ f. f.0) o)) q.2 in
-            let back : (if (g.0.at == g.0.at) && comes_back (calls ds) (named_by ds g.0.written) c then (g.0.at, WrongPlace) ∷ [] else []) ≡ [] =
-            subst (λ (o : Option (ℕ × Definition)). named_faults h g.0.at g.0.written o ≡ []) g.2 s.named in
-            record {
-              to = q.0;
-              called = subst (In q.0) (sym (calls_at ds c g.0 g.1 ∙ by)) (inl refl);
-              away = or_false (leads n (calls ds) q.0 c)
-                  (sym (ap (λ (ms : List ℕ). list_any (λ m. leads n (calls ds) m c) ms) by)
-                  ∙ right_false (g.0.at == g.0.at) (comes_back (calls ds) (named_by ds g.0.written) c) (eq-eqb g.0.at g.0.at refl)
-                  (no_fault ((g.0.at == g.0.at) && comes_back (calls ds) (named_by ds g.0.written) c) (g.0.at, WrongPlace) back));
-              goes = goes_at f x q;
-            }
+      step : (f c : ℕ) → Goes (suc f) c → Call (calls ds) n (Goes f) c
+      step f c g = by_what g.d.what refl (sound c g.d g.stands) g.unknown
+        where
+          called : (of : TypePhrase) → names_in g.d.what ≡ named_in of → named_faults h g.d.at of (first_from 0 ds g.d.name) ≡ []
+              → Next f c of → Call (calls ds) n (Goes f) c
+          called of i e q =
+              record {
+                to = q.to;
+                called = subst (walks.In q.to) (sym (calls_at ds c g.d g.stands ∙ ap (numbers_named ds) i)) q.called;
+                away = not_back c g.d of q.to g.first e q.called;
+                goes = q.goes;
+              }
 
-    as_long : {A : Type 0} (xs : List A) (ys : List Bool) (c : ℕ) (x : A) → slice_get xs c ≡ Some x → length ys ≡ length xs → (b : Bool) × (slice_get ys c ≡ Some b)
-    as_long [] ys c x e l = absurd cc
-    as_long (a ∷ xs) [] c x e l = absurd (let z : 0 ≡ suc (length xs) = l in omega (arith, z))
-    as_long (a ∷ xs) (y ∷ ys) zero x e l = (y, refl)
-    as_long (a ∷ xs) (y ∷ ys) (suc c) x e l = as_long xs ys c x e (let z : suc (length ys) ≡ suc (length xs) = l in omega (arith, z))
+          by_what : (w : Defined) → g.d.what ≡ w → SoundAs h g.d.at g.d.name w → is_unknown (Some (as_defined (denoted around ds f) c w)) ≡ true
+              → Call (calls ds) n (Goes f) c
+          by_what (defined.Abbreviation of) i s u = called of (ap names_in i) s.0 (next f c of g.few s.1 u)
+          by_what (defined.New of) i s u = called of (ap names_in i) s.0 (next f c of g.few s.1 (made_open c (meant (denoted around ds f) of) u))
+          by_what (defined.Number k) i s u = absurd cc
+          by_what defined.Other i s u = absurd cc
 
-    map_length : (es : List Definition) → length (map (λ (e : Definition). named_by ds e.written) es) ≡ length es
-    map_length [] = refl
-    map_length (e ∷ es) = ap suc (map_length es)
+      as_long : {A : Type 0} (xs : List A) (ys : List Bool) (c : ℕ) (x : A) → slice_get xs c ≡ Some x → length ys ≡ length xs
+          → (b : Bool) × (slice_get ys c ≡ Some b)
+      as_long [] ys c x e l = absurd cc
+      as_long (a ∷ xs) [] c x e l = absurd (let z : 0 ≡ suc (length xs) = l in omega (arith, z))
+      as_long (a ∷ xs) (y ∷ ys) zero x e l = (y, refl)
+      as_long (a ∷ xs) (y ∷ ys) (suc c) x e l = as_long xs ys c x e (let z : suc (length ys) ≡ suc (length xs) = l in omega (arith, z))
 
-    small : (f c : ℕ) → Goes f c → (marks : List Bool) → length marks ≡ n → (b : Bool) × (slice_get marks c ≡ Some b)
-    small f c g marks l = as_long ds marks c g.0 g.1 (l ∙ map_length ds)
+      map_length : (es : List Definition) → length (map (λ (e : Definition). numbers_named ds (names_in e.what)) es) ≡ length es
+      map_length [] = refl
+      map_length (e ∷ es) = ap suc (map_length es)
 
-    none_goes : (c : ℕ) → Goes (length ds) c → ⊥
-    none_goes c g = no_walk (calls ds) n Goes step small ds (sym (map_length ds)) c (subst (λ (m : ℕ). Goes m c) (sym (map_length ds)) g)
+      small : (f c : ℕ) → Goes f c → (marks : List Bool) → length marks ≡ n → (b : Bool) × (slice_get marks c ≡ Some b)
+      small f c g marks l = as_long ds marks c g.d g.stands (l ∙ map_length ds)
 
-    pub concrete_means : (i : ℕ) (d : Definition) → slice_get ds i ≡ Some d → is_open (concrete around ds d) ≡ false
-    concrete_means i d e = by_test (is_open (concrete around ds d)) refl
-      where
-        by_written : (w : Written) → d.written ≡ w → concrete around ds d ≡ types.Open → ⊥
-        by_written (Of t) j k =
-            both_ways (is_open t) (no_fault (is_open t) (0, Unknown) (subst (λ (w : Written). written_faults h w ≡ []) j (sound i d e).written))
-            (is_opened t (sym (ap (meant (denoted around ds (length ds))) j) ∙ k))
-        by_written (Named at x) j k =
-            let q =
-            next (length ds) at x (subst (λ (v : Written). written_faults h v ≡ []) j (sound i d e).written)
-            (sym (ap (meant (denoted around ds (length ds))) j) ∙ k) in
-            none_goes q.0 (goes_at (length ds) x q)
+      none_goes : (c : ℕ) → Goes (length ds) c → ⊥
+      none_goes c g = no_walk (calls ds) n Goes step small ds (sym (map_length ds)) c (subst (λ (m : ℕ). Goes m c) (sym (map_length ds)) g)
 
-        by_test : (b : Bool) → is_open (concrete around ds d) ≡ b → b ≡ false
-        by_test false j = refl
-        by_test true j = absurd (by_written d.written refl (open_is (concrete around ds d) j))
+      pub names_mean : Mean (names_of around ds)
+      names_mean x t e = by_found (first_from 0 ds x) refl (sym (names_denote around ds x) ∙ e)
+        where
+          by_found : (o : Option (ℕ × Definition)) → first_from 0 ds x ≡ o → by_definition (denoted around ds (length ds)) o None ≡ Some (named.Of t)
+              → is_open t ≡ false
+          by_found None i k = absurd cc
+          by_found (Some (c, d)) i k = by_test (is_open t) refl
+            where
+              goes : is_open t ≡ true → Goes last c
+              goes u =
+                  let at = found_at ds x c d i in
+                  record { d = d; stands = at.0; first = at.1; unknown = ap is_unknown k ∙ u; few = (let z : last ≤ suc last = omega arith in z) }
 
-    defined_means : (k : ℕ) (own : Bool) (t : ElanType) → is_open t ≡ false → is_open (as_defined k own t) ≡ false
-    defined_means k own t e = by_test (is_open (as_defined k own t)) refl
-      where
-        by_test : (b : Bool) → is_open (as_defined k own t) ≡ b → b ≡ false
-        by_test false j = refl
-        by_test true j = absurd (both_ways (is_open t) e (is_opened t (defined_open k own t (open_is (as_defined k own t) j))))
+              by_test : (b : Bool) → is_open t ≡ b → b ≡ false
+              by_test false u = refl
+              by_test true u = let r = step (length ds) c (goes u) in absurd (none_goes r.to r.goes)
 
-    pub names_mean : Mean (names_of around ds)
-    names_mean x t e = by_found (first_from 0 ds x) refl (sym (name_found x) ∙ e)
-      where
-        by_found : (o : Option (ℕ × Definition)) → first_from 0 ds x ≡ o → name_of o ≡ Some t → is_open t.of ≡ false
-        by_found None i k = absurd cc
-        by_found (Some g) i k =
-            let q : type_name around ds g.0 g.1 ≡ t = cc in
-            subst (λ (u : TypeName). is_open u.of ≡ false) q
-            (defined_means g.0 g.1.own (concrete around ds g.1) (concrete_means g.0 g.1 (found_at ds x g.0 g.1 i).0))
+      pub seen_mean : Mean (names_of around ds ++ around)
+      seen_mean x t e = by_own (look (names_of around ds) x) refl (sym (look_both x (names_of around ds) around) ∙ e)
+        where
+          by_own : (o : Option Named) → look (names_of around ds) x ≡ o → option_or o (look around x) ≡ Some (named.Of t) → is_open t ≡ false
+          by_own None i k = means x t k
+          by_own (Some m) i k = names_mean x t (i ∙ k)
 
-    pub seen_mean : Mean (names_of around ds ++ around)
-    seen_mean x t e = by_own (first_type x (names_of around ds)) refl (sym (look_append x (names_of around ds) around) ∙ e)
-      where
-        by_own : (o : Option TypeName) → first_type x (names_of around ds) ≡ o → option_or o (first_type x around) ≡ Some t → is_open t.of ≡ false
-        by_own None i k = means x t k
-        by_own (Some u) i k = let q : u ≡ t = cc in subst (λ (v : TypeName). is_open v.of ≡ false) q (names_mean x u i)
+-- ---- types
+
+pub written_means : (h : Here) → Mean h.seen → (of : TypePhrase) → written_faults h of ≡ [] → is_open (type_in h.seen of) ≡ false
+written_means h means of e =
+    elim (is_meant h.seen h.refinements (look h.seen) (λ x k. refl) (λ x k i. i) of e) [
+      | inl m ↦ m.closed
+      | inr g ↦ absurd (both_ways (is_open g.of) (means g.name g.of g.seen_as) (sym (ap is_unknown g.seen_as) ∙ g.unknown))
+    ]

@@ -1,11 +1,23 @@
--- What names of types denote.
-use Rattle.std.specs.Prelude.{ℕ, zero, suc, ◌+◌, Bool, true, false, List, [], ◌∷◌, ◌++◌, map, flat_map, length, Option, Some, None, if◌then◌else◌}
+-- What names and types as they are written denote.
+use Rattle.std.specs.Prelude.{ℕ, zero, suc, ◌+◌, ℤ, pos, negsuc, Bool, false, ◌&&◌, ◌||◌, List, [], ◌∷◌, ◌++◌, map, flat_map, length, Option, Some, None}
+use Rattle.std.specs.Prelude.{option_map, if◌then◌else◌, nat_le}
+use Rattle.std.specs.List.{list_any}
 use Rattle.std.specs.Str.{bytes_eq}
 use Rattle.elan_types.specs.declared.elan_type.ElanType.{ElanType}
 use Rattle.elan_types.specs.declared.elan_type.ElanType.TheVariants as types
-use Rattle.elan_types.specs.Types.{is_open}
+use Rattle.elan_types.specs.declared.elan_type.FieldType.{FieldType}
+use Rattle.elan_types.specs.Types.{is_open, is_too_large}
 use Rattle.elan_tree.specs.declared.written_type.TypePhrase.{TypePhrase}
-use Rattle.elan_tree.specs.declared.written_type.TypePhrase.TheVariants as phrase
+use Rattle.elan_tree.specs.declared.written_type.TypePhrase.TheOpen as phrase
+use Rattle.elan_tree.specs.declared.written_type.TypePhrase.TheOpen.{TypePhrase-F, Field-F}
+use Rattle.elan_tree.specs.declared.written_type.TypePhrase.TheFolds.{fold-TypePhrase, fold-Field}
+use Rattle.elan_tree.specs.declared.written_type.Field.{Field}
+use Rattle.elan_tree.specs.declared.written_type.Name.{Name}
+use Rattle.elan_tree.specs.declared.written_type.Size.{Size}
+use Rattle.elan_tree.specs.declared.written_type.Size.TheVariants as size
+use Rattle.elan_tree.specs.declared.written_type.Constant.{Constant}
+use Rattle.elan_tree.specs.declared.written_type.Constant.TheVariants as constant
+use Rattle.elan_tree.specs.declared.written_type.Formal.{Formal}
 use Rattle.elan_tree.specs.declared.phrase.Unit.{Unit as Statement}
 use Rattle.elan_tree.specs.declared.tree.Body.{Body}
 use Rattle.elan_tree.specs.declared.tree.Refinement.{Refinement}
@@ -13,58 +25,141 @@ use Rattle.elan_tree.specs.declared.tree.Level.{Level}
 use Rattle.elan_tree.specs.declared.tree.LevelUnit.{LevelUnit}
 use Rattle.elan_tree.specs.declared.tree.LevelUnit.TheVariants as level
 use Rattle.elan_walk.specs.Nodes as nodes
-use Rattle.elan_walk.specs.Nodes.{Node, abbreviation, new_type}
+use Rattle.elan_walk.specs.Nodes.{Node, item, let_name, abbreviation, new_type}
 use Rattle.elan_scope.specs.declared.type_name.TypeName.{TypeName}
-use Rattle.elan_scope.specs.Types.{first_type, denoted_type}
-use Rattle.type_names.specs.declared.definition.Written.{Written}
-use Rattle.type_names.specs.declared.definition.Written.TheVariants.{Of, Named}
+use Rattle.elan_scope.specs.declared.type_name.Named.{Named}
+use Rattle.elan_scope.specs.declared.type_name.Named.TheVariants as named
+use Rattle.elan_scope.specs.Types.{first_type, type_of}
+use Rattle.type_names.specs.declared.definition.Defined.{Defined}
+use Rattle.type_names.specs.declared.definition.Defined.TheVariants as defined
 use Rattle.type_names.specs.declared.definition.Definition.{Definition}
 
 -- ---- types as they are written
 
-abbrev pub written : TypePhrase → Written
-written (phrase.Int at) = Of types.Int
-written (phrase.Bool at) = Of types.Bool
-written (phrase.Text at) = Of types.Text
-written (phrase.Named n) = Named n.at n.text
-written _ = Of types.Open
+-- The size of a row is a number from 1 to 16,384.
+abbrev pub size_in : ℤ → Option ℕ
+size_in (pos n) = if nat_le 1 n && nat_le n 16384 then Some n else None
+size_in (negsuc n) = None
 
--- the type that is meant, by what names denote
-abbrev pub meant : (List ℕ → ElanType) → Written → ElanType
-meant look (Of t) = t
-meant look (Named at x) = look x
+-- an identifier as a size names a LET of a number
+abbrev pub size_named : Option Named → Option ℕ
+size_named (Some (named.Size n)) = size_in n
+size_named _ = None
+
+-- A type that is too large has no meaning.
+abbrev pub or_open : ElanType → ElanType
+or_open t = if is_too_large t then types.Open else t
+
+-- A row has a meaning where its size and the type of its items have one.
+abbrev pub row_of : Option ℕ → ElanType → ElanType
+row_of None t = types.Open
+row_of (Some n) t = if is_open t then types.Open else or_open (types.Row n t)
+
+-- two of these names are equal
+abbrev pub any_doubled : List (List ℕ) → Bool
+any_doubled [] = false
+any_doubled (x ∷ xs) = list_any (λ y. bytes_eq y x) xs || any_doubled xs
+
+-- the type of a field has no meaning, or two names are equal
+abbrev pub is_broken : List FieldType → Bool
+is_broken fs = list_any (λ f. is_open f.of) fs || any_doubled (map (λ f. f.name) fs)
+
+-- A structure has a meaning where it has fields, their types have a meaning, and their names differ.
+abbrev pub structure_of : List FieldType → ElanType
+structure_of [] = types.Open
+structure_of (f ∷ fs) = if is_broken (f ∷ fs) then types.Open else or_open (types.Struct (f ∷ fs))
+
+-- the type that a name denotes; open where it denotes none
+abbrev pub type_named : Option Named → ElanType
+type_named None = types.Open
+type_named (Some n) = type_of n
+
+-- where names denote this
+module _ (look : List ℕ → Option Named) where
+  abbrev pub size_of : Size → Option ℕ
+  size_of (size.Number at n) = size_in n
+  size_of (size.Named n) = size_named (look n.text)
+
+  abbrev pub meant_step : TypePhrase-F ElanType (List FieldType) → ElanType
+  meant_step (phrase.Int at) = types.Int
+  meant_step (phrase.Bool at) = types.Bool
+  meant_step (phrase.Text at) = types.Text
+  meant_step (phrase.Named n) = type_named (look n.text)
+  meant_step (phrase.Row at size t) = row_of (size_of size) t
+  meant_step (phrase.Struct at fields) = structure_of (flat_map (λ fs. fs) fields)
+  meant_step _ = types.Open
+
+  -- fields of one type
+  abbrev pub fields_step : Field-F ElanType (List FieldType) → List FieldType
+  fields_step f = map (λ n. record { name = n.text; of = f.of }) f.names
+
+  -- the type that is written; open where it has no meaning
+  abbrev pub meant : TypePhrase → ElanType
+  meant = fold-TypePhrase ElanType (List FieldType) meant_step fields_step
+
+  abbrev pub fields_meant : Field → List FieldType
+  fields_meant = fold-Field ElanType (List FieldType) meant_step fields_step
 
 -- what a name denotes where these are declared
-abbrev pub look : List TypeName → List ℕ → ElanType
-look ts x = denoted_type (first_type x ts)
+abbrev pub look : List TypeName → List ℕ → Option Named
+look ts x = option_map (λ t. t.of) (first_type x ts)
 
 abbrev pub type_in : List TypeName → TypePhrase → ElanType
-type_in ts of = meant (look ts) (written of)
+type_in ts of = meant (look ts) of
 
 -- ---- definitions
 
--- LET gives a name to a type, and TYPE to a type of its own
-abbrev pub defined : Node → List Definition
-defined (abbreviation n of) = record { at = n.at; name_at = n.at; name = n.text; own = false; written = written of } ∷ []
-defined (new_type at n of) = record { at = at; name_at = n.at; name = n.text; own = true; written = written of } ∷ []
-defined _ = []
+abbrev pub definition : Name → Defined → List Definition
+definition n d = record { at = n.at; name_at = n.at; name = n.text; what = d } ∷ []
+
+abbrev pub other : Name → List Definition
+other n = definition n defined.Other
+
+-- what LET gives a name to
+abbrev pub constant_defined : Constant → Defined
+constant_defined (constant.Number at n) = defined.Number n
+constant_defined _ = defined.Other
+
+-- LET gives a name to a number or a type, and TYPE to a type of its own. A name that is declared otherwise hides these
+abbrev pub defined_by : Node → List Definition
+defined_by (abbreviation n of) = definition n (defined.Abbreviation of)
+defined_by (new_type at n of) = record { at = at; name_at = n.at; name = n.text; what = defined.New of } ∷ []
+defined_by (let_name n c) = definition n (constant_defined c)
+defined_by (item held of n) = other n
+defined_by _ = []
 
 abbrev pub in_units : List Statement → List Definition
-in_units us = flat_map defined (nodes.in_units us)
+in_units us = flat_map defined_by (nodes.in_units us)
 
+abbrev pub parameter_definitions : List Formal → List Definition
+parameter_definitions fs = flat_map (λ f. flat_map other f.names) fs
+
+-- the names of refinements, and what is declared in them
 abbrev pub refinement_definitions : List Refinement → List Definition
-refinement_definitions rs = flat_map (λ r. in_units r.units) rs
+refinement_definitions rs = flat_map (λ r. other r.name ++ in_units r.units) rs
 
-abbrev pub body_definitions : Body → List Definition
-body_definitions b = in_units b.units ++ refinement_definitions b.refinements
+-- what is declared in refinements
+abbrev pub in_refinements : List Refinement → List Definition
+in_refinements rs = flat_map (λ r. in_units r.units) rs
+
+-- the names of parameters, of what stands in the units, and of refinements
+abbrev pub body_definitions : List Formal → Body → List Definition
+body_definitions fs b = parameter_definitions fs ++ in_units b.units ++ refinement_definitions b.refinements
+
+-- A PROC without parameters is known by its name alone.
+abbrev pub procedure_definition : Name → List Formal → List Definition
+procedure_definition n [] = other n
+procedure_definition n (f ∷ fs) = []
 
 abbrev pub unit_definitions : LevelUnit → List Definition
-unit_definitions (level.Plain u) = flat_map defined (nodes.in_unit u)
-unit_definitions (level.NewType at n of) = defined (new_type at n of)
-unit_definitions _ = []
+unit_definitions (level.Plain u) = flat_map defined_by (nodes.in_unit u)
+unit_definitions (level.NewType at n of) = defined_by (new_type at n of)
+unit_definitions (level.Proc at r n fs b) = procedure_definition n fs
+unit_definitions (level.Op at r n fs b) = []
 
+-- Refinements of a level are for its own units alone, and hide nothing.
 abbrev pub level_definitions : Level → List Definition
-level_definitions l = flat_map unit_definitions l.units ++ refinement_definitions l.refinements
+level_definitions l = flat_map unit_definitions l.units ++ in_refinements l.refinements
 
 -- the first definition of a name, with its number, where the first of these has number n
 abbrev pub first_from : ℕ → List Definition → List ℕ → Option (ℕ × Definition)
@@ -77,26 +172,25 @@ first_from n (d ∷ ds) x = if bytes_eq d.name x then Some (n, d) else first_fro
 abbrev pub made : ℕ → ElanType → ElanType
 made n t = if is_open t then types.Open else types.Own n t
 
-abbrev pub as_defined : ℕ → Bool → ElanType → ElanType
-as_defined n own t = if own then made n t else t
+abbrev pub as_defined : (List ℕ → Option Named) → ℕ → Defined → Named
+as_defined look n (defined.Abbreviation of) = named.Of (meant look of)
+as_defined look n (defined.New of) = named.Of (made n (meant look of))
+as_defined look n (defined.Number k) = named.Size k
+as_defined look n defined.Other = named.Other
 
-abbrev pub by_definition : (List ℕ → ElanType) → Option (ℕ × Definition) → ElanType → ElanType
+abbrev pub by_definition : (List ℕ → Option Named) → Option (ℕ × Definition) → Option Named → Option Named
 by_definition look None around = around
-by_definition look (Some f) around = as_defined f.0 f.1.own (meant look f.1.written)
+by_definition look (Some f) around = Some (as_defined look f.0 f.1.what)
 
 -- where these names are declared around, and these definitions stand here
 module _ (around : List TypeName) (ds : List Definition) where
   -- what a name denotes over at most so many further names. What leads to itself denotes nothing
-  abbrev pub denoted : ℕ → List ℕ → ElanType
-  denoted zero x = by_definition (λ y. types.Open) (first_from 0 ds x) (look around x)
+  abbrev pub denoted : ℕ → List ℕ → Option Named
+  denoted zero x = by_definition (λ y. None) (first_from 0 ds x) (look around x)
   denoted (suc n) x = by_definition (denoted n) (first_from 0 ds x) (look around x)
 
-  -- the type that stands behind a name
-  abbrev pub concrete : Definition → ElanType
-  concrete d = meant (denoted (length ds)) d.written
-
   abbrev pub type_name : ℕ → Definition → TypeName
-  type_name n d = record { at = d.name_at; name = d.name; of = as_defined n d.own (concrete d) }
+  type_name n d = record { at = d.name_at; name = d.name; of = as_defined (denoted (length ds)) n d.what }
 
   abbrev pub names_from : ℕ → List Definition → List TypeName
   names_from n [] = []
@@ -110,5 +204,5 @@ abbrev pub level_types : Level → List TypeName
 level_types l = names_of [] (level_definitions l)
 
 -- those that a PROC or OP declares, where these are declared around
-abbrev pub body_types : List TypeName → Body → List TypeName
-body_types around b = names_of around (body_definitions b)
+abbrev pub body_types : List TypeName → List Formal → Body → List TypeName
+body_types around fs b = names_of around (body_definitions fs b)

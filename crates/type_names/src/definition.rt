@@ -1,79 +1,47 @@
-//! Names that LET and TYPE give to types, in text order.
+//! What names are defined to be as far as types are written with them, in text order.
 
-ghost use Rattle.std.specs.Prelude.{◌≡◌, ◌∷◌, [], false, flat_map, IfOk};
-ghost use Rattle.elan_walk.specs.Nodes.{abbreviation, new_type};
+ghost use Rattle.std.specs.Prelude.{◌≡◌, ◌∷◌, [], ◌++◌, false, flat_map, IfOk};
 ghost use Rattle.type_names.specs.Types as spec;
-ghost use Rattle.type_names.specs.walks.Seen.{Adds};
+ghost use Rattle.type_names.specs.walks.Seen.{Adds, AddsAlone};
 
-use elan_tree::{Body, Level, LevelUnit, Name, Refinement, TypePhrase, Unit};
-use elan_types::ElanType;
+use crate::copy::copied;
+use elan_tree::{Body, Constant, Formal, Level, LevelUnit, Name, Refinement, TypePhrase, Unit};
 use elan_walk::{Node, Visitor, visit_unit, visit_units};
 use eu_base::{Bytes, List, NoMemory};
 use std::alloc::Global;
 
-/// A type as it is written.
+/// What a name is defined to be.
 #[derive(Drop)]
-pub enum Written {
-    /// This type; open where it is not built.
-    Of(ElanType),
-    /// What a name denotes, with the place of the name.
-    Named(u32, Bytes),
+pub enum Defined {
+    /// LET gives it to this type.
+    Abbreviation(TypePhrase),
+    /// TYPE makes it a type of the text's own, with this concrete type.
+    New(TypePhrase),
+    /// LET gives it to this number.
+    Number(i16),
+    /// It is declared otherwise, and denotes neither a type nor a number.
+    Other,
 }
 
-/// A name that LET or TYPE gives to a type.
+// What LET gives a name to.
+fn constant_defined(constant: &Constant) -> Defined
+    ensures { result ≡ spec.constant_defined constant.now }
+{
+    match constant {
+        Constant::Number(_, number) => Defined::Number(*number),
+        Constant::Text(_, _) | Constant::Truth(_, _) => Defined::Other,
+    }
+}
+
+/// A name that a scope declares, as far as types are written with it.
 #[derive(Drop)]
 pub struct Definition {
-    /// The place of the definition: that of the word TYPE, or of the name in a LET.
+    /// The place of the definition: that of the word TYPE, or of the name.
     pub at: u32,
     /// The place of the name.
     pub name_at: u32,
     pub name: Bytes,
-    /// Whether it makes a type of its own.
-    pub own: bool,
-    pub written: Written,
-}
-
-fn as_written(alloc: Global, of: &TypePhrase) -> Result<Written, NoMemory>
-    ensures { IfOk result (λ made. made ≡ spec.written of.now) }
-{
-    match of {
-        TypePhrase::Int(_) => Ok(Written::Of(ElanType::Int)),
-        TypePhrase::Bool(_) => Ok(Written::Of(ElanType::Bool)),
-        TypePhrase::Text(_) => Ok(Written::Of(ElanType::Text)),
-        TypePhrase::Named(name) => Ok(Written::Named(
-            name.at,
-            Bytes::from(alloc, name.text.as_slice())?,
-        )),
-        _ => Ok(Written::Of(ElanType::Open)),
-    }
-}
-
-// A name of a LET.
-fn abbreviation(alloc: Global, name: &Name, of: &TypePhrase) -> Result<Definition, NoMemory>
-    ensures { IfOk result (λ made. made ∷ [] ≡ spec.defined (abbreviation name.now of.now)) }
-{
-    let written = as_written(alloc, of)?;
-    Ok(Definition {
-        at: name.at,
-        name_at: name.at,
-        name: Bytes::from(alloc, name.text.as_slice())?,
-        own: false,
-        written,
-    })
-}
-
-// A TYPE.
-fn new_type(alloc: Global, at: u32, name: &Name, of: &TypePhrase) -> Result<Definition, NoMemory>
-    ensures { IfOk result (λ made. made ∷ [] ≡ spec.defined (new_type at name.now of.now)) }
-{
-    let written = as_written(alloc, of)?;
-    Ok(Definition {
-        at,
-        name_at: name.at,
-        name: Bytes::from(alloc, name.text.as_slice())?,
-        own: true,
-        written,
-    })
+    pub what: Defined,
 }
 
 /// Definitions, in text order.
@@ -87,7 +55,6 @@ pub struct Definitions {
 
 impl Definitions {
     ghost use Rattle.elan_walk.specs.Nodes as nodes;
-    ghost use Rattle.type_names.specs.walks.Seen.{with_definitions};
 
     fn new(alloc: Global) -> Definitions
         ensures { result.list ≡ [] }
@@ -99,21 +66,39 @@ impl Definitions {
         }
     }
 
-    fn add(mut self, definition: Definition) -> Definitions
-        ensures { result.wanted ≡ false → (self.wanted ≡ false) × (result ≡ with_definitions self (definition ∷ [])) }
+    // Adds what is defined at a place under a name.
+    fn define(mut self, at: u32, name: &Name, what: Defined) -> Definitions
+        ensures { AddsAlone (record { at = at; name_at = name.now.at; name = name.now.text; what = what } ∷ []) self result }
     {
-        match self.list.push(definition) {
-            Ok(()) => (),
+        match Bytes::from(self.alloc, name.text.as_slice()) {
+            Ok(text) => {
+                let definition = Definition {
+                    at,
+                    name_at: name.at,
+                    name: text,
+                    what,
+                };
+                match self.list.push(definition) {
+                    Ok(()) => (),
+                    Err(NoMemory) => self.wanted = true,
+                }
+            }
             Err(NoMemory) => self.wanted = true,
         }
         self
     }
 
-    fn add_abbreviation(mut self, name: &Name, of: &TypePhrase) -> Definitions
-        ensures { result.wanted ≡ false → (self.wanted ≡ false) × (result ≡ with_definitions self (spec.defined (nodes.abbreviation name.now of.now))) }
+    fn add_other(self, name: &Name) -> Definitions
+        ensures { AddsAlone (spec.other name.now) self result }
     {
-        match abbreviation(self.alloc, name, of) {
-            Ok(definition) => self.add(definition),
+        self.define(name.at, name, Defined::Other)
+    }
+
+    fn add_abbreviation(mut self, name: &Name, of: &TypePhrase) -> Definitions
+        ensures { AddsAlone (spec.defined_by (nodes.abbreviation name.now of.now)) self result }
+    {
+        match copied(self.alloc, of) {
+            Ok(of) => self.define(name.at, name, Defined::Abbreviation(of)),
             Err(NoMemory) => {
                 self.wanted = true;
                 self
@@ -122,10 +107,10 @@ impl Definitions {
     }
 
     fn add_new_type(mut self, at: u32, name: &Name, of: &TypePhrase) -> Definitions
-        ensures { result.wanted ≡ false → (self.wanted ≡ false) × (result ≡ with_definitions self (spec.defined (nodes.new_type at name.now of.now))) }
+        ensures { AddsAlone (spec.defined_by (nodes.new_type at name.now of.now)) self result }
     {
-        match new_type(self.alloc, at, name, of) {
-            Ok(definition) => self.add(definition),
+        match copied(self.alloc, of) {
+            Ok(of) => self.define(at, name, Defined::New(of)),
             Err(NoMemory) => {
                 self.wanted = true;
                 self
@@ -135,7 +120,7 @@ impl Definitions {
 
     #[tactic(auto, using(crate::proofs::Seen::definitions))]
     fn add_unit(self, unit: &Unit) -> Definitions
-        ensures { Adds (flat_map spec.defined (nodes.in_unit unit.now)) self result }
+        ensures { Adds (flat_map spec.defined_by (nodes.in_unit unit.now)) self result }
     {
         visit_unit(self, unit)
     }
@@ -159,12 +144,14 @@ impl Definitions {
 impl Visitor for Definitions {
     ghost use Rattle.type_names.specs.walks.Seen.{with_definitions};
 
-    ghost after = { λ s n. with_definitions s (spec.defined n) };
+    ghost after = { λ s n. with_definitions s (spec.defined_by n) };
 
     ghost wanted = { λ s. s.wanted };
 
     fn visit(self, node: Node<'_>) -> Definitions {
         match node {
+            Node::Item(_, _, name) => self.add_other(name),
+            Node::Let(name, constant) => self.define(name.at, name, constant_defined(constant)),
             Node::Abbreviation(name, of) => self.add_abbreviation(name, of),
             Node::NewType(at, name, of) => self.add_new_type(at, name, of),
             _ => self,
@@ -172,39 +159,84 @@ impl Visitor for Definitions {
     }
 }
 
-fn in_refinements(mut out: Definitions, refinements: &[Refinement]) -> Definitions
+fn of_names(mut out: Definitions, names: &[Name]) -> Definitions
+    ensures { Adds (flat_map spec.other names.now) out result }
+{
+    for name in names {
+        out = out.add_other(name);
+    }
+    out
+}
+
+fn of_formals(mut out: Definitions, formals: &[Formal]) -> Definitions
+    ensures { Adds (spec.parameter_definitions formals.now) out result }
+{
+    for formal in formals {
+        out = of_names(out, formal.names.as_slice());
+    }
+    out
+}
+
+// The names of refinements, and what is declared in them.
+fn of_refinements(mut out: Definitions, refinements: &[Refinement]) -> Definitions
     ensures { Adds (spec.refinement_definitions refinements.now) out result }
 {
     for refinement in refinements {
+        out = out.add_other(&refinement.name);
         out = out.add_units(refinement.units.as_slice());
     }
     out
 }
 
 /// The definitions of a PROC or OP.
-pub fn body_definitions(alloc: Global, body: &Body) -> Result<List<Definition>, NoMemory>
-    ensures { IfOk result (λ list. list ≡ spec.body_definitions body.now) }
+pub fn body_definitions(
+    alloc: Global,
+    formals: &[Formal],
+    body: &Body,
+) -> Result<List<Definition>, NoMemory>
+    ensures { IfOk result (λ list. list ≡ spec.body_definitions formals.now body.now) }
 {
-    let out = Definitions::new(alloc).add_units(body.units.as_slice());
-    in_refinements(out, body.refinements.as_slice()).met()
+    let out = of_formals(Definitions::new(alloc), formals);
+    let out = out.add_units(body.units.as_slice());
+    of_refinements(out, body.refinements.as_slice()).met()
 }
 
-fn in_level_unit(out: Definitions, unit: &LevelUnit) -> Definitions
+// A PROC without parameters is known by its name alone.
+fn of_procedure(out: Definitions, name: &Name, formals: &[Formal]) -> Definitions
+    ensures { Adds (spec.procedure_definition name.now formals.now) out result }
+{
+    match formals {
+        [] => out.add_other(name),
+        [_formal, _others @ ..] => out,
+    }
+}
+
+fn of_level_unit(out: Definitions, unit: &LevelUnit) -> Definitions
     ensures { Adds (spec.unit_definitions unit.now) out result }
 {
     match unit {
         LevelUnit::Plain(unit) => out.add_unit(unit),
         LevelUnit::NewType { at, name, of } => out.add_new_type(*at, name, of),
-        LevelUnit::Proc { .. } => out,
+        LevelUnit::Proc { name, formals, .. } => of_procedure(out, name, formals.as_slice()),
         LevelUnit::Op { .. } => out,
     }
 }
 
-fn in_level_units(mut out: Definitions, units: &[LevelUnit]) -> Definitions
+fn of_level_units(mut out: Definitions, units: &[LevelUnit]) -> Definitions
     ensures { Adds (flat_map spec.unit_definitions units.now) out result }
 {
     for unit in units {
-        out = in_level_unit(out, unit);
+        out = of_level_unit(out, unit);
+    }
+    out
+}
+
+// What is declared in the refinements of a level. Their names hide nothing.
+fn in_refinements(mut out: Definitions, refinements: &[Refinement]) -> Definitions
+    ensures { Adds (spec.in_refinements refinements.now) out result }
+{
+    for refinement in refinements {
+        out = out.add_units(refinement.units.as_slice());
     }
     out
 }
@@ -213,6 +245,6 @@ fn in_level_units(mut out: Definitions, units: &[LevelUnit]) -> Definitions
 pub fn level_definitions(alloc: Global, level: &Level) -> Result<List<Definition>, NoMemory>
     ensures { IfOk result (λ list. list ≡ spec.level_definitions level.now) }
 {
-    let out = in_level_units(Definitions::new(alloc), level.units.as_slice());
+    let out = of_level_units(Definitions::new(alloc), level.units.as_slice());
     in_refinements(out, level.refinements.as_slice()).met()
 }

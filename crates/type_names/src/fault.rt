@@ -21,12 +21,13 @@ use std::alloc::Global;
 fn heading_fault(
     alloc: Global,
     here: &ScopeTypes,
+    refined: &[Refinement],
     of: &Option<TypePhrase>,
     given: &[Formal],
 ) -> Result<Option<Fault>, NoMemory>
-    ensures { Finds (spec.nodes_faults (plainly here.now []) (nodes.result of.now ++ nodes.formals given.now)) result }
+    ensures { Finds (spec.nodes_faults (plainly here.now [] refined.now) (nodes.result of.now ++ nodes.formals given.now)) result }
 {
-    let search = result_type(Search::new(alloc, here, &[]), of);
+    let search = result_type(Search::new(alloc, here, &[], refined), of);
     formals(search, given).met()
 }
 
@@ -38,50 +39,57 @@ fn units_fault(
     around: &[TypeName],
     body: &Body,
 ) -> Result<Option<Fault>, NoMemory>
-    ensures { Finds (spec.nodes_faults (plainly here.now around.now) (nodes.in_units body.now.units ++ nodes.refinements body.now.refinements)) result }
+    ensures { Finds (spec.nodes_faults (plainly here.now around.now []) (nodes.in_units body.now.units ++ nodes.refinements body.now.refinements)) result }
 {
-    let search = visit_units(Search::new(alloc, here, around), body.units.as_slice());
+    let search = visit_units(Search::new(alloc, here, around, &[]), body.units.as_slice());
     refinements(search, body.refinements.as_slice()).met()
 }
 
-#[tactic(auto, using(crate::proofs::Searched::first_append))]
+#[tactic(auto, using(crate::proofs::Told::first_append))]
 fn routine_fault(
     alloc: Global,
     level: &ScopeTypes,
+    refined: &[Refinement],
     of: &Option<TypePhrase>,
     given: &[Formal],
     body: &Body,
 ) -> Result<Option<Fault>, NoMemory>
-    ensures { (ds : List definitions.Definition) → AreOf [] ds level.now → Finds (spec.routine_faults ds of.now given.now body.now) result }
+    ensures { (ds : List definitions.Definition) → AreOf [] ds level.now → Finds (spec.routine_faults ds refined.now of.now given.now body.now) result }
 {
-    match heading_fault(alloc, level, of, given)? {
+    match heading_fault(alloc, level, refined, of, given)? {
         Some(fault) => Ok(Some(fault)),
         None => {
             let around = level.names.as_slice();
-            let here = ScopeTypes::of(alloc, around, body_definitions(alloc, body)?)?;
+            let here = ScopeTypes::of(alloc, around, body_definitions(alloc, given, body)?)?;
             units_fault(alloc, &here, around, body)
         }
     }
 }
 
 #[tactic(auto, using(crate::proofs::Searched::found))]
-fn plain_fault(alloc: Global, level: &ScopeTypes, unit: &Unit) -> Result<Option<Fault>, NoMemory>
-    ensures { Finds (spec.nodes_faults (plainly level.now []) (nodes.in_unit unit.now)) result }
+fn plain_fault(
+    alloc: Global,
+    level: &ScopeTypes,
+    refined: &[Refinement],
+    unit: &Unit,
+) -> Result<Option<Fault>, NoMemory>
+    ensures { Finds (spec.nodes_faults (plainly level.now [] refined.now) (nodes.in_unit unit.now)) result }
 {
-    visit_unit(Search::new(alloc, level, &[]), unit).met()
+    visit_unit(Search::new(alloc, level, &[], refined), unit).met()
 }
 
 fn unit_fault(
     alloc: Global,
     level: &ScopeTypes,
+    refined: &[Refinement],
     unit: &LevelUnit,
 ) -> Result<Option<Fault>, NoMemory>
-    ensures { (ds : List definitions.Definition) → AreOf [] ds level.now → Finds (spec.unit_faults ds unit.now) result }
+    ensures { (ds : List definitions.Definition) → AreOf [] ds level.now → Finds (spec.unit_faults ds refined.now unit.now) result }
 {
     match unit {
-        LevelUnit::Plain(unit) => plain_fault(alloc, level, unit),
+        LevelUnit::Plain(unit) => plain_fault(alloc, level, refined, unit),
         LevelUnit::NewType { at, name, of } => {
-            let search = Search::new(alloc, level, &[]);
+            let search = Search::new(alloc, level, &[], refined);
             search.visit(Node::NewType(*at, name, of)).met()
         }
         LevelUnit::Proc {
@@ -89,25 +97,26 @@ fn unit_fault(
             formals,
             body,
             ..
-        } => routine_fault(alloc, level, result, formals.as_slice(), body),
+        } => routine_fault(alloc, level, refined, result, formals.as_slice(), body),
         LevelUnit::Op {
             result,
             formals,
             body,
             ..
-        } => routine_fault(alloc, level, result, formals.as_slice(), body),
+        } => routine_fault(alloc, level, refined, result, formals.as_slice(), body),
     }
 }
 
 fn first_in_units(
     alloc: Global,
     level: &ScopeTypes,
+    refined: &[Refinement],
     units: &[LevelUnit],
 ) -> Result<Option<Fault>, NoMemory>
-    ensures { (ds : List definitions.Definition) → AreOf [] ds level.now → Finds (flat_map (spec.unit_faults ds) units.now) result }
+    ensures { (ds : List definitions.Definition) → AreOf [] ds level.now → Finds (flat_map (spec.unit_faults ds refined.now) units.now) result }
 {
     for unit in units {
-        match unit_fault(alloc, level, unit)? {
+        match unit_fault(alloc, level, refined, unit)? {
             Some(fault) => return Ok(Some(fault)),
             None => {}
         }
@@ -121,19 +130,20 @@ fn refinements_fault(
     level: &ScopeTypes,
     list: &[Refinement],
 ) -> Result<Option<Fault>, NoMemory>
-    ensures { Finds (spec.nodes_faults (plainly level.now []) (nodes.refinements list.now)) result }
+    ensures { Finds (spec.nodes_faults (plainly level.now [] list.now) (nodes.refinements list.now)) result }
 {
-    refinements(Search::new(alloc, level, &[]), list).met()
+    refinements(Search::new(alloc, level, &[], list), list).met()
 }
 
 /// The first type of a level, in text order, that breaks a rule, if one does.
-#[tactic(auto, using(crate::proofs::Searched::first_append))]
+#[tactic(auto, using(crate::proofs::Told::first_append))]
 pub fn level_fault(alloc: Global, level: &Level) -> Result<Option<Fault>, NoMemory>
     ensures { Finds (spec.level_faults level.now) result }
 {
     let types = ScopeTypes::of(alloc, &[], level_definitions(alloc, level)?)?;
-    match first_in_units(alloc, &types, level.units.as_slice())? {
+    let refined = level.refinements.as_slice();
+    match first_in_units(alloc, &types, refined, level.units.as_slice())? {
         Some(fault) => Ok(Some(fault)),
-        None => refinements_fault(alloc, &types, level.refinements.as_slice()),
+        None => refinements_fault(alloc, &types, refined),
     }
 }

@@ -1,13 +1,13 @@
-//! The types that names denote.
+//! What names denote.
 
-ghost use Rattle.std.specs.Prelude.{◌≡◌, option_map, IfOk};
+ghost use Rattle.std.specs.Prelude.{◌≡◌, true, ◌++◌, option_map, IfOk};
 ghost use Rattle.type_names.specs.Types as spec;
 ghost use Rattle.type_names.specs.walks.Further as walk;
 
-use crate::definition::{Definition, Written};
-use crate::written::look;
+use crate::definition::{Defined, Definition};
+use crate::written::type_in;
 use elan_scope::heading::is_one;
-use elan_scope::type_name::TypeName;
+use elan_scope::type_name::{Named, TypeName};
 use elan_types::ElanType;
 use eu_base::{Boxed, Bytes, List, NoMemory};
 use std::alloc::Global;
@@ -42,97 +42,39 @@ fn made(alloc: Global, number: usize, concrete: ElanType) -> Result<ElanType, No
     Ok(ElanType::Own(number, Boxed::new(alloc, concrete)?))
 }
 
+// What a definition says, read with these names.
 fn as_defined(
     alloc: Global,
+    own: &[TypeName],
+    around: &[TypeName],
     number: usize,
-    own: bool,
-    concrete: ElanType,
-) -> Result<ElanType, NoMemory>
-    ensures { IfOk result (λ of. of ≡ spec.as_defined number own concrete) }
+    what: &Defined,
+) -> Result<Named, NoMemory>
+    ensures { IfOk result (λ named. named ≡ spec.as_defined (spec.look (own.now ++ around.now)) number what.now) }
 {
-    if own {
-        made(alloc, number, concrete)
-    } else {
-        Ok(concrete)
-    }
-}
-
-// The type that is written, where a name may lead over so many further ones.
-#[cycle(names)]
-fn meant(
-    alloc: Global,
-    around: &[TypeName],
-    definitions: &[Definition],
-    further: usize,
-    written: &Written,
-) -> Result<ElanType, NoMemory>
-    ensures { IfOk result (λ of. of ≡ spec.meant (walk.look_at around.now definitions.now further) written.now) }
-{
-    match written {
-        Written::Of(of) => of.try_clone(alloc),
-        Written::Named(_, name) => match further.checked_sub(1) {
-            None => Ok(ElanType::Open),
-            Some(left) => denoted(alloc, around, definitions, left, name.as_slice()),
-        },
-    }
-}
-
-// What a name denotes over at most so many further names; open where it denotes nothing.
-#[cycle(names)]
-#[tactic(auto, using(crate::proofs::Sound::denoted_is))]
-fn denoted(
-    alloc: Global,
-    around: &[TypeName],
-    definitions: &[Definition],
-    further: usize,
-    name: &[u8],
-) -> Result<ElanType, NoMemory>
-    ensures { IfOk result (λ of. of ≡ spec.denoted around.now definitions.now further name.now) }
-{
-    match first_defined(definitions, name) {
-        None => look(alloc, &[], around, name),
-        Some((number, definition)) => {
-            let concrete = meant(alloc, around, definitions, further, &definition.written)?;
-            as_defined(alloc, number, definition.own, concrete)
+    match what {
+        Defined::Abbreviation(of) => Ok(Named::Of(type_in(alloc, own, around, of)?)),
+        Defined::New(of) => {
+            let concrete = type_in(alloc, own, around, of)?;
+            Ok(Named::Of(made(alloc, number, concrete)?))
         }
+        Defined::Number(size) => Ok(Named::Size(*size)),
+        Defined::Other => Ok(Named::Other),
     }
 }
 
-// The type that stands behind a name.
-fn concrete(
+// The names that definitions declare, read with these names.
+fn read(
     alloc: Global,
-    around: &[TypeName],
-    definitions: &[Definition],
-    definition: &Definition,
-) -> Result<ElanType, NoMemory>
-    ensures { IfOk result (λ of. of ≡ spec.concrete around.now definitions.now definition.now) }
-{
-    match &definition.written {
-        Written::Of(of) => of.try_clone(alloc),
-        Written::Named(_, name) => {
-            denoted(
-                alloc,
-                around,
-                definitions,
-                definitions.len(),
-                name.as_slice(),
-            )
-        }
-    }
-}
-
-/// The names that definitions declare, where others are declared around.
-pub fn names_of(
-    alloc: Global,
+    own: &[TypeName],
     around: &[TypeName],
     definitions: &[Definition],
 ) -> Result<List<TypeName>, NoMemory>
-    ensures { IfOk result (λ names. names ≡ spec.names_of around.now definitions.now) }
+    ensures { IfOk result (λ names. names ≡ walk.read (spec.look (own.now ++ around.now)) 0 definitions.now) }
 {
     let mut names = List::new(alloc);
     for (number, definition) in definitions.iter().enumerate() {
-        let concrete = concrete(alloc, around, definitions, definition)?;
-        let of = as_defined(alloc, number, definition.own, concrete)?;
+        let of = as_defined(alloc, own, around, number, &definition.what)?;
         names.push(TypeName {
             at: definition.name_at,
             name: Bytes::from(alloc, definition.name.as_slice())?,
@@ -140,4 +82,52 @@ pub fn names_of(
         })?;
     }
     Ok(names)
+}
+
+fn is_same(named: &Named, other: &Named) -> bool
+    ensures { result ≡ walk.same_named named.now other.now }
+{
+    match (named, other) {
+        (Named::Of(of), Named::Of(other)) => of.is_same(other),
+        (Named::Size(size), Named::Size(other)) => *size == *other,
+        (Named::Other, Named::Other) => true,
+        _ => false,
+    }
+}
+
+// Whether these names denote the same.
+fn are_same(names: &[TypeName], others: &[TypeName]) -> bool
+    ensures { result ≡ walk.all_same names.now others.now }
+{
+    let mut rest = others;
+    for named in names {
+        let [other, behind @ ..] = rest else {
+            return false;
+        };
+        if !is_same(&named.of, &other.of) {
+            return false;
+        }
+        rest = behind;
+    }
+    rest.is_empty()
+}
+
+/// The names that definitions declare, where others are declared around. They are read with what was read before, until nothing
+/// changes.
+pub fn names_of(
+    alloc: Global,
+    around: &[TypeName],
+    definitions: &[Definition],
+) -> Result<List<TypeName>, NoMemory>
+    ensures { IfOk result (λ names. names ≡ spec.names_of around.now definitions.now) }
+{
+    let mut names = read(alloc, &[], &[], definitions)?;
+    for _definition in definitions {
+        let next = read(alloc, names.as_slice(), around, definitions)?;
+        if are_same(next.as_slice(), names.as_slice()) {
+            return Ok(next);
+        }
+        names = next;
+    }
+    read(alloc, names.as_slice(), around, definitions)
 }

@@ -1,25 +1,23 @@
 //! The search for the first type that breaks a rule.
 
-ghost use Rattle.std.specs.Prelude.{◌≡◌, None, IfOk, option_map};
-ghost use Rattle.std.specs.Option.{is_some};
-ghost use Rattle.elan_scope.specs.Types.{first_type};
+ghost use Rattle.std.specs.Prelude.{◌≡◌, None, IfOk};
 ghost use Rattle.type_names.specs.Faults as spec;
-ghost use Rattle.type_names.specs.Types as types;
-ghost use Rattle.type_names.specs.walks.Seen.{earlier, here_of, with_fault};
+ghost use Rattle.type_names.specs.Types.{first_from};
+ghost use Rattle.type_names.specs.walks.Seen.{here_of, with_fault, Notes};
 
 use crate::definition::Definition;
+use crate::fields::earlier;
+use crate::judgement::judge;
 use crate::resolve::first_defined;
 use crate::scope_types::ScopeTypes;
-use crate::written::first_of;
+pub use crate::visible::Fault;
+use crate::visible::Visible;
 use elan_scope::type_name::TypeName;
-use elan_tree::{Name, TypePhrase};
+use elan_tree::{Name, Refinement, TypePhrase};
 use elan_types::Why;
 use elan_walk::{Node, Visitor};
 use eu_base::NoMemory;
 use std::alloc::Global;
-
-/// A place, and the rule that what stands there breaks.
-pub type Fault = (u32, Why);
 
 /// Whoever looks for the first type that breaks a rule.
 #[derive(Drop)]
@@ -27,6 +25,7 @@ pub struct Search<'a> {
     alloc: Global,
     here: &'a ScopeTypes,
     around: &'a [TypeName],
+    refinements: &'a [Refinement],
     first: Option<Fault>,
     // Whether memory was wanted. What was found is worth nothing then.
     wanted: bool,
@@ -35,42 +34,38 @@ pub struct Search<'a> {
 impl<'a> Search<'a> {
     ghost use Rattle.std.specs.Prelude.{false};
 
-    /// Looks in a scope with these types, where others are declared around.
-    pub fn new(alloc: Global, here: &'a ScopeTypes, around: &'a [TypeName]) -> Search<'a>
+    /// Looks in a scope with these types, where others are declared around, and these are the refinements of the level.
+    pub fn new(
+        alloc: Global,
+        here: &'a ScopeTypes,
+        around: &'a [TypeName],
+        refinements: &'a [Refinement],
+    ) -> Search<'a>
         ensures here { result.here.now ≡ here.now }
         ensures around { result.around.now ≡ around.now }
+        ensures refinements { result.refinements.now ≡ refinements.now }
         ensures first { result.first ≡ None }
     {
         Search {
             alloc,
             here,
             around,
+            refinements,
             first: None,
             wanted: false,
         }
     }
 
-    fn is_declared(&self, name: &[u8]) -> bool
-        ensures { result ≡ is_some (first_type name.now (here_of self.now).seen) }
+    fn written_fault(&self, of: &TypePhrase) -> Result<Option<Fault>, NoMemory>
+        ensures { IfOk result (λ fault. fault ≡ spec.first_fault (spec.written_faults (here_of self.now) of.now)) }
     {
-        first_of(self.here.names.as_slice(), self.around, name).is_some()
-    }
-
-    #[tactic(auto, using(elan_types::proofs::Types::int_closed, elan_types::proofs::Types::bool_closed, elan_types::proofs::Types::text_closed, elan_types::proofs::Types::open_open,))]
-    fn written_fault(&self, of: &TypePhrase) -> Option<Fault>
-        ensures { result ≡ spec.first_fault (spec.written_faults (here_of self.now) (types.written of.now)) }
-    {
-        match of {
-            TypePhrase::Named(name) => {
-                if self.is_declared(name.text.as_slice()) {
-                    None
-                } else {
-                    Some((name.at, Why::Unknown))
-                }
-            }
-            TypePhrase::Int(_) | TypePhrase::Bool(_) | TypePhrase::Text(_) => None,
-            _ => Some((0, Why::Unknown)),
-        }
+        let visible = Visible {
+            own: self.here.names.as_slice(),
+            around: self.around,
+            refinements: self.refinements,
+        };
+        let judged = judge(self.alloc, visible, of)?;
+        Ok(judged.first)
     }
 
     // Whether the definition at this place contains itself, where this is written for it and its name's first definition has this number.
@@ -81,14 +76,28 @@ impl<'a> Search<'a> {
         first: &Definition,
         of: &TypePhrase,
     ) -> Result<bool, NoMemory>
-        ensures { IfOk result (λ circular. circular ≡ spec.contains_itself (here_of self.now) at (types.written of.now) (number, first.now)) }
+        ensures { IfOk result (λ circular. circular ≡ spec.contains_itself (here_of self.now) at of.now (number, first.now)) }
     {
         if first.at != at {
             return Ok(false);
         }
-        match self.here.named_by(of) {
-            None => Ok(false),
-            Some(named) => self.here.calls.leads(self.alloc, named, number),
+        self.here.leads(self.alloc, of, number)
+    }
+
+    // The fault of a definition for which all that is written has a meaning.
+    fn named_fault(&self, at: u32, name: &Name, of: &TypePhrase) -> Result<Option<Fault>, NoMemory>
+        ensures { IfOk result (λ fault. fault ≡ spec.first_fault (spec.named_faults (here_of self.now) at of.now
+            (first_from 0 (here_of self.now).definitions name.now.text))) }
+    {
+        match first_defined(self.here.definitions.as_slice(), name.text.as_slice()) {
+            None => Ok(None),
+            Some((number, first)) => {
+                if self.contains_itself(at, number, first, of)? {
+                    Ok(Some((at, Why::WrongPlace)))
+                } else {
+                    Ok(None)
+                }
+            }
         }
     }
 
@@ -99,42 +108,41 @@ impl<'a> Search<'a> {
         name: &Name,
         of: &TypePhrase,
     ) -> Result<Option<Fault>, NoMemory>
-        ensures { IfOk result (λ fault. fault ≡ spec.first_fault (spec.definition_faults (here_of self.now) at name.now (types.written of.now))) }
+        ensures { IfOk result (λ fault. fault ≡ spec.first_fault (spec.definition_faults (here_of self.now) at name.now of.now)) }
     {
-        let definitions = self.here.definitions.as_slice();
-        match first_defined(definitions, name.text.as_slice()) {
-            None => Ok(self.written_fault(of)),
-            Some((number, first)) => {
-                if self.contains_itself(at, number, first, of)? {
-                    Ok(Some((at, Why::WrongPlace)))
-                } else {
-                    Ok(self.written_fault(of))
-                }
-            }
+        match self.written_fault(of)? {
+            Some(fault) => Ok(Some(fault)),
+            None => self.named_fault(at, name, of),
         }
     }
 
     // Keeps the fault that was found first.
-    fn note(mut self, found: Option<Fault>) -> Search<'a>
-        ensures { result ≡ with_fault self.entry found }
+    fn note(mut self, found: Result<Option<Fault>, NoMemory>) -> Search<'a>
+        ensures { Notes self.entry found result }
     {
-        if self.first.is_none() {
-            self.first = found;
+        match found {
+            Ok(fault) => self.first = earlier(self.first, fault),
+            Err(NoMemory) => self.wanted = true,
         }
         self
     }
 
-    fn see_definition(mut self, at: u32, name: &Name, of: &TypePhrase) -> Search<'a>
+    #[tactic(auto, using(crate::proofs::Told::noted))]
+    fn see_type(self, of: &TypePhrase) -> Search<'a>
         ensures { result.wanted ≡ false → (self.entry.wanted ≡ false) × (result ≡ with_fault self.entry
-            (spec.first_fault (spec.definition_faults (here_of self.entry) at name.now (types.written of.now)))) }
+            (spec.first_fault (spec.written_faults (here_of self.entry) of.now))) }
     {
-        match self.definition_fault(at, name, of) {
-            Ok(found) => self.note(found),
-            Err(NoMemory) => {
-                self.wanted = true;
-                self
-            }
-        }
+        let found = self.written_fault(of);
+        self.note(found)
+    }
+
+    #[tactic(auto, using(crate::proofs::Told::noted))]
+    fn see_definition(self, at: u32, name: &Name, of: &TypePhrase) -> Search<'a>
+        ensures { result.wanted ≡ false → (self.entry.wanted ≡ false) × (result ≡ with_fault self.entry
+            (spec.first_fault (spec.definition_faults (here_of self.entry) at name.now of.now))) }
+    {
+        let found = self.definition_fault(at, name, of);
+        self.note(found)
     }
 
     /// The fault that was found first, where memory sufficed.
@@ -155,17 +163,11 @@ impl<'a> Visitor for Search<'a> {
 
     fn visit(self, node: Node<'_>) -> Search<'a> {
         match node {
-            Node::Type(of) => {
-                let found = self.written_fault(of);
-                self.note(found)
-            }
-            Node::Item(_, of, _) => {
-                let found = self.written_fault(of);
-                self.note(found)
-            }
+            Node::Type(of) => self.see_type(of),
+            Node::Item(_, of, _) => self.see_type(of),
             Node::Abbreviation(name, of) => self.see_definition(name.at, name, of),
             Node::NewType(at, name, of) => self.see_definition(at, name, of),
-            _ => self.note(None),
+            _ => self.note(Ok(None)),
         }
     }
 }

@@ -1,5 +1,6 @@
 -- What was found on a walk, and more behind it. No definition of meaning needs these.
-use Rattle.std.specs.Prelude.{◌≡◌, false, List, ◌++◌, Option, Some, None, Result, IfOk}
+use Rattle.std.specs.Prelude.{◌≡◌, true, false, List, ◌++◌, Option, Some, None, Result, Ok, Err, IfOk}
+use Rattle.elan_tree.specs.declared.tree.Refinement.{Refinement}
 use Rattle.elan_scope.specs.Ruled.{Fault}
 use Rattle.elan_scope.specs.declared.type_name.TypeName.{TypeName}
 use Rattle.elan_walk.specs.Nodes.{Node}
@@ -9,6 +10,10 @@ use Rattle.type_names.specs.declared.definition.Definition.{Definition}
 use Rattle.type_names.specs.declared.definition.Definitions.{Definitions}
 use Rattle.type_names.specs.declared.scope_types.ScopeTypes.{ScopeTypes}
 use Rattle.type_names.specs.declared.search.Search.{Search}
+use Rattle.type_names.specs.declared.visible.Visible.{Visible}
+
+abbrev pub names_seen : Visible → List TypeName
+names_seen v = v.own.now ++ v.around.now
 
 abbrev pub with_definitions : Definitions → List Definition → Definitions
 with_definitions s ds = record { alloc = s.alloc; list = s.list ++ ds; wanted = s.wanted }
@@ -17,9 +22,13 @@ with_definitions s ds = record { alloc = s.alloc; list = s.list ++ ds; wanted = 
 abbrev pub Adds : List Definition → Definitions → Definitions → Type 0
 Adds ds old new = new.wanted ≡ false → (old.wanted ≡ false) × (new.list ≡ old.list ++ ds)
 
--- what is known of types in a scope where these are declared around
-abbrev pub plainly : ScopeTypes → List TypeName → Here
-plainly types around = record { seen = types.names ++ around; definitions = types.definitions; calls = types.calls }
+-- They were added, and nothing else has changed.
+abbrev pub AddsAlone : List Definition → Definitions → Definitions → Type 0
+AddsAlone ds old new = new.wanted ≡ false → (old.wanted ≡ false) × (new ≡ with_definitions old ds)
+
+-- what is known of types in a scope where these are declared around, and these are the refinements of the level
+abbrev pub plainly : ScopeTypes → List TypeName → List Refinement → Here
+plainly types around rs = record { seen = types.names ++ around; definitions = types.definitions; calls = types.calls; refinements = rs }
 
 -- These definitions stand in the scope.
 abbrev pub AreOf : List TypeName → List Definition → ScopeTypes → Type 0
@@ -31,13 +40,19 @@ earlier (Some f) other = Some f
 earlier None other = other
 
 abbrev pub here_of : Search → Here
-here_of s = plainly s.here.now s.around.now
+here_of s = plainly s.here.now s.around.now s.refinements.now
 
 abbrev pub with_fault : Search → Option Fault → Search
-with_fault s f = record { alloc = s.alloc; here = s.here; around = s.around; first = earlier s.first f; wanted = s.wanted }
+with_fault s f =
+    record { alloc = s.alloc; here = s.here; around = s.around; refinements = s.refinements; first = earlier s.first f; wanted = s.wanted }
 
 abbrev pub searched : Search → Node → Search
 searched s n = with_fault s (first_fault (node_faults (here_of s) n))
+
+-- What was found is noted, or that memory was wanted.
+abbrev pub Notes : {E : Type 0} → Search → Result (Option Fault) E → Search → Type 0
+Notes old (Ok f) new = new.wanted ≡ false → (old.wanted ≡ false) × (new ≡ with_fault old f)
+Notes old (Err e) new = new.wanted ≡ true
 
 -- It is the first of these.
 abbrev pub Finds : {E : Type 0} → List Fault → Result (Option Fault) E → Type 0

@@ -3,8 +3,7 @@ use Rattle.elan_scope.proofs.Kept.{FindsRest}
 use Rattle.elan_scope.proofs.directory.firsts.Given as goal
 
 abbrev pub invariant-loop-rest : goal.invariant-loop-rest
-invariant-loop-rest l =
-    (l.number + length l.rest ≤ length l.entries) × (l.index + length l.rest ≤ length l.entries) × FindsRest l.firsts l.number l.index l.rest l.entries
+invariant-loop-rest l = (l.index + length l.rest ≤ length l.entries) × FindsRest l.firsts l.index l.rest l.entries
 
 abbrev pub decreases-loop-rest : goal.decreases-loop-rest
 decreases-loop-rest l = length l.rest

@@ -8,4 +8,4 @@ use Rattle.type_names.proofs.fault.first_in_units.Given as goal
 abbrev pub invariant-loop-unit : goal.invariant-loop-unit
 invariant-loop-unit l =
     (ds : List Definition) → AreOf [] ds l.level
-    → first_fault (flat_map (unit_faults ds) (drop l.unit-index l.units)) ≡ first_fault (flat_map (unit_faults ds) l.units)
+    → first_fault (flat_map (unit_faults ds l.refined) (drop l.unit-index l.units)) ≡ first_fault (flat_map (unit_faults ds l.refined) l.units)

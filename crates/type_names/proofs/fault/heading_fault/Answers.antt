@@ -7,5 +7,6 @@ use Rattle.type_names.proofs.fault.heading_fault.Goals as goal
 
 pub returns : goal.returns
 returns c =
-    met_found c.args.here.now [] c.new.result c.formals.result (nodes.result c.args.of.now ++ nodes.formals c.args.given.now) c.met.result c.new.ensures.here c.new.ensures.around c.new.ensures.first
+    met_found c.args.here.now [] c.args.refined.now c.new.result c.formals.result (nodes.result c.args.of.now ++ nodes.formals c.args.given.now) c.met.result
+    c.new.ensures.here c.new.ensures.around c.new.ensures.refinements c.new.ensures.first
     (two is_wanted searched (nodes.result c.args.of.now) (nodes.formals c.args.given.now) refl c.result_type-search.ensures c.formals.ensures) c.met.ensures

@@ -1,10 +1,9 @@
-use Rattle.std.proofs.Common.{[], ◌++◌, refl}
+use Rattle.std.proofs.Common.{[]}
 use Rattle.elan_walk.specs.Nodes as nodes
-use Rattle.elan_walk.proofs.Went.{two}
-use Rattle.type_names.specs.walks.Seen.{searched}
-use Rattle.type_names.proofs.Searched.{is_wanted, met_found}
+use Rattle.type_names.proofs.Searched.{met_found}
 use Rattle.type_names.proofs.fault.refinements_fault.Goals as goal
 
 pub returns : goal.returns
 returns c =
-    met_found c.args.level.now [] c.new.result c.refinements.result (nodes.refinements c.args.list.now) c.met.result c.new.ensures.here c.new.ensures.around c.new.ensures.first c.refinements.ensures c.met.ensures
+    met_found c.args.level.now [] c.args.list.now c.new.result c.refinements.result (nodes.refinements c.args.list.now) c.met.result
+    c.new.ensures.here c.new.ensures.around c.new.ensures.refinements c.new.ensures.first c.refinements.ensures c.met.ensures

@@ -1,4 +1,4 @@
-use Rattle.std.proofs.Common.{List, ◌++◌, refl, subst}
+use Rattle.std.proofs.Common.{List, [], ◌++◌, refl, subst}
 use Rattle.elan_tree.specs.declared.phrase.Unit.{Unit}
 use Rattle.elan_tree.specs.declared.tree.Refinement.{Refinement}
 use Rattle.elan_walk.specs.Nodes as nodes
@@ -12,11 +12,13 @@ pub returns : goal.returns
 returns c =
     let us = c.as_slice.result.now in
     let rs = c.as_slice-2.result.now in
-    subst (λ (vs : List Unit). Finds (nodes_faults (plainly c.args.here.now c.args.around.now)
+    subst (λ (vs : List Unit). Finds (nodes_faults (plainly c.args.here.now c.args.around.now [])
     (nodes.in_units vs ++ nodes.refinements c.args.body.now.refinements)) c.met.result) c.as_slice.ensures
-    (subst (λ (qs : List Refinement). Finds (nodes_faults (plainly c.args.here.now c.args.around.now) (nodes.in_units us ++ nodes.refinements qs)) c.met.result)
+    (subst (λ (qs : List Refinement). Finds (nodes_faults (plainly c.args.here.now c.args.around.now [])
+    (nodes.in_units us ++ nodes.refinements qs)) c.met.result)
     c.as_slice-2.ensures
-    (met_found c.args.here.now c.args.around.now c.new.result c.refinements.result (nodes.in_units us ++ nodes.refinements rs) c.met.result c.new.ensures.here
-    c.new.ensures.around c.new.ensures.first
+    (met_found c.args.here.now c.args.around.now [] c.new.result c.refinements.result (nodes.in_units us ++ nodes.refinements rs) c.met.result
+    c.new.ensures.here
+    c.new.ensures.around c.new.ensures.refinements c.new.ensures.first
     (two is_wanted searched (nodes.in_units us) (nodes.refinements rs) {s = c.new.result} {t = c.visit_units-search.result} {u = c.refinements.result} refl
     c.visit_units-search.ensures c.refinements.ensures) c.met.ensures))

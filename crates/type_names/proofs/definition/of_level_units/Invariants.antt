@@ -1,7 +1,7 @@
 use Rattle.std.proofs.Common.{◌≡◌, false, ◌++◌, drop}
 use Rattle.std.specs.Prelude.{flat_map}
 use Rattle.type_names.specs.Types.{unit_definitions}
-use Rattle.type_names.proofs.definition.in_level_units.Given as goal
+use Rattle.type_names.proofs.definition.of_level_units.Given as goal
 
 abbrev pub invariant-loop-unit : goal.invariant-loop-unit
 invariant-loop-unit l =

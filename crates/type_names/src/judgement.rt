@@ -1,0 +1,146 @@
+//! What a type means as it is written, and its first fault.
+
+ghost use Rattle.std.specs.Prelude.{◌≡◌, true, map, IfOk};
+ghost use Rattle.type_names.specs.Faults as faults;
+ghost use Rattle.type_names.specs.Types as types;
+ghost use Rattle.type_names.specs.walks.Seen.{earlier, names_seen};
+ghost use Rattle.type_names.specs.walks.Judged.{told, told_fields};
+
+use crate::fields::{add_fields, any_doubled, any_open, earlier};
+use crate::visible::{Fault, Visible};
+use elan_scope::type_name::Named;
+use elan_tree::{Field, Name, TypePhrase};
+use elan_types::{ElanType, FieldType, Why};
+use eu_base::{Boxed, List, NoMemory};
+use std::alloc::Global;
+
+/// A type as it is written: what it means, and its first fault in text order.
+#[derive(Drop)]
+pub struct Judged {
+    pub of: ElanType,
+    pub first: Option<Fault>,
+}
+
+/// Fields as they are written: what they are, and the first fault in them.
+#[derive(Drop)]
+pub struct Fields {
+    pub list: List<FieldType>,
+    pub first: Option<Fault>,
+}
+
+impl Judged {
+    fn open(first: Option<Fault>) -> Judged
+        ensures { result ≡ record { of = ElanType.Open; first = first } }
+    {
+        Judged {
+            of: ElanType::Open,
+            first,
+        }
+    }
+
+    fn closed(of: ElanType) -> Judged
+        ensures { result ≡ record { of = of; first = None } }
+    {
+        Judged { of, first: None }
+    }
+
+    // A row or structure whose parts have a meaning. It has none where it is too large.
+    fn whole(at: u32, of: ElanType, behind: Option<Fault>) -> Judged
+        ensures of { result.of ≡ types.or_open of }
+        ensures first { result.first ≡ earlier (faults.first_fault (faults.large_fault at true of)) behind }
+    {
+        if of.is_too_large() {
+            of.let_go();
+            return Judged::open(Some((at, Why::TooLarge)));
+        }
+        Judged { of, first: behind }
+    }
+}
+
+fn name_judged(alloc: Global, visible: Visible<'_>, name: &Name) -> Result<Judged, NoMemory>
+    ensures { IfOk result (λ judged. judged ≡ told (faults.name_judged (names_seen visible.entry) visible.entry.refinements.now name.now)) }
+{
+    match visible.look(name.text.as_slice()) {
+        Some(Named::Of(of)) => Ok(Judged::closed(of.try_clone(alloc)?)),
+        _ => Ok(Judged::open(Some((name.at, Why::Unknown)))),
+    }
+}
+
+fn row_judged(
+    alloc: Global,
+    at: u32,
+    size: Option<u16>,
+    behind: Option<Fault>,
+    of: ElanType,
+) -> Result<Judged, NoMemory>
+    ensures { IfOk result (λ row. (row.of ≡ types.row_of size of) × (row.first ≡ earlier (faults.first_fault (faults.row_fault at size of)) behind)) }
+{
+    match size {
+        None => {
+            of.let_go();
+            Ok(Judged::open(behind))
+        }
+        Some(size) => {
+            if of.is_open() {
+                of.let_go();
+                return Ok(Judged::open(behind));
+            }
+            let of = Boxed::new(alloc, of)?;
+            Ok(Judged::whole(at, ElanType::Row(size, of), behind))
+        }
+    }
+}
+
+fn structure_judged(at: u32, fields: Fields) -> Judged
+    ensures of { result.of ≡ types.structure_of fields.list }
+    ensures first { result.first ≡ earlier (faults.first_fault (faults.structure_fault at fields.list)) fields.first }
+{
+    let Fields { list, first } = fields;
+    if list.is_empty() {
+        return Judged::open(Some((at, Why::Unknown)));
+    }
+    if any_open(list.as_slice()) || any_doubled(list.as_slice()) {
+        return Judged::open(first);
+    }
+    Judged::whole(at, ElanType::Struct(list), first)
+}
+
+/// What a type means, and its first fault.
+#[cycle(judging)]
+pub fn judge(alloc: Global, visible: Visible<'_>, of: &TypePhrase) -> Result<Judged, NoMemory>
+    ensures { IfOk result (λ judged. judged ≡ told (faults.judged (names_seen visible.entry) visible.entry.refinements.now of.now)) }
+{
+    match of {
+        TypePhrase::Int(_) => Ok(Judged::closed(ElanType::Int)),
+        TypePhrase::Bool(_) => Ok(Judged::closed(ElanType::Bool)),
+        TypePhrase::Text(_) => Ok(Judged::closed(ElanType::Text)),
+        TypePhrase::Named(name) => name_judged(alloc, visible, name),
+        TypePhrase::Row { at, size, of } => {
+            let items = judge(alloc, visible, of.get())?;
+            let behind = earlier(visible.size_fault(size), items.first);
+            row_judged(alloc, *at, visible.size(size), behind, items.of)
+        }
+        TypePhrase::Struct { at, fields } => {
+            let fields = fields_judged(alloc, visible, fields.as_slice())?;
+            Ok(structure_judged(*at, fields))
+        }
+        TypePhrase::Task(_) | TypePhrase::Dataspace(_) => {
+            Ok(Judged::open(Some((0, Why::Unknown))))
+        }
+    }
+}
+
+#[cycle(judging)]
+fn fields_judged(alloc: Global, visible: Visible<'_>, fields: &[Field]) -> Result<Fields, NoMemory>
+    ensures { IfOk result (λ judged. judged ≡ told_fields (map (faults.judged_fields (names_seen visible.entry) visible.entry.refinements.now) fields.now)) }
+{
+    let mut list = List::new(alloc);
+    let mut first = None;
+    for field in fields {
+        let judged = judge(alloc, visible, &field.of)?;
+        first = earlier(first, judged.first);
+        let doubled = add_fields(alloc, &mut list, field.names.as_slice(), &judged.of)?;
+        first = earlier(first, doubled);
+    }
+    Ok(Fields { list, first })
+}
