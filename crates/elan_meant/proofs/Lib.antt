@@ -1,3 +1,4 @@
 pub mod Beside
 pub mod Told
+pub mod Halves
 mod Pairs

@@ -1,10 +1,8 @@
 -- What the parts of a phrase deliver, where they have meaning.
-use Rattle.std.specs.Prelude.{ℕ, pos, Bool, true, false, List, [], ◌∷◌, flat_map, Option, Some, None, slice_index_or}
+use Rattle.std.specs.Prelude.{ℕ, Bool, true, false, List, [], ◌∷◌, flat_map, Option, Some, None, slice_index_or}
 use Rattle.std.specs.Option.{option_map}
 use Rattle.elan_types.specs.declared.elan_type.ElanType.{ElanType}
-use Rattle.elan_types.specs.Types.{kind_in, shape_in}
-use Rattle.eu_base.specs.declared.value.Kind.{Kind}
-use Rattle.eu_base.specs.declared.value.Kind.TheVariants.{Int, Truth, Text}
+use Rattle.elan_types.specs.Types.{shape_in}
 use Rattle.elan_types.specs.declared.core_phrase.PlacePhrase.{PlacePhrase}
 use Rattle.elan_types.specs.declared.core_phrase.ValuePhrase.{ValuePhrase}
 use Rattle.elan_types.specs.declared.core_phrase.ValuePhrase.TheVariants as value
@@ -56,15 +54,9 @@ unit_of as' = Done (action.Unit as' ∷ [])
 abbrev pub actions_of : List Meant → List Action
 actions_of ms = flat_map actions ms
 
--- any value of a kind; it stands behind a LEAVE, where it is never reached
-abbrev pub blank : Kind → ValuePhrase
-blank Int = value.Number (pos 0)
-blank Truth = value.Truth false
-blank Text = value.Text []
-
--- behind a LEAVE any value of the type that is asked for
+-- behind a LEAVE no value of the type that is asked for is reached
 abbrev pub unreached : List Action → ElanType → ValuePhrase
-unreached as' t = value.After as' (blank (kind_in t))
+unreached as' t = value.After as' (value.Never (shape_in t))
 
 -- ---- parts by their number
 

@@ -4,7 +4,7 @@ ghost use Rattle.std.specs.Prelude.{◌≡◌, IfOk, map};
 ghost use Rattle.elan_meant.specs.Arms as spec;
 
 use crate::meant::Meant;
-use crate::part::{actions, blank, unreached};
+use crate::part::{actions, never, unreached};
 use crate::row::{both, pushed};
 use elan_types::{Arm, ElanType, ValueArm, ValuePhrase};
 use eu_base::{Boxed, List, NoMemory};
@@ -26,7 +26,7 @@ fn value_as(alloc: Global, of: &ElanType, part: Meant) -> Result<Boxed<ValuePhra
         Meant::Left(actions) => unreached(alloc, actions, of),
         other => {
             other.let_go();
-            Boxed::new(alloc, blank(alloc, of.kind()))
+            never(alloc, of)
         }
     }
 }

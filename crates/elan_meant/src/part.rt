@@ -2,16 +2,33 @@
 
 ghost use Rattle.std.specs.Prelude.{◌≡◌, IfOk, [], ◌∷◌, option_map};
 ghost use Rattle.elan_types.specs.Types as types;
+ghost use Rattle.elan_types.specs.declared.core_phrase.ValuePhrase.TheVariants as values;
 ghost use Rattle.elan_meant.specs.Parts as spec;
 ghost use Rattle.elan_meant.specs.Verdict.{gives, Tells};
 
 use crate::meant::Meant;
 use crate::operands::delivers_kind;
-use crate::row::Judged;
+use crate::row::{Judged, both};
 use elan_scope::trouble::Trouble;
 use elan_types::{Action, ElanType, PlacePhrase, ValuePhrase, Why};
-use eu_base::{Boxed, Bytes, Kind, List, NoMemory};
+use eu_base::{Boxed, Kind, List, NoMemory};
 use std::alloc::Global;
+
+/// The values of two parts, each if it is written.
+pub type Values = (Option<ValuePhrase>, Option<ValuePhrase>);
+
+/// What stands at a place, as a value of this type.
+pub fn loaded(alloc: Global, of: &ElanType, place: PlacePhrase) -> Result<ValuePhrase, NoMemory>
+    ensures { IfOk result (λ value. value ≡ values.Load place (types.shape_in of.now)) }
+{
+    match of.shape(alloc) {
+        Err(refusal) => {
+            place.let_go();
+            Err(refusal)
+        }
+        Ok(shape) => Ok(ValuePhrase::Load(place, shape)),
+    }
+}
 
 /// The value of a part that delivers one.
 pub fn value_of(alloc: Global, meant: Meant) -> Result<Boxed<ValuePhrase>, NoMemory>
@@ -19,9 +36,9 @@ pub fn value_of(alloc: Global, meant: Meant) -> Result<Boxed<ValuePhrase>, NoMem
 {
     match meant {
         Meant::Variable { at: _at, of, place } => {
-            let shape = of.shape();
+            let value = loaded(alloc, &of, place);
             of.let_go();
-            Boxed::new(alloc, ValuePhrase::Load(place, shape))
+            Boxed::new(alloc, value?)
         }
         Meant::Value { at: _at, of, value } => {
             of.let_go();
@@ -35,22 +52,22 @@ pub fn value_of(alloc: Global, meant: Meant) -> Result<Boxed<ValuePhrase>, NoMem
 }
 
 /// The same without a box.
-pub fn value_in(meant: Meant) -> ValuePhrase
-    ensures { result ≡ spec.value_of meant }
+pub fn value_in(alloc: Global, meant: Meant) -> Result<ValuePhrase, NoMemory>
+    ensures { IfOk result (λ value. value ≡ spec.value_of meant) }
 {
     match meant {
         Meant::Variable { at: _at, of, place } => {
-            let shape = of.shape();
+            let value = loaded(alloc, &of, place);
             of.let_go();
-            ValuePhrase::Load(place, shape)
+            value
         }
         Meant::Value { at: _at, of, value } => {
             of.let_go();
-            value.into_inner()
+            Ok(value.into_inner())
         }
         other => {
             other.let_go();
-            ValuePhrase::Truth(false)
+            Ok(ValuePhrase::Truth(false))
         }
     }
 }
@@ -117,24 +134,44 @@ pub fn may_deliver(kind: Kind, meant: &Meant) -> bool
 }
 
 /// The value of a part, if it is written.
-pub fn written(meant: Meant) -> Option<ValuePhrase>
-    ensures { result ≡ spec.written meant }
+pub fn written(alloc: Global, meant: Meant) -> Result<Option<ValuePhrase>, NoMemory>
+    ensures { IfOk result (λ value. value ≡ spec.written meant) }
 {
     match meant {
         Meant::Variable { at: _at, of, place } => {
-            let shape = of.shape();
+            let value = loaded(alloc, &of, place);
             of.let_go();
-            Some(ValuePhrase::Load(place, shape))
+            Ok(Some(value?))
         }
         Meant::Value { at: _at, of, value } => {
             of.let_go();
-            Some(value.into_inner())
+            Ok(Some(value.into_inner()))
         }
         other => {
             other.let_go();
-            None
+            Ok(None)
         }
     }
+}
+
+/// The values of two parts, each if it is written.
+pub fn both_written(alloc: Global, first: Meant, second: Meant) -> Result<Values, NoMemory>
+    ensures { IfOk result (λ values. values ≡ (spec.written first, spec.written second)) }
+{
+    let first = written(alloc, first);
+    both(first, written(alloc, second))
+}
+
+/// The values of two parts and of two others, each if it is written.
+pub fn four_written(
+    alloc: Global,
+    first: (Meant, Meant),
+    second: (Meant, Meant),
+) -> Result<(Values, Values), NoMemory>
+    ensures { IfOk result (λ values. values ≡ ((spec.written first.0, spec.written first.1), (spec.written second.0, spec.written second.1))) }
+{
+    let first = both_written(alloc, first.0, first.1);
+    both(first, both_written(alloc, second.0, second.1))
 }
 
 /// A phrase that delivers this value.
@@ -198,15 +235,12 @@ pub fn boxed(alloc: Global, value: ValuePhrase) -> Result<Boxed<ValuePhrase>, No
     Boxed::new(alloc, value)
 }
 
-/// Any value of a kind; it stands behind a LEAVE, where it is never reached.
-pub fn blank(alloc: Global, kind: Kind) -> ValuePhrase
-    ensures { result ≡ spec.blank kind }
+/// A value of a type that is never reached.
+pub fn never(alloc: Global, of: &ElanType) -> Result<Boxed<ValuePhrase>, NoMemory>
+    ensures { IfOk result (λ v. v ≡ values.Never (types.shape_in of.now)) }
 {
-    match kind {
-        Kind::Int => ValuePhrase::Number(0),
-        Kind::Truth => ValuePhrase::Truth(false),
-        Kind::Text => ValuePhrase::Text(Bytes::new(alloc)),
-    }
+    let shape = of.shape(alloc)?;
+    Boxed::new(alloc, ValuePhrase::Never(shape))
 }
 
 /// Actions that end with a LEAVE, where a value of a type is asked for.
@@ -217,6 +251,11 @@ pub fn unreached(
 ) -> Result<Boxed<ValuePhrase>, NoMemory>
     ensures { IfOk result (λ v. v ≡ spec.unreached actions of.now) }
 {
-    let value = Boxed::new(alloc, blank(alloc, of.kind()))?;
-    Boxed::new(alloc, ValuePhrase::After(actions, value))
+    match never(alloc, of) {
+        Err(refusal) => {
+            Action::all_let_go(actions);
+            Err(refusal)
+        }
+        Ok(value) => Boxed::new(alloc, ValuePhrase::After(actions, value)),
+    }
 }

@@ -5,6 +5,7 @@ pub mod TypedUnits
 pub mod TypedLoops
 pub mod TypedChoices
 pub mod TypedPerformed
+pub mod HeldCells
 pub mod TypedCalls
 pub mod Hung
 pub mod Together

@@ -1,5 +1,5 @@
 -- The shape of each form of core, from those of its parts.
-use Rattle.std.proofs.Common.{◌≡◌, ℕ, ℤ, Bool, true, ◌&&◌, nat_le, List, [], ◌∷◌, map, length, drop, Option, Some, None, refl, sym, ap, ◌∙◌}
+use Rattle.std.proofs.Common.{◌≡◌, ℕ, ℤ, Bool, true, ◌&&◌, ◌==◌, nat_le, List, [], ◌∷◌, map, length, drop, Option, Some, None, refl, sym, ap, ◌∙◌}
 use Rattle.eu_base.specs.declared.value.TheConstants.{TEXT_BYTES}
 use Rattle.eu_base.specs.Operations.{operand_kinds, result_kind, change_kind, in_range}
 use Rattle.eu_base.specs.declared.operation.Operation.{Operation}
@@ -9,8 +9,10 @@ use Rattle.eu_base.specs.declared.request.RequestName.{RequestName}
 use Rattle.eu_base.specs.declared.value.Kind.{Kind}
 use Rattle.eu_base.specs.declared.value.Kind.TheVariants.{Int, Truth as Truths, Text as Letters}
 use Rattle.eu_base.specs.declared.shape.Shape.{Shape}
-use Rattle.eu_base.specs.declared.shape.Shape.TheVariants.{Cell}
+use Rattle.eu_base.specs.declared.shape.Shape.TheVariants.{Cell, Row}
 use Rattle.eu_base.specs.Shapes.{cell_kinds}
+use Rattle.elan_types.specs.declared.core_phrase.Items.{Items}
+use Rattle.elan_types.specs.declared.core_phrase.Part.{Part}
 use Rattle.elan_types.specs.declared.core_phrase.PlacePhrase.{PlacePhrase, roll-PlacePhrase}
 use Rattle.elan_types.specs.declared.core_phrase.PlacePhrase.TheVariants as place
 use Rattle.elan_types.specs.declared.core_phrase.ValuePhrase.{ValuePhrase, roll-ValuePhrase}
@@ -32,7 +34,7 @@ use Rattle.elan_types.specs.declared.core_phrase.Action.TheFolds.{map-ValuePhras
 use Rattle.elan_types.specs.declared.core_phrase.Action.TheFolds.{fold-roll-ValuePhrase, fold-roll-Arm, fold-roll-ValueArm}
 use Rattle.elan_types.specs.Typing.{Typed, Taken, Home, Held, given_as, taken_by, scope_of, delivered_by, refines, owner, is_none, leaves_without, leaves_with}
 use Rattle.elan_types.specs.Typing.{left_from, frame_in, values_held, place_held, starts, actual_kind_step, has, has_shape, agree, only_if, have, all_agree}
-use Rattle.elan_types.specs.Typing.{all_true, place_kinds, phrase_shape, is_typed}
+use Rattle.elan_types.specs.Typing.{all_true, place_kinds, phrase_shape, is_typed, if_true, item_kinds, has_part}
 use Rattle.elan_types.specs.Typing.{request_formals, take_all, action_typed_step, place_kinds_step, value_kind_step, arm_typed_step, value_arm_kind_step}
 
 -- where a phrase stands: the variables of the level, all bodies, and the body
@@ -110,6 +112,13 @@ module _ (here : Stand) where
   pub parameter_is : (n : ℕ) → cells (place.Parameter n) ≡ place_held (slice_get frame n)
   parameter_is n = ap cells (sym (place.rolls-Parameter n)) ∙ of_place (t.Parameter n)
 
+  pub item_is : (p : PlacePhrase) (a : ValuePhrase) (items : Items)
+      → cells (place.Item p a items) ≡ if_true (has Int (shape a)) (item_kinds items.count items.cells (cells p))
+  item_is p a items = ap cells (sym (place.rolls-Item p a items)) ∙ of_place (t.Item p a items)
+
+  pub field_is : (p : PlacePhrase) (before : ℕ) → cells (place.Field p before) ≡ drop before (cells p)
+  field_is p before = ap cells (sym (place.rolls-Field p before)) ∙ of_place (t.Field p before)
+
   -- ---- values
 
   pub number_is : (z : ℤ) → shape (value.Number z) ≡ only_if (in_range z) (Some (Cell Int))
@@ -140,6 +149,17 @@ module _ (here : Stand) where
 
   pub after_is : (us : List Action) (a : ValuePhrase) → shape (value.After us a) ≡ only_if (all_true (map typed us)) (shape a)
   after_is us a = ap shape (sym (value.rolls-After us a)) ∙ of_value (t.After us a)
+
+  pub never_is : (s : Shape) → shape (value.Never s) ≡ Some s
+  never_is s = ap shape (sym (value.rolls-Never s)) ∙ of_value (t.Never s)
+
+  pub pick_is : (a i : ValuePhrase) (items : Items) (s : Shape)
+      → shape (value.Pick a i items s)
+      ≡ only_if (has_shape (Row items.count s) (shape a) && (has Int (shape i) && length (cell_kinds s) == items.cells)) (Some s)
+  pick_is a i items s = ap shape (sym (value.rolls-Pick a i items s)) ∙ of_value (t.Pick a i items s)
+
+  pub take_is : (a : ValuePhrase) (part : Part) (s : Shape) → shape (value.Take a part s) ≡ only_if (has_part part (cell_kinds s) (shape a)) (Some s)
+  take_is a part s = ap shape (sym (value.rolls-Take a part s)) ∙ of_value (t.Take a part s)
 
   pub call_is : (n : ℕ) (as' : List Actual) (s : Shape)
       → shape (value.Call n as' s)

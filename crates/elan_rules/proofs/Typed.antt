@@ -1,13 +1,10 @@
 -- What is known of a meaning: its core has the shapes that it asks for, and the shape of its type.
 use Rattle.std.proofs.Common.{ℕ, zero, suc, drop}
-use Rattle.std.proofs.Common.{◌≡◌, Bool, true, false, ◌&&◌, if◌then◌else◌, List, [], ◌∷◌, ◌++◌, map, Option, Some, None, refl, sym, ap, subst, ◌∙◌, eqb-true}
-use Rattle.std.specs.Prelude.{◌==◌}
+use Rattle.std.proofs.Common.{◌≡◌, Bool, true, false, ◌&&◌, if◌then◌else◌, List, [], ◌∷◌, ◌++◌, map, Option, Some, None, refl, sym, ap, subst, ◌∙◌}
 use Rattle.elan_types.specs.declared.elan_type.ElanType.{ElanType}
 use Rattle.eu_base.specs.declared.value.Kind.{Kind}
-use Rattle.eu_base.specs.declared.value.Kind.TheVariants as kinds
 use Rattle.eu_base.specs.declared.shape.Shape.{Shape}
 use Rattle.eu_base.specs.declared.shape.Shape.TheVariants.{Cell}
-use Rattle.eu_base.specs.Values.{same_kind}
 use Rattle.eu_base.specs.Shapes.{cell_kinds}
 use Rattle.elan_types.specs.declared.core_phrase.PlacePhrase.{PlacePhrase}
 use Rattle.elan_types.specs.declared.core_phrase.ValuePhrase.{ValuePhrase}
@@ -20,18 +17,16 @@ use Rattle.elan_scope.specs.Ruled as ruled
 use Rattle.elan_scope.specs.Ruled.{Ruled, hangs}
 use Rattle.elan_meant.specs.Verdict.{Verdict, gives, breaks, ◌>>=◌, told, unless}
 use Rattle.elan_types.specs.Typing.{Typed, starts, has_shape, agree, only_if, all_true}
-use Rattle.elan_types.specs.Types.{same_type, kind_in, shape_in, type_in}
+use Rattle.elan_types.specs.Types.{shape_in, type_in}
 use Rattle.elan_types.proofs.Shapes.{cell_is, same_shape_self}
 pub use Rattle.elan_types.proofs.Shapes.{both}
-pub use Rattle.elan_types.proofs.Types.{kind_type, same_type_is}
+pub use Rattle.elan_types.proofs.Types.{type_shape, same_type_is}
+use Rattle.elan_types.proofs.Sized.{is_sized}
 use Rattle.elan_meant.specs.Operands.{delivers}
 use Rattle.elan_meant.specs.Parts as r
 use Rattle.elan_rules.proofs.TypeEquations.{Stand, shape, typed, cells, load_is, unit_is, has_written}
 
--- ---- types, kinds and shapes
-
-pub shape_type : (k : Kind) → shape_in (type_in k) ≡ Cell k
-shape_type k = ap (λ (j : Kind). Cell j) (kind_type k)
+-- ---- shapes
 
 pub has_self : (s : Shape) (a : Typed) → a ≡ Some s → has_shape s a ≡ true
 has_self s a e = subst (λ (b : Typed). has_shape s b ≡ true) (sym e) (same_shape_self s)
@@ -89,8 +84,12 @@ module _ (here : Stand) where
   MayHave s (Some v) = Has s v
 
   -- A value of this shape stands at a place.
+  abbrev pub Stands : Shape → PlacePhrase → Type 0
+  Stands s x = starts (cell_kinds s) (cells here x) ≡ true
+
+  -- The same of a shape of which each part has a cell: so a value stands at the place of each part.
   abbrev pub Lies : Shape → PlacePhrase → Type 0
-  Lies s x = starts (cell_kinds s) (cells here x) ≡ true
+  Lies s x = Stands s x × (is_sized s ≡ true)
 
   abbrev pub AllTyped : List Action → Type 0
   AllTyped as' = all_true (map (typed here) as') ≡ true
@@ -135,17 +134,17 @@ module _ (here : Stand) where
   -- ---- what parts deliver
 
   -- what stands in a variable
-  pub load_typed : (s : Shape) (x : PlacePhrase) → Lies s x → Has s (value.Load x s)
+  pub load_typed : (s : Shape) (x : PlacePhrase) → Stands s x → Has s (value.Load x s)
   load_typed s x h = load_is here x s ∙ only_if_holds _ _ s h refl
 
   -- that of one cell
-  pub cell_there : (k : Kind) (x : PlacePhrase) → Lies (Cell k) x → starts (k ∷ []) (cells here x) ≡ true
+  pub cell_there : (k : Kind) (x : PlacePhrase) → Stands (Cell k) x → starts (k ∷ []) (cells here x) ≡ true
   cell_there k x h = ap (λ (ks : List Kind). starts ks (cells here x)) (sym (cell_is k)) ∙ h
 
   pub value_typed : (t : ElanType) (m : Meant) → Good m → delivers t m ≡ true → Has (shape_in t) (r.value_of m)
   value_typed t Absent g e = absurd cc
   value_typed t (Variable at u x) g e =
-      subst (λ (w : ElanType). Has (shape_in w) (value.Load x (shape_in u))) (sym (same_type_is t u e)) (load_typed (shape_in u) x g)
+      subst (λ (w : ElanType). Has (shape_in w) (value.Load x (shape_in u))) (sym (same_type_is t u e)) (load_typed (shape_in u) x g.0)
   value_typed t (Value at u v) g e = subst (λ (w : ElanType). Has (shape_in w) v) (sym (same_type_is t u e)) g
   value_typed t (Done as') g e = absurd cc
   value_typed t (Left as') g e = absurd cc
@@ -177,16 +176,16 @@ module _ (here : Stand) where
   -- the same of what is predefined for cells of a kind
 
   pub kind_good : (k : Kind) (v : ValuePhrase) → Has (Cell k) v → Has (shape_in (type_in k)) v
-  kind_good k v h = subst (λ (s : Shape). Has s v) (sym (shape_type k)) h
+  kind_good k v h = subst (λ (s : Shape). Has s v) (sym (type_shape k)) h
 
   pub kind_value : (k : Kind) (m : Meant) → Good m → delivers (type_in k) m ≡ true → Has (Cell k) (r.value_of m)
-  kind_value k m g e = subst (λ (s : Shape). Has s (r.value_of m)) (shape_type k) (value_typed (type_in k) m g e)
+  kind_value k m g e = subst (λ (s : Shape). Has s (r.value_of m)) (type_shape k) (value_typed (type_in k) m g e)
 
   pub kind_variable : (at : ℕ) (k : Kind) (m : Meant) → Good m → delivers (type_in k) m ≡ true → Gives (Lies (Cell k)) (r.variable at m)
-  kind_variable at k m g e = subst (λ (s : Shape). Gives (Lies s) (r.variable at m)) (shape_type k) (variable_good at (type_in k) m g e)
+  kind_variable at k m g e = subst (λ (s : Shape). Gives (Lies s) (r.variable at m)) (type_shape k) (variable_good at (type_in k) m g e)
 
   pub kind_may : (k : Kind) (m : Meant) → Good m → r.may_deliver (type_in k) m ≡ true → MayHave (Cell k) (r.written m)
-  kind_may k m g e = subst (λ (s : Shape). MayHave s (r.written m)) (shape_type k) (may_typed (type_in k) m g e)
+  kind_may k m g e = subst (λ (s : Shape). MayHave s (r.written m)) (type_shape k) (may_typed (type_in k) m g e)
 
   pub actions_typed : (m : Meant) → Good m → AllTyped (r.actions m)
   actions_typed Absent g = refl

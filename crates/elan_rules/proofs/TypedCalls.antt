@@ -1,6 +1,6 @@
 -- Names, calls and LEAVE have the shapes that they ask for.
 -- This file is long since one record, what a scope tells of the bodies, is the premise of all that stands in it.
-use Rattle.std.proofs.Common.{◌≡◌, ℕ, Bool, true, false, if◌then◌else◌, List, [], ◌∷◌, ◌++◌, ◌+◌, zero, suc, length, drop, arith, map, Option, Some, None, refl}
+use Rattle.std.proofs.Common.{◌≡◌, ℕ, Bool, true, false, if◌then◌else◌, List, [], ◌∷◌, ◌++◌, ◌+◌, suc, length, drop, arith, map, Option, Some, None, refl}
 use Rattle.std.proofs.Common.{sym, ap, subst, ◌∙◌}
 use Rattle.elan_types.specs.declared.elan_type.ElanType.{ElanType}
 use Rattle.elan_types.specs.declared.core_phrase.PlacePhrase.{PlacePhrase}
@@ -12,25 +12,23 @@ use Rattle.elan_meant.specs.declared.meant.Meant.{Meant}
 use Rattle.elan_scope.specs.declared.scope.Usage.{Usage}
 use Rattle.elan_scope.specs.declared.scope.Usage.TheVariants as usage
 use Rattle.elan_meant.specs.declared.meant.Meant.TheVariants.{Absent, Variable, Value, Done, Left, Labels, Bodies, Level}
-use Rattle.std.specs.Prelude.{slice_get, nat_eq, flat_map, option_map, option_and_then}
-use Rattle.std.proofs.lemmas.Option.{slice_get-map}
+use Rattle.std.specs.Prelude.{slice_get, nat_eq, option_and_then}
 use Rattle.std.specs.Str.{bytes_eq}
 use Rattle.elan_types.specs.declared.core_phrase.Access.{Access}
 use Rattle.elan_types.specs.declared.core_phrase.Access.TheVariants.{Const, Var}
 use Rattle.elan_types.specs.declared.elan_type.Parameter.{Parameter}
 use Rattle.eu_base.specs.declared.value.Kind.{Kind}
 use Rattle.eu_base.specs.declared.shape.Shape.{Shape}
-use Rattle.eu_base.specs.declared.shape.Shape.TheVariants.{Cell}
-use Rattle.elan_types.specs.Types.{kind_in, shape_in, formal_of}
+use Rattle.elan_types.specs.Types.{shape_in, formal_of}
 use Rattle.elan_types.specs.declared.core_phrase.Exit.{Exit}
 use Rattle.elan_types.specs.declared.core_phrase.Exit.TheVariants as exits
 use Rattle.elan_types.specs.declared.core_phrase.Scope.{Scope as Owner}
 use Rattle.elan_types.specs.declared.core_phrase.Scope.TheVariants as owner
 use Rattle.elan_types.specs.declared.core_phrase.Body.{Body}
-use Rattle.elan_types.specs.Typing.{Home as InBody, Typed, Held, OfKind, OfPlace, held_as, cells_of, values_held, place_held, starts, same_home}
+use Rattle.elan_types.specs.Typing.{Home as InBody, Typed, Held, OfKind, cells_of, starts, same_home}
 use Rattle.elan_types.specs.Typing.{result_of_content, result_of, scope_of, refines, leaves_without, leaves_with, left_from, around, frame_in}
 use Rattle.elan_types.specs.Typing.{owner as owner_in}
-use Rattle.elan_types.proofs.Shapes.{cell_is, same_kind_self, same_shape_self}
+use Rattle.elan_types.proofs.Shapes.{same_shape_self}
 use Rattle.elan_scope.specs.declared.delivery.Delivery.{Delivery}
 use Rattle.elan_scope.specs.declared.delivery.Delivery.TheVariants.{Open, Nothing, Of}
 use Rattle.elan_scope.specs.declared.scope.Denotes.{Denotes}
@@ -55,6 +53,11 @@ use Rattle.elan_scope.specs.Predefined.{predefined}
 use Rattle.elan_scope.proofs.Layers.{called_as, layers_in, outer_layers}
 use Rattle.elan_scope.proofs.Named.{first_heading_from}
 use Rattle.elan_meant.specs.Operands.{delivers, takes, chosen}
+use Rattle.eu_base.specs.Shapes.{cell_kinds}
+use Rattle.elan_types.specs.declared.core_phrase.PlacePhrase.TheVariants as place
+use Rattle.elan_types.proofs.Sized.{is_sized, is_sized_type}
+pub use Rattle.elan_rules.proofs.HeldCells.{AllSized, AllConst, held_cells}
+use Rattle.elan_rules.proofs.HeldCells.{HeldAt, found_held, found_sized, held_first, values_at, kinds_at, no_place, place_at, level_cells, starts_first}
 use Rattle.elan_rules.proofs.Typed as ty
 use Rattle.elan_rules.proofs.Typed.{same_type_is, has_self, agree_self, only_if_holds, both, and_true, Gives, MayGive, on_if, on_bind, on_told, on_either}
 use Rattle.value_rules.specs.Calls as r
@@ -66,84 +69,6 @@ use Rattle.elan_rules.proofs.TypedPerformed.{owner_with, Headed, Delivering, Bod
 use Rattle.elan_rules.proofs.TypedPerformed.{first_calls, else_calls, called_good}
 
 -- ---- look-ups
-
-behind : {A : Type 0} (ys xs : List A) (i : ℕ) → slice_get (ys ++ xs) (length ys + i) ≡ slice_get xs i
-behind {A = A} [] xs i = let z : 0 + i ≡ i = omega arith in ap (λ (n : ℕ). slice_get xs n) z
-behind {A = A} (y ∷ ys) xs i = let z : suc (length ys) + i ≡ suc (length ys + i) = omega arith in ap (λ (n : ℕ). slice_get (y ∷ ys ++ xs) n) z ∙ behind ys xs i
-
--- what is held there begins with this, where anything is
-abbrev HeldAt : List Parameter → List Parameter → ℕ → Type 0
-HeldAt [] xs i = Unit {0}
-HeldAt (q ∷ qs) xs i = slice_get xs i ≡ Some q
-
-held_first : (ps xs : List Parameter) → HeldAt ps (ps ++ xs) 0
-held_first [] xs = tt
-held_first (q ∷ ps) xs = refl
-
-held_behind : (ps ys xs : List Parameter) (i : ℕ) → HeldAt ps xs i → HeldAt ps (ys ++ xs) (length ys + i)
-held_behind [] ys xs i h = tt
-held_behind (q ∷ ps) ys xs i h = behind ys xs i ∙ h
-
-found_held : (k : ℕ) (es : List Entry) (x : List ℕ) (f : ℕ × Entry) → scope.first_from k es x ≡ Some f
-    → (i : ℕ) × (f.0 ≡ k + i) × HeldAt (held f.1.denotes) (all_held es) i
-found_held k [] x f e = absurd cc
-found_held k (d ∷ es) x f e = by_name (found_held (k + length (held d.denotes)) es x f) (bytes_eq d.name x) e
-  where
-    by_name : (scope.first_from (k + length (held d.denotes)) es x ≡ Some f
-        → (i : ℕ) × (f.0 ≡ k + length (held d.denotes) + i) × HeldAt (held f.1.denotes) (all_held es) i) → (b : Bool)
-        → (if b then Some (k, d) else scope.first_from (k + length (held d.denotes)) es x) ≡ Some f
-        → (i : ℕ) × (f.0 ≡ k + i) × HeldAt (held f.1.denotes) (all_held (d ∷ es)) i
-    by_name rest true h =
-        let g : (k, d) ≡ f = cc in (
-          0,
-          (let i : f.0 ≡ k = sym (ap (λ (q : ℕ × Entry). q.0) g) in omega arith),
-          subst (λ (q : ℕ × Entry). HeldAt (held q.1.denotes) (all_held (d ∷ es)) 0) g (held_first (held d.denotes) (all_held es)),
-        )
-    by_name rest false h =
-        let g = rest h in
-        (length (held d.denotes) + g.0, (let i = g.1 in omega arith), held_behind (held f.1.denotes) (held d.denotes) (all_held es) g.0 g.2)
-
-map_at : {A B : Type 0} (f : A → B) (xs : List A) (i : ℕ) (x : A) → slice_get xs i ≡ Some x → slice_get (map f xs) i ≡ Some (f x)
-map_at f xs i x e = slice_get-map f xs i ∙ ap (option_map f) e
-
--- ---- cells
-
--- the one cell of a parameter
-abbrev cell_with : Access → Kind → Held
-cell_with Const k = OfKind k
-cell_with Var k = OfPlace (k ∷ [])
-
-abbrev cell_of : Parameter → Held
-cell_of q = cell_with q.access (kind_in q.of)
-
-one_cell : (q : Parameter) → cells_of (formal_of q) ≡ cell_of q ∷ []
-one_cell q = ap (held_as q.access) (cell_is (kind_in q.of)) ∙ by_access q.access
-  where
-    by_access : (a : Access) → held_as a (kind_in q.of ∷ []) ≡ cell_with a (kind_in q.of) ∷ []
-    by_access Const = refl
-    by_access Var = refl
-
-each_cell : (ps : List Parameter) → flat_map cells_of (map formal_of ps) ≡ map cell_of ps
-each_cell [] = refl
-each_cell (q ∷ ps) =
-    ap (λ (hs : List Held). hs ++ flat_map cells_of (map formal_of ps)) (one_cell q) ∙ ap (λ (hs : List Held). cell_of q ∷ hs) (each_cell ps)
-
-starts_first : (k : Kind) (ks : List Kind) → starts (k ∷ []) (k ∷ ks) ≡ true
-starts_first k ks = and_true _ _ (same_kind_self k) refl
-
-starts_at : (ks : List Kind) (n : ℕ) (k : Kind) → slice_get ks n ≡ Some k → starts (k ∷ []) (drop n ks) ≡ true
-starts_at [] n k e = absurd cc
-starts_at (j ∷ ks) zero k e = let h : j ≡ k = cc in subst (λ (i : Kind). starts (i ∷ []) (j ∷ ks) ≡ true) h (starts_first j ks)
-starts_at (j ∷ ks) (suc n) k e = starts_at ks n k e
-
-starts_held : (hs : List Held) (n : ℕ) (k : Kind) → slice_get hs n ≡ Some (OfKind k) → starts (k ∷ []) (values_held (drop n hs)) ≡ true
-starts_held [] n k e = absurd cc
-starts_held (h ∷ hs) zero k e =
-    let i : h ≡ OfKind k = cc in subst (λ (j : Held). starts (k ∷ []) (values_held (j ∷ hs)) ≡ true) (sym i) (starts_first k (values_held hs))
-starts_held (h ∷ hs) (suc n) k e = starts_held hs n k e
-
-starts_place : (hs : List Held) (n : ℕ) (k : Kind) → slice_get hs n ≡ Some (OfPlace (k ∷ [])) → starts (k ∷ []) (place_held (slice_get hs n)) ≡ true
-starts_place hs n k e = ap (λ (o : Option Held). starts (k ∷ []) (place_held o)) e ∙ starts_first k []
 
 heading_at : (k : ℕ) (test : Heading → Bool) (hs : List Heading) (b : ℕ × Heading) → first_heading_from k test hs ≡ Some b
     → (i : ℕ) × (b.0 ≡ k + i) × (slice_get hs i ≡ Some b.1) × (test b.1 ≡ true)
@@ -171,17 +96,21 @@ first_at test hs b e =
 
 -- ---- bodies as their headings tell
 
--- the cells of what names hold
-abbrev pub held_cells : List Entry → List Held
-held_cells es = flat_map cells_of (map formal_of (all_held es))
-
 abbrev pub FrameIs : List Held → Option Within → Type 0
 FrameIs hs None = Unit {0}
 FrameIs hs (Some v) = hs ≡ held_cells v.names
 
+abbrev pub WithinSized : Option Within → Type 0
+WithinSized None = Unit {0}
+WithinSized (Some v) = AllSized (all_held v.names)
+
 -- The bodies are those that a scope tells of.
 pub record Fits (here : Stand) (s : Scope) (k : Known) : Type 0 where
   pub level : here.variables ≡ variables_of s.level
+  -- what the level and the routine hold, and that of the level is no place
+  pub constant : AllConst (all_held s.level)
+  pub sized : AllSized (all_held s.level)
+  pub frame_sized : WithinSized s.routine
   pub frame : FrameIs (frame_in here.bodies (owner_in here.bodies here.home)) s.routine
   pub owner_is : owner_in here.bodies here.home ≡ number_of s.routine
   pub home_is : here.home ≡ option_or s.refinement (number_of s.routine)
@@ -203,23 +132,32 @@ module _ (here : Stand) where
 
   -- ---- what stands at places
 
+  abbrev home_cells : Home → List Held
+  home_cells of_level = map OfKind here.variables
+  home_cells of_routine = frame here
+
+  -- The cells of what is held begin at this number.
   abbrev AtHome : Home → ℕ → Parameter → Type 0
-  AtHome of_level n q = slice_get here.variables n ≡ Some (kind_in q.of)
-  AtHome of_routine n q = slice_get (frame_in here.bodies (owner_in here.bodies here.home)) n ≡ Some (cell_of q)
+  AtHome home n q = (rest : List Held) × (drop n (home_cells home) ≡ cells_of (formal_of q) ++ rest)
 
   abbrev Stays : Shape → PlacePhrase → Type 0
   Stays = ty.Lies here
 
-  lies_by : (k : Kind) (x : PlacePhrase) (ks : List Kind) → cells here x ≡ ks → starts (k ∷ []) ks ≡ true → Stays (Cell k) x
-  lies_by k x ks e h = ap (λ (js : List Kind). starts js (cells here x)) (cell_is k) ∙ ap (starts (k ∷ [])) e ∙ h
+  lies_by : (s : Shape) (x : PlacePhrase) (ks : List Kind) → cells here x ≡ cell_kinds s ++ ks → is_sized s ≡ true → Stays s x
+  lies_by s x ks e z = (ap (starts (cell_kinds s)) e ∙ starts_first s ks z, z)
 
-  place_lies : (home : Home) (n : ℕ) (t : ElanType) (a : Access) → AtHome home n (record { of = t; access = a }) → Stays (shape_in t) (r.place_in home n a)
-  place_lies of_level n t a h = lies_by (kind_in t) _ _ (variable_is here n) (starts_at here.variables n (kind_in t) h)
-  place_lies of_routine n t Const h = lies_by (kind_in t) _ _ (local_is here n) (starts_held (frame here) n (kind_in t) h)
-  place_lies of_routine n t Var h = lies_by (kind_in t) _ _ (parameter_is here n) (starts_place (frame here) n (kind_in t) h)
+  place_lies : (home : Home) (n : ℕ) (t : ElanType) (a : Access) → AtHome home n (record { of = t; access = a }) → is_sized_type t ≡ true
+      → Stays (shape_in t) (r.place_in home n a)
+  place_lies of_level n t Const h z =
+      lies_by (shape_in t) (place.Variable n) _ (variable_is here n ∙ kinds_at (cell_kinds (shape_in t)) here.variables h.0 n h.1) z
+  place_lies of_level n t Var h z = absurd (no_place (cell_kinds (shape_in t)) here.variables h.0 n h.1)
+  place_lies of_routine n t Const h z =
+      lies_by (shape_in t) (place.Local n) _ (local_is here n ∙ values_at (cell_kinds (shape_in t)) (frame here) h.0 n h.1) z
+  place_lies of_routine n t Var h z =
+      lies_by (shape_in t) (place.Parameter n) [] (parameter_is here n ∙ place_at (cell_kinds (shape_in t)) (frame here) h.0 n h.1) z
 
   constant_good : (at : ℕ) (t : ElanType) (x : PlacePhrase) → Stays (shape_in t) x → Good (r.constant at t x)
-  constant_good at t x h = ty.load_typed here (shape_in t) x h
+  constant_good at t x h = ty.load_typed here (shape_in t) x h.0
 
   parameter_good : (at : ℕ) (t : ElanType) (a : Access) (x : PlacePhrase) → Stays (shape_in t) x → Good (r.parameter at t a x)
   parameter_good at t Const x h = constant_good at t x h
@@ -228,38 +166,32 @@ module _ (here : Stand) where
   module _ (s : Scope) (k : Known) (fits : Fits here s k) where
     abbrev Lies : Home → ℕ → List Parameter → Type 0
     Lies home n [] = Unit {0}
-    Lies home n (q ∷ qs) = AtHome home n q
+    Lies home n (q ∷ qs) = AtHome home n q × (is_sized_type q.of ≡ true)
 
-    in_level : (n : ℕ) (ps : List Parameter) → HeldAt ps (all_held s.level) n → Lies of_level n ps
-    in_level n [] h = tt
-    in_level n (q ∷ ps) h = ap (λ (ks : List Kind). slice_get ks n) fits.level
-        ∙ map_at kind_in (types_of (all_held s.level)) n q.of (map_at (λ (p : Parameter). p.of) (all_held s.level) n q h)
+    held_lies : (home : Home) (n : ℕ) (ps : List Parameter) → HeldAt ps (home_cells home) n → AllSized ps → Lies home n ps
+    held_lies home n [] h z = tt
+    held_lies home n (q ∷ ps) h z = (held_first q ps (home_cells home) n h, z.0)
 
-    level_found : (f : ℕ × Entry) (x : List ℕ) → scope.first_named s.level x ≡ Some f → Lies of_level f.0 (held f.1.denotes)
-    level_found f x e =
-        let h = found_held 0 s.level x f e in
-        let i : f.0 ≡ h.0 = (let j = h.1 in omega arith) in
-        in_level f.0 (held f.1.denotes) (subst (λ (n : ℕ). HeldAt (held f.1.denotes) (all_held s.level) n) (sym i) h.2)
-
-    in_frame : (es : List Entry) (n : ℕ) (ps : List Parameter) → frame_in here.bodies (owner_in here.bodies here.home) ≡ held_cells es
-        → HeldAt ps (all_held es) n → Lies of_routine n ps
-    in_frame es n [] e h = tt
-    in_frame es n (q ∷ ps) e h = ap (λ (hs : List Held). slice_get hs n) (e ∙ each_cell (all_held es)) ∙ map_at cell_of (all_held es) n q h
-
-    routine_found : (es : List Entry) (f : ℕ × Entry) (x : List ℕ) → frame_in here.bodies (owner_in here.bodies here.home) ≡ held_cells es
-        → scope.first_named es x ≡ Some f → Lies of_routine f.0 (held f.1.denotes)
-    routine_found es f x fe e =
-        let h = found_held 0 es x f e in
-        let i : f.0 ≡ h.0 = (let j = h.1 in omega arith) in
-        in_frame es f.0 (held f.1.denotes) fe (subst (λ (n : ℕ). HeldAt (held f.1.denotes) (all_held es) n) (sym i) h.2)
+    entry_lies : (home : Home) (es : List Entry) (f : ℕ × Entry) (x : List ℕ) → home_cells home ≡ held_cells es → AllSized (all_held es)
+        → scope.first_named es x ≡ Some f → Lies home f.0 (held f.1.denotes)
+    entry_lies home es f x h z e =
+        held_lies home f.0 (held f.1.denotes) (subst (λ (hs : List Held). HeldAt (held f.1.denotes) hs f.0) (sym h) (found_held es x f e))
+        (found_sized es x f z e)
 
     abbrev FoundLies : Option Found → Type 0
     FoundLies None = Unit {0}
     FoundLies (Some f) = Lies f.home f.number (held f.denotes)
 
-    level_lies : (o : Option (ℕ × Entry)) (x : List ℕ) → scope.first_named s.level x ≡ o → FoundLies (scope.found_in of_level o)
-    level_lies None x e = tt
-    level_lies (Some f) x e = level_found f x e
+    names_lie : (home : Home) (es : List Entry) (o : Option (ℕ × Entry)) (x : List ℕ) → home_cells home ≡ held_cells es → AllSized (all_held es)
+        → scope.first_named es x ≡ o → FoundLies (scope.found_in home o)
+    names_lie home es None x h z e = tt
+    names_lie home es (Some f) x h z e = entry_lies home es f x h z e
+
+    level_is : home_cells of_level ≡ held_cells s.level
+    level_is = ap (λ (ks : List Kind). map OfKind ks) fits.level ∙ level_cells (all_held s.level) fits.constant
+
+    level_lies : (x : List ℕ) → FoundLies (scope.found_in of_level (scope.first_named s.level x))
+    level_lies x = names_lie of_level s.level (scope.first_named s.level x) x level_is fits.sized refl
 
     inside_lies : (o : Option Found) → FoundLies o → FoundLies (scope.from_inside o)
     inside_lies None h = tt
@@ -269,31 +201,27 @@ module _ (here : Stand) where
         by_test true = tt
         by_test false = h
 
-    routine_lies : (es : List Entry) (o : Option (ℕ × Entry)) (x : List ℕ) → frame_in here.bodies (owner_in here.bodies here.home) ≡ held_cells es
-        → scope.first_named es x ≡ o → FoundLies (scope.found_in of_routine o)
-    routine_lies es None x fe e = tt
-    routine_lies es (Some f) x fe e = routine_found es f x fe e
-
     else_lies : (o q : Option Found) → FoundLies o → FoundLies q → FoundLies (option_or o q)
     else_lies None q h i = i
     else_lies (Some f) q h i = h
 
-    find_lies_from : (v : Option Within) (x : List ℕ) → FrameIs (frame_in here.bodies (owner_in here.bodies here.home)) v
+    find_lies_from : (v : Option Within) (x : List ℕ) → FrameIs (frame here) v → WithinSized v
         → FoundLies (scope.find_in x (layers_in v (outer_layers s.level s.headings)))
-    find_lies_from None x h = else_lies (scope.found_in of_level (scope.first_named s.level x)) None (level_lies (scope.first_named s.level x) x refl) tt
-    find_lies_from (Some v) x h =
+    find_lies_from None x h z = else_lies (scope.found_in of_level (scope.first_named s.level x)) None (level_lies x) tt
+    find_lies_from (Some v) x h z =
         else_lies (scope.found_in of_routine (scope.first_named v.names x))
-        (option_or (scope.from_inside (scope.found_in of_level (scope.first_named s.level x))) None) (routine_lies v.names (scope.first_named v.names x) x h refl)
+        (option_or (scope.from_inside (scope.found_in of_level (scope.first_named s.level x))) None)
+        (names_lie of_routine v.names (scope.first_named v.names x) x h z refl)
         (else_lies (scope.from_inside (scope.found_in of_level (scope.first_named s.level x))) None
-        (inside_lies (scope.found_in of_level (scope.first_named s.level x)) (level_lies (scope.first_named s.level x) x refl)) tt)
+        (inside_lies (scope.found_in of_level (scope.first_named s.level x)) (level_lies x)) tt)
 
     find_lies : (x : List ℕ) → FoundLies (scope.find s x)
-    find_lies x = find_lies_from s.routine x fits.frame
+    find_lies x = find_lies_from s.routine x fits.frame fits.frame_sized
 
-    own_lies_from : (v : Option Within) (x : List ℕ) → FrameIs (frame_in here.bodies (owner_in here.bodies here.home)) v
+    own_lies_from : (v : Option Within) (x : List ℕ) → FrameIs (frame here) v → WithinSized v
         → FoundLies (option_and_then (scope.found x) (slice_get (layers_in v (outer_layers s.level s.headings)) 0))
-    own_lies_from None x h = level_lies (scope.first_named s.level x) x refl
-    own_lies_from (Some v) x h = routine_lies v.names (scope.first_named v.names x) x h refl
+    own_lies_from None x h z = level_lies x
+    own_lies_from (Some v) x h z = names_lie of_routine v.names (scope.first_named v.names x) x h z refl
 
     -- ---- what is called
 
@@ -378,9 +306,9 @@ module _ (here : Stand) where
     -- ---- identifiers
 
     denoted_good : (u : Usage) (at : ℕ) (x : List ℕ) (home : Home) (n : ℕ) (d : Denotes) → Lies home n (held d) → MayGive Good (r.denoted k u at s x home n d)
-    denoted_good u at x home n (denotes.Variable t) h = place_lies home n t Const h
-    denoted_good u at x home n (denotes.Constant t) h = constant_good at t (r.place_in home n Const) (place_lies home n t Const h)
-    denoted_good u at x home n (denotes.Parameter q) h = parameter_good at q.of q.access (r.place_in home n q.access) (place_lies home n q.of q.access h)
+    denoted_good u at x home n (denotes.Variable t) h = place_lies home n t Const h.0 h.1
+    denoted_good u at x home n (denotes.Constant t) h = constant_good at t (r.place_in home n Const) (place_lies home n t Const h.0 h.1)
+    denoted_good u at x home n (denotes.Parameter q) h = parameter_good at q.of q.access (r.place_in home n q.access) (place_lies home n q.of q.access h.0 h.1)
     denoted_good u at x home n denotes.Procedure h = on_told Good (r.applied at s Procedure x []) (applied_good at Procedure x [] tt)
     denoted_good u at x home n denotes.Refinement h = used_good u at (scope.refinement_named s x) (in_refined x (scope.find s x))
     denoted_good u at x home n (denotes.Denoter q) h = on_told Good (denoter at q) (denoter_good here at q)
@@ -393,8 +321,8 @@ module _ (here : Stand) where
     named_good u at x = named_as_good u at x (scope.find s x) (find_lies x)
 
     declared_as_good : (at : ℕ) (home : Home) (n : ℕ) (d : Denotes) → Lies home n (held d) → Good (r.declared_as at home n d)
-    declared_as_good at home n (denotes.Variable t) h = place_lies home n t Const h
-    declared_as_good at home n (denotes.Constant t) h = place_lies home n t Const h
+    declared_as_good at home n (denotes.Variable t) h = place_lies home n t Const h.0 h.1
+    declared_as_good at home n (denotes.Constant t) h = place_lies home n t Const h.0 h.1
     declared_as_good at home n (denotes.Parameter q) h = refl
     declared_as_good at home n denotes.Procedure h = refl
     declared_as_good at home n denotes.Refinement h = refl
@@ -405,7 +333,7 @@ module _ (here : Stand) where
     declared_in_good at (Some f) h = on_if Good (nat_eq f.at at) _ _ (λ e. declared_as_good at f.home f.number f.denotes h) (λ e. tt)
 
     pub declared_good : (at : ℕ) (x : List ℕ) → Gives Good (r.declared at (scope.find_own s x))
-    declared_good at x = declared_in_good at (scope.find_own s x) (own_lies_from s.routine x fits.frame)
+    declared_good at x = declared_in_good at (scope.find_own s x) (own_lies_from s.routine x fits.frame fits.frame_sized)
 
     -- ---- LEAVE
 
@@ -478,7 +406,7 @@ module _ (here : Stand) where
     delivered_leave e t Absent h g d = absurd cc
     delivered_leave e t (Variable at u x) h g d =
         let z = shape_in u in
-        leave_with_typed e z (value.Load x z) (h ∙ ap (λ (w : ElanType). Some (Some (shape_in w))) (same_type_is t u d)) (ty.load_typed here z x g)
+        leave_with_typed e z (value.Load x z) (h ∙ ap (λ (w : ElanType). Some (Some (shape_in w))) (same_type_is t u d)) (ty.load_typed here z x g.0)
     delivered_leave e t (Value at u v) h g d = leave_with_typed e (shape_in u) v (h ∙ ap (λ (w : ElanType). Some (Some (shape_in w))) (same_type_is t u d)) g
     delivered_leave e t (Done as') h g d = absurd cc
     delivered_leave e t (Left as') h g d = absurd cc

@@ -60,7 +60,7 @@ module _ (here : Stand) where
       → AllTyped (action.Unit (action.Count x v w l c us u ∷ []) ∷ [])
   count_typed x v w l c us u hx hv hl hc hs hu =
       ty.unit_typed here _ (ty.single_typed here (action.Count x v w l c us u) (count_is here x v w l c us u
-      ∙ (and_true _ _ (ty.cell_there here Int x hx) (and_true _ _ (has_self (Cell Int) _ hv) (and_true _ _ (ty.written_typed here Int l hl)
+      ∙ (and_true _ _ (ty.cell_there here Int x hx.0) (and_true _ _ (has_self (Cell Int) _ hv) (and_true _ _ (ty.written_typed here Int l hl)
       (and_true _ _ (ty.written_typed here Truths c hc) (and_true _ _ hs (ty.written_typed here Truths u hu))))))))
 
   pub counted_good : (at : ℕ) (w : Way) (n f l c us u : Meant) → Good n → Good f → Good l → Good c → Good us → Good u → Gives Good (r.counted at w n f l c us u)

@@ -43,7 +43,7 @@ use Rattle.elan_scope.specs.Predefined.{Row, parameters, result}
 use Rattle.elan_meant.specs.Operands.{delivers, fit}
 use Rattle.elan_types.proofs.Shapes.{same_shape_self, same_shape_is}
 use Rattle.elan_rules.proofs.Typed as ty
-use Rattle.elan_rules.proofs.Typed.{kind_type, has_self, agree_self, only_if_holds, both, and_true, Gives, on_if, on_bind}
+use Rattle.elan_rules.proofs.Typed.{type_shape, has_self, agree_self, only_if_holds, both, and_true, Gives, on_if, on_bind}
 use Rattle.elan_meant.specs.Parts as p
 use Rattle.value_rules.specs.Calls as r
 use Rattle.elan_rules.proofs.TypeEquations.{Stand, shape, cells, actual_taken, apply_is, modify_is, ask_is, error_stop_is, call_is, action_call_is}
@@ -77,21 +77,21 @@ all_formals : (ks js : List Kind)
     → map formal_of (values_of ks ++ map (λ k. held_var (type_in k)) js) ≡ map (λ k. formal Const (Cell k)) ks ++ map (λ k. formal Var (Cell k)) js
 all_formals [] [] = refl
 all_formals [] (j ∷ js) =
-    ap (λ (i : Kind). formal Var (Cell i) ∷ map formal_of (map (λ k. held_var (type_in k)) js)) (kind_type j)
+    ap (λ (i : Shape). formal Var i ∷ map formal_of (map (λ k. held_var (type_in k)) js)) (type_shape j)
     ∙ ap (λ (fs : List Formal). formal Var (Cell j) ∷ fs) (all_formals [] js)
 all_formals (k ∷ ks) js =
-    ap (λ (i : Kind). formal Const (Cell i) ∷ map formal_of (values_of ks ++ map (λ k. held_var (type_in k)) js)) (kind_type k)
+    ap (λ (i : Shape). formal Const i ∷ map formal_of (values_of ks ++ map (λ k. held_var (type_in k)) js)) (type_shape k)
     ∙ ap (λ (fs : List Formal). formal Const (Cell k) ∷ fs) (all_formals ks js)
 
 value_formals : (ks : List Kind) → map formal_of (values_of ks) ≡ map (λ k. formal Const (Cell k)) ks
 value_formals [] = refl
 value_formals (k ∷ ks) =
-    ap (λ (i : Kind). formal Const (Cell i) ∷ map formal_of (values_of ks)) (kind_type k)
+    ap (λ (i : Shape). formal Const i ∷ map formal_of (values_of ks)) (type_shape k)
     ∙ ap (λ (fs : List Formal). formal Const (Cell k) ∷ fs) (value_formals ks)
 
 change_formals : (k : Kind) → map formal_of (held_var (type_in k) ∷ values_of (k ∷ [])) ≡ formal Var (Cell k) ∷ formal Const (Cell k) ∷ []
 change_formals k =
-    ap (λ (i : Kind). formal Var (Cell i) ∷ map formal_of (values_of (k ∷ []))) (kind_type k)
+    ap (λ (i : Shape). formal Var i ∷ map formal_of (values_of (k ∷ []))) (type_shape k)
     ∙ ap (λ (fs : List Formal). formal Var (Cell k) ∷ fs) (value_formals (k ∷ []))
 
 module _ (here : Stand) where
@@ -106,6 +106,9 @@ module _ (here : Stand) where
 
   abbrev AllGood : List Meant → Type 0
   AllGood = ty.AllGood here
+
+  abbrev Stands : Shape → PlacePhrase → Type 0
+  Stands = ty.Stands here
 
   abbrev Lies : Shape → PlacePhrase → Type 0
   Lies = ty.Lies here
@@ -126,7 +129,7 @@ module _ (here : Stand) where
   given_as_typed a s b e = ap (given_as a) e
 
   place_given : (s : Shape) (x : PlacePhrase) → Lies s x → GivenFor (formal Var s) (actual.Place x s)
-  place_given s x l = takes_self s Var _ (given_place_is here x s ∙ given_as_typed Var s _ (only_if_holds _ _ s l refl))
+  place_given s x l = takes_self s Var _ (given_place_is here x s ∙ given_as_typed Var s _ (only_if_holds _ _ s l.0 refl))
 
   given_as_good : (at : ℕ) (a : Access) (t : ElanType) (m : Meant) → Good m → delivers t m ≡ true
       → Gives (GivenFor (formal a (shape_in t))) (r.given_as at a t m)
@@ -194,12 +197,12 @@ module _ (here : Stand) where
       by_shape None e = cc
       by_shape (Some q) e = let f = (both (same_shape s q) _ e).1 in cc
 
-  place_lies : (s r : Shape) (x : PlacePhrase) → GivenFor (formal Var s) (actual.Place x r) → Lies s x
-  place_lies s r x h =
+  place_stands : (s r : Shape) (x : PlacePhrase) → GivenFor (formal Var s) (actual.Place x r) → Stands s x
+  place_stands s r x h =
       by_test (starts (cell_kinds r) (cells here x)) refl (subst (λ (b : Taken). takes (formal Var s) b ≡ true) (given_place_is here x r) h)
     where
-      by_test : (b : Bool) → starts (cell_kinds r) (cells here x) ≡ b → takes (formal Var s) (given_as Var (only_if b (Some r))) ≡ true → Lies s x
-      by_test true g e = subst (λ (q : Shape). Lies q x) (sym (same_shape_is s r (both (same_shape s r) _ e).0)) g
+      by_test : (b : Bool) → starts (cell_kinds r) (cells here x) ≡ b → takes (formal Var s) (given_as Var (only_if b (Some r))) ≡ true → Stands s x
+      by_test true g e = subst (λ (q : Shape). Stands q x) (sym (same_shape_is s r (both (same_shape s r) _ e).0)) g
       by_test false g e = absurd cc
 
   values_have : (ks : List Kind) (as' : List Actual) → AllGiven (map (λ k. formal Const (Cell k)) ks) as' → have ks (map (shape here) (r.values_in as')) ≡ true
@@ -218,7 +221,7 @@ module _ (here : Stand) where
       let ks = operand_kinds o in
       let k = result_kind o in
       apply_is here o (r.values_in as')
-      ∙ only_if_holds _ _ _ (values_have ks as' (given_by _ _ as' (value_formals ks) h)) (ap (λ (j : Kind). Some (Cell j)) (sym (kind_type k)))
+      ∙ only_if_holds _ _ _ (values_have ks as' (given_by _ _ as' (value_formals ks) h)) (ap (λ (i : Shape). Some i) (sym (type_shape k)))
   predefined_performs (Change c) [] h at = tt
   predefined_performs (Change c) (actual.Value v ∷ as') h at = tt
   predefined_performs (Change c) (actual.Place x t ∷ []) h at = tt
@@ -226,7 +229,7 @@ module _ (here : Stand) where
       let k = change_kind c in
       let b = both _ _ (given_by _ _ (actual.Place x s ∷ actual.Value v ∷ []) (change_formals k) h) in
       ty.single_typed here (action.Modify c x v) (modify_is here c x v
-      ∙ and_true _ _ (ty.cell_there here k x (place_lies (Cell k) s x b.0)) (value_has (Cell k) v (both _ _ b.1).0))
+      ∙ and_true _ _ (ty.cell_there here k x (place_stands (Cell k) s x b.0)) (value_has (Cell k) v (both _ _ b.1).0))
   predefined_performs (Change c) (actual.Place x t ∷ actual.Value v ∷ a ∷ as') h at = tt
   predefined_performs (Change c) (actual.Place x t ∷ actual.Place y u ∷ as') h at = tt
   predefined_performs (Request q) as' h at =
@@ -234,7 +237,8 @@ module _ (here : Stand) where
   predefined_performs ErrorStop [] h at = tt
   predefined_performs ErrorStop (actual.Place x t ∷ as') h at = tt
   predefined_performs ErrorStop (actual.Value v ∷ []) h at =
-      ty.single_typed here (action.ErrorStop v) (error_stop_is here v ∙ value_has (Cell kinds.Text) v (both _ _ (given_by _ _ (actual.Value v ∷ []) (value_formals (kinds.Text ∷ [])) h)).0)
+      let b = both _ _ (given_by _ _ (actual.Value v ∷ []) (value_formals (kinds.Text ∷ [])) h) in
+      ty.single_typed here (action.ErrorStop v) (error_stop_is here v ∙ value_has (Cell kinds.Text) v b.0)
   predefined_performs ErrorStop (actual.Value v ∷ a ∷ as') h at = tt
 
   -- ---- what can be called

@@ -1,37 +1,36 @@
 -- Values, stores, lists of units and bodies have the shapes that they ask for.
-use Rattle.std.proofs.Common.{◌≡◌, ℤ, ℕ, Bool, true, false, if◌then◌else◌, nat_le, List, [], ◌∷◌, length, Option, Some, None, refl, sym, ap, subst, ◌∙◌}
-use Rattle.std.specs.Prelude.{slice_get}
+use Rattle.std.proofs.Common.{◌≡◌, ℤ, ℕ, Bool, true, false, if◌then◌else◌, nat_le, List, [], ◌∷◌, length, Option, Some, None, refl, sym, ap, subst, ◌∙◌, eq-eqb}
 use Rattle.std.specs.Option.{option_map_or}
 use Rattle.eu_base.specs.declared.value.TheConstants.{TEXT_BYTES}
 use Rattle.elan_types.specs.declared.elan_type.ElanType.{ElanType}
-use Rattle.elan_types.specs.Types.{concrete, kind_in, shape_in, type_in, is_own}
-use Rattle.elan_types.proofs.Types.{concrete_kind}
-use Rattle.elan_scope.specs.declared.scope.Scope.{Scope}
-use Rattle.elan_scope.specs.declared.type_name.TypeName.{TypeName}
+use Rattle.elan_types.specs.Types.{concrete, items, field, cells, shape_in, type_in, has_own}
+use Rattle.elan_types.proofs.Types.{concrete_shape, cells_kinds}
+use Rattle.elan_types.proofs.Sized.{items_shape, item_of_type_starts, item_of_type_sized, field_of_type_starts, field_of_type_sized, field_has_part}
 use Rattle.value_rules.specs.Values as v
-use Rattle.eu_base.specs.declared.value.Kind.{Kind}
 use Rattle.eu_base.specs.declared.value.Kind.TheVariants.{Int, Truth as Truths, Text}
 use Rattle.eu_base.specs.declared.shape.Shape.{Shape}
-use Rattle.eu_base.specs.declared.shape.Shape.TheVariants.{Cell}
+use Rattle.eu_base.specs.declared.shape.Shape.TheVariants.{Cell, Row}
+use Rattle.eu_base.specs.Shapes.{cell_kinds}
 use Rattle.elan_types.specs.declared.core_phrase.PlacePhrase.{PlacePhrase}
+use Rattle.elan_types.specs.declared.core_phrase.PlacePhrase.TheVariants as place
 use Rattle.elan_types.specs.declared.core_phrase.ValuePhrase.{ValuePhrase}
 use Rattle.elan_types.specs.declared.core_phrase.ValuePhrase.TheVariants as value
 use Rattle.elan_types.specs.declared.core_phrase.Action.{Action}
 use Rattle.elan_meant.specs.declared.meant.Meant.{Meant}
 use Rattle.elan_meant.specs.declared.meant.Meant.TheVariants.{Absent, Variable, Value, Done, Left, Labels, Bodies, Level}
-use Rattle.elan_types.specs.Typing.{is_content_typed}
-use Rattle.std.specs.Prelude.{pos}
+use Rattle.elan_types.specs.Typing.{is_content_typed, starts, if_true, item_kinds, has_part}
 use Rattle.eu_base.specs.Operations.{in_range}
 use Rattle.elan_scope.specs.declared.denoter.Denoter.{Denoter}
 use Rattle.elan_scope.specs.declared.denoter.Denoter.TheVariants as denoters
 use Rattle.elan_meant.specs.Operands.{delivers}
 use Rattle.elan_rules.proofs.Typed as ty
-use Rattle.elan_rules.proofs.Typed.{same_type_is, shape_type, has_self, agree_self, only_if_holds, both, and_true, Gives, on_if, on_bind}
+use Rattle.elan_rules.proofs.Typed.{same_type_is, has_self, agree_self, only_if_holds, both, and_true, Gives, on_if, on_bind}
 use Rattle.elan_meant.specs.Parts as p
 use Rattle.unit_rules.specs.Units as r
 use Rattle.value_rules.specs.walks.Steps as walk
 use Rattle.elan_rules.specs.Rules as rules
-use Rattle.elan_rules.proofs.TypeEquations.{Stand, typed, number_is, truth_is, text_is, value_if_is, value_unit_is, after_is, store_is}
+use Rattle.elan_rules.proofs.TypeEquations.{Stand, typed, shape, cells as places, number_is, truth_is, text_is, value_if_is, value_unit_is, after_is, store_is}
+use Rattle.elan_rules.proofs.TypeEquations.{item_is, field_is, never_is, pick_is, take_is}
 
 module _ (here : Stand) where
   abbrev Has : Shape → ValuePhrase → Type 0
@@ -71,7 +70,7 @@ module _ (here : Stand) where
 
   pub bracketed_good : (at : ℕ) (m : Meant) → Good m → Good (rules.bracketed at m)
   bracketed_good at Absent g = g
-  bracketed_good at (Variable p t x) g = ty.load_typed here (shape_in t) x g
+  bracketed_good at (Variable p t x) g = ty.load_typed here (shape_in t) x g.0
   bracketed_good at (Value p t v) g = g
   bracketed_good at (Done as') g = g
   bracketed_good at (Left as') g = g
@@ -101,7 +100,7 @@ module _ (here : Stand) where
 
   concr_as_good : (at : ℕ) (t : ElanType) (o : Option ElanType) (go : ElanType → Meant) → concrete t ≡ o
       → ((u : ElanType) → shape_in u ≡ shape_in t → Good (go u)) → Gives Good (v.concr_as at o go)
-  concr_as_good at t (Some u) go e h = h u (ap (λ (k : Kind). Cell k) (sym (concrete_kind t u e)))
+  concr_as_good at t (Some u) go e h = h u (sym (concrete_shape t u e))
   concr_as_good at t None go e h = tt
 
   pub concr_good : (at : ℕ) (m : Meant) → Good m → Gives Good (v.concr at m)
@@ -114,6 +113,79 @@ module _ (here : Stand) where
   concr_good at (Labels ns) g = tt
   concr_good at (Bodies bs) g = tt
   concr_good at (Level us bs) g = tt
+
+  -- ---- items of rows and fields of structures
+
+  abbrev Items : Type 0
+  Items = ℕ × ElanType
+
+  item_as_good : (at : ℕ) (t : ElanType) (o : Option Items) (go : Items → Meant) → items t ≡ o
+      → ((n : ℕ) (u : ElanType) → items t ≡ Some (n, u) → Good (go (n, u))) → Gives Good (v.item_as at o go)
+  item_as_good at t (Some r) go e h = h r.0 r.1 e
+  item_as_good at t None go e h = tt
+
+  item_lies : (t u : ElanType) (n : ℕ) (x : PlacePhrase) (i : ValuePhrase) → items t ≡ Some (n, u) → Has (Cell Int) i → Lies (shape_in t) x
+      → Lies (shape_in u) (place.Item x i (v.items_of (n, u)))
+  item_lies t u n x i e h g =
+      let ks = item_kinds n (cells u) (places here x) in (
+        ap (starts (cell_kinds (shape_in u)))
+            (item_is here x i (v.items_of (n, u)) ∙ ap (λ (b : Bool). if_true b ks) (has_self (Cell Int) (shape here i) h))
+            ∙ item_of_type_starts t u n (places here x) e g.0 g.1,
+        item_of_type_sized t u n e g.1,
+      )
+
+  pick_typed : (t u : ElanType) (n : ℕ) (a i : ValuePhrase) → items t ≡ Some (n, u) → Has (Cell Int) i → Has (shape_in t) a
+      → Has (shape_in u) (value.Pick a i (v.items_of (n, u)) (shape_in u))
+  pick_typed t u n a i e h g =
+      pick_is here a i (v.items_of (n, u)) (shape_in u)
+      ∙ only_if_holds _ _ (shape_in u)
+      (and_true _ _ (has_self (Row n (shape_in u)) _ (g ∙ ap (λ (s : Shape). Some s) (items_shape t u n e)))
+      (and_true _ _ (has_self (Cell Int) _ h) (eq-eqb _ _ (cells_kinds u))))
+      refl
+
+  item_good : (at : ℕ) (m : Meant) (i : ValuePhrase) → Good m → Has (Cell Int) i → Gives Good (v.item at m i)
+  item_good at Absent i g h = tt
+  item_good at (Variable q t x) i g h =
+      item_as_good at t (items t) (λ r. Variable at r.1 (place.Item x i (v.items_of r))) refl (λ n u e. item_lies t u n x i e h g)
+  item_good at (Value q t a) i g h =
+      item_as_good at t (items t) (λ r. Value at r.1 (value.Pick a i (v.items_of r) (shape_in r.1))) refl (λ n u e. pick_typed t u n a i e h g)
+  item_good at (Done as') i g h = tt
+  item_good at (Left as') i g h = tt
+  item_good at (Labels ns) i g h = tt
+  item_good at (Bodies bs) i g h = tt
+  item_good at (Level us bs) i g h = tt
+
+  pub indexed_good : (at : ℕ) (m i : Meant) → Good m → Good i → Gives Good (v.indexed at m i)
+  indexed_good at m i g h =
+      on_if Good (delivers (type_in Int) i) _ _ (λ e. item_good at m (p.value_of i) g (ty.kind_value here Int i h e)) (λ e. tt)
+
+  field_as_good : (at : ℕ) (t : ElanType) (x : List ℕ) (o : Option (ℕ × ElanType)) (go : ℕ × ElanType → Meant) → field t x ≡ o
+      → ((k : ℕ) (u : ElanType) → field t x ≡ Some (k, u) → Good (go (k, u))) → Gives Good (v.field_as at o go)
+  field_as_good at t x (Some r) go e h = h r.0 r.1 e
+  field_as_good at t x None go e h = tt
+
+  field_lies : (t : ElanType) (x : List ℕ) (k : ℕ) (u : ElanType) (y : PlacePhrase) → field t x ≡ Some (k, u) → Lies (shape_in t) y
+      → Lies (shape_in u) (place.Field y k)
+  field_lies t x k u y e g =
+      (ap (starts (cell_kinds (shape_in u))) (field_is here y k) ∙ field_of_type_starts t x k u (places here y) e g.0 g.1, field_of_type_sized t x k u e g.1)
+
+  take_typed : (t : ElanType) (x : List ℕ) (k : ℕ) (u : ElanType) (a : ValuePhrase) → field t x ≡ Some (k, u) → Has (shape_in t) a
+      → Has (shape_in u) (value.Take a (v.part_of t (k, u)) (shape_in u))
+  take_typed t x k u a e g =
+      take_is here a (v.part_of t (k, u)) (shape_in u)
+      ∙ only_if_holds _ _ (shape_in u) (ap (has_part (v.part_of t (k, u)) (cell_kinds (shape_in u))) g ∙ field_has_part t x k u e) refl
+
+  pub field_part_good : (at : ℕ) (x : List ℕ) (m : Meant) → Good m → Gives Good (v.field_part at x m)
+  field_part_good at x Absent g = tt
+  field_part_good at x (Variable q t y) g =
+      field_as_good at t x (field t x) (λ f. Variable at f.1 (place.Field y f.0)) refl (λ k u e. field_lies t x k u y e g)
+  field_part_good at x (Value q t a) g =
+      field_as_good at t x (field t x) (λ f. Value at f.1 (value.Take a (v.part_of t f) (shape_in f.1))) refl (λ k u e. take_typed t x k u a e g)
+  field_part_good at x (Done as') g = tt
+  field_part_good at x (Left as') g = tt
+  field_part_good at x (Labels ns) g = tt
+  field_part_good at x (Bodies bs) g = tt
+  field_part_good at x (Level us bs) g = tt
 
   -- ---- stores
 
@@ -137,11 +209,11 @@ module _ (here : Stand) where
   stored_good at l m g h =
       on_bind (Agreed at l m) IsTyped (r.agreed at l m) _ (agreed_good at l m g h) (λ t a.
       on_bind (Lies (shape_in t)) IsTyped (p.variable at l) _ a.0
-      (λ x k. store_is here x (shape_in t) (p.value_of m) ∙ and_true _ _ k (has_self (shape_in t) _ a.1)))
+      (λ x k. store_is here x (shape_in t) (p.value_of m) ∙ and_true _ _ k.0 (has_self (shape_in t) _ a.1)))
 
   pub assigned_good : (at : ℕ) (l m : Meant) → Good l → Good m → Gives Good (r.assigned at l m)
   assigned_good at l m g h =
-      on_if Good (option_map_or is_own (p.type_in l) false) _ _ (λ e. tt) (λ e.
+      on_if Good (option_map_or has_own (p.type_in l) false) _ _ (λ e. tt) (λ e.
       on_bind IsTyped Good (r.stored at l m) _ (stored_good at l m g h) (λ a k. ty.unit_typed here (a ∷ []) (ty.single_typed here a k)))
 
   pub initial_good : (at : ℕ) (l m : Meant) → Good l → Good m → Gives Good (r.initial at l m)
@@ -178,7 +250,7 @@ module _ (here : Stand) where
 
   pub alone_good : (m : Meant) → Good m → Good (r.alone m)
   alone_good Absent g = ty.unit_typed here [] refl
-  alone_good (Variable at t x) g = value_unit_is here (value.Load x (shape_in t)) ∙ ty.load_typed here (shape_in t) x g
+  alone_good (Variable at t x) g = value_unit_is here (value.Load x (shape_in t)) ∙ ty.load_typed here (shape_in t) x g.0
   alone_good (Value at t v) g = value_unit_is here v ∙ g
   alone_good (Done as') g = ty.unit_typed here as' g
   alone_good (Left as') g = ty.unit_typed here as' g
@@ -201,13 +273,8 @@ module _ (here : Stand) where
 
   -- ---- bodies
 
-  blank_typed : (k : Kind) → Has (Cell k) (p.blank k)
-  blank_typed Int = number_is here (pos 0)
-  blank_typed Truths = truth_is here false
-  blank_typed Text = text_is here []
-
   pub unreached_typed : (t : ElanType) (as' : List Action) → AllTyped as' → Has (shape_in t) (p.unreached as' t)
-  unreached_typed t as' h = after_is here as' (p.blank (kind_in t)) ∙ only_if_holds _ _ (shape_in t) h (blank_typed (kind_in t))
+  unreached_typed t as' h = after_is here as' (value.Never (shape_in t)) ∙ only_if_holds _ _ (shape_in t) h (never_is here (shape_in t))
 
   value_as_typed : (t : ElanType) (m : Meant) → Good m → Has (shape_in t) (if delivers t m then p.value_of m else p.unreached (p.actions m) t)
   value_as_typed t m g = by_test (delivers t m) refl

@@ -3,7 +3,7 @@ use Rattle.std.specs.Prelude.{ℕ, Bool, false, List, [], ◌∷◌, drop, flat_
 use Rattle.elan_types.specs.declared.elan_type.ElanType.TheVariants.{Bool as Truths}
 use Rattle.elan_types.specs.declared.core_phrase.ValuePhrase.TheVariants as value
 use Rattle.elan_types.specs.declared.why.Why.TheVariants.{Unknown}
-pub use Rattle.value_rules.specs.Values.{number, text, denoter, bracketed, concr, cand, cor}
+pub use Rattle.value_rules.specs.Values.{number, text, denoter, bracketed, concr, indexed, field_part, cand, cor}
 use Rattle.elan_meant.specs.declared.meant.Meant.{Meant}
 use Rattle.elan_meant.specs.declared.meant.Meant.TheVariants.{Absent, Done, Value, Labels, Bodies, Level}
 use Rattle.elan_scope.specs.Scope.{Callable, find, find_own, find_own_type, is_known, left, first_heading, is_alike, types_of}
@@ -44,6 +44,8 @@ rule at (form.text x) ms = text at x
 rule at (form.applied s sort x) ms = applied at s sort x ms
 rule at form.bracket ms = gives (bracketed at (nth ms 0))
 rule at form.concr ms = concr at (nth ms 0)
+rule at form.index ms = indexed at (nth ms 0) (nth ms 1)
+rule at (form.field x) ms = field_part at x (nth ms 0)
 rule at form.cand ms = cand at (nth ms 0) (nth ms 1)
 rule at form.cor ms = cor at (nth ms 0) (nth ms 1)
 rule at form.choice ms = choice at ms

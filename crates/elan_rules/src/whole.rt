@@ -17,6 +17,7 @@ use std::alloc::Global;
 use unit_rules::body::refinement;
 use unit_rules::repetition::{Bounds, Turns, counted, repeated};
 use unit_rules::store::initial;
+use value_rules::part::indexed;
 use value_rules::value::{cand, cor};
 
 /// CAND of two expressions.
@@ -36,6 +37,16 @@ pub fn cor_phrase(alloc: Global, at: u32, left: Judged, right: Judged) -> Judged
     match two(left, right) {
         Err(trouble) => Err(trouble),
         Ok((left, right)) => cor(alloc, at, left, right),
+    }
+}
+
+/// The item of a row at an index.
+pub fn index_phrase(alloc: Global, at: u32, row: Judged, index: Judged) -> Judged
+    ensures { (k : Known) → (p : Phrase) → (q : Phrase) → Is row (judged k p) → Is index (judged k q) → Is result (judged k (pair at form.index p q)) }
+{
+    match two(row, index) {
+        Err(trouble) => Err(trouble),
+        Ok((row, index)) => indexed(alloc, at, row, index),
     }
 }
 

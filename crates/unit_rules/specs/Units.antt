@@ -2,7 +2,7 @@
 use Rattle.std.specs.Prelude.{ℕ, Bool, true, false, ◌||◌, List, [], ◌∷◌, flat_map, Option, Some, None, if◌then◌else◌}
 use Rattle.std.specs.Option.{option_map_or}
 use Rattle.elan_types.specs.declared.elan_type.ElanType.{ElanType}
-use Rattle.elan_types.specs.Types.{shape_in, is_own, is_open}
+use Rattle.elan_types.specs.Types.{shape_in, has_own, is_open}
 use Rattle.elan_types.specs.declared.core_phrase.ValuePhrase.TheVariants as value
 use Rattle.elan_types.specs.declared.core_phrase.Action.{Action}
 use Rattle.elan_types.specs.declared.core_phrase.Action.TheVariants as action
@@ -31,9 +31,9 @@ agreed at l r = agreed_as at (type_in l) r
 abbrev pub stored : ℕ → Meant → Meant → Verdict Action
 stored at l r = agreed at l r >>= (λ t. variable at l >>= (λ x. gives (action.Store x (shape_in t) (value_of r))))
 
--- For types of a text's own no assignment is predefined.
+-- For types in which one of a text's own occurs no assignment is predefined.
 abbrev pub assigned : ℕ → Meant → Meant → Verdict Meant
-assigned at l r = if option_map_or is_own (type_in l) false then breaks (at, WrongType) else stored at l r >>= (λ a. gives (unit_of (a ∷ [])))
+assigned at l r = if option_map_or has_own (type_in l) false then breaks (at, WrongType) else stored at l r >>= (λ a. gives (unit_of (a ∷ [])))
 
 -- a name in its declaration, and its initial value
 abbrev pub initial : ℕ → Meant → Meant → Verdict Meant
@@ -85,7 +85,7 @@ must_deliver at t m = if agrees_with t m then gives m else breaks (at, WrongType
 
 -- ---- bodies
 
--- the units of a body that delivers this type, or nothing; behind a LEAVE stands any value
+-- the units of a body that delivers this type, or nothing; behind a LEAVE no value is reached
 abbrev pub content_as : Option ElanType → Meant → Content
 content_as None m = content.Units (actions m)
 content_as (Some t) m = content.Value (shape_in t) (if delivers t m then value_of m else unreached (actions m) t)

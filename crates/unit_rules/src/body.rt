@@ -1,6 +1,6 @@
 //! What PROCs, OPs, refinements and levels do.
 
-ghost use Rattle.std.specs.Prelude.{◌≡◌, ◌++◌, IfOk, OnOk, if◌then◌else◌};
+ghost use Rattle.std.specs.Prelude.{◌≡◌, ◌++◌, IfOk, OnOk, Some, if◌then◌else◌};
 ghost use Rattle.elan_meant.specs.Operands.{delivers};
 ghost use Rattle.elan_meant.specs.Parts as parts_of;
 ghost use Rattle.unit_rules.specs.Units as spec;
@@ -15,7 +15,7 @@ use elan_types::{Action, Body, Content, ElanType, Scope, ValuePhrase};
 use eu_base::{Boxed, List, NoMemory};
 use std::alloc::Global;
 
-// The value of a body that delivers this type; behind a LEAVE stands any value.
+// The value of a body that delivers this type; behind a LEAVE none is reached.
 fn value_as(alloc: Global, of: &ElanType, units: Meant) -> Result<Boxed<ValuePhrase>, NoMemory>
     ensures { IfOk result (λ v. v ≡ (if delivers of.now units then parts_of.value_of units else parts_of.unreached (parts_of.actions units) of.now)) }
 {
@@ -26,6 +26,22 @@ fn value_as(alloc: Global, of: &ElanType, units: Meant) -> Result<Boxed<ValuePhr
     }
 }
 
+// The units of a body that delivers this type.
+fn content_for(alloc: Global, of: &ElanType, units: Meant) -> Result<Content, NoMemory>
+    ensures { IfOk result (λ c. c ≡ spec.content_as (Some of.now) units) }
+{
+    match of.shape(alloc) {
+        Err(refusal) => {
+            units.let_go();
+            Err(refusal)
+        }
+        Ok(shape) => {
+            let value = value_as(alloc, of, units)?;
+            Ok(Content::Value(shape, value.into_inner()))
+        }
+    }
+}
+
 // The units of a body that delivers this type, or nothing.
 fn content_as(alloc: Global, delivered: Option<ElanType>, units: Meant) -> Result<Content, NoMemory>
     ensures { IfOk result (λ c. c ≡ spec.content_as delivered units) }
@@ -33,8 +49,9 @@ fn content_as(alloc: Global, delivered: Option<ElanType>, units: Meant) -> Resul
     match delivered {
         None => Ok(Content::Units(actions(alloc, units))),
         Some(of) => {
-            let value = value_as(alloc, &of, units)?;
-            Ok(Content::Value(of.shape(), value.into_inner()))
+            let content = content_for(alloc, &of, units);
+            of.let_go();
+            content
         }
     }
 }
@@ -63,16 +80,22 @@ pub fn body(alloc: Global, owner: Scope, delivered: Option<ElanType>, units: Mea
     }
 }
 
-fn content_of(alloc: Global, units: Meant) -> Content
-    ensures { result ≡ spec.content_of units }
+fn content_of(alloc: Global, units: Meant) -> Result<Content, NoMemory>
+    ensures { IfOk result (λ c. c ≡ spec.content_of units) }
 {
     match units {
         Meant::Value { at: _at, of, value } => {
-            let shape = of.shape();
+            let shape = of.shape(alloc);
             of.let_go();
-            Content::Value(shape, value.into_inner())
+            match shape {
+                Err(refusal) => {
+                    value.into_inner().let_go();
+                    Err(refusal)
+                }
+                Ok(shape) => Ok(Content::Value(shape, value.into_inner())),
+            }
         }
-        other => Content::Units(actions(alloc, other)),
+        other => Ok(Content::Units(actions(alloc, other))),
     }
 }
 
@@ -80,8 +103,13 @@ fn content_of(alloc: Global, units: Meant) -> Content
 pub fn refinement(alloc: Global, owner: Scope, units: Meant) -> Judged
     ensures { Tells result (gives (spec.body_with owner (spec.content_of units))) }
 {
-    let content = content_of(alloc, units);
-    body_with(alloc, owner, content)
+    match content_of(alloc, units) {
+        Err(_refusal) => {
+            owner.let_go();
+            Err(Trouble::NoMemory)
+        }
+        Ok(content) => body_with(alloc, owner, content),
+    }
 }
 
 fn bodies_in(alloc: Global, part: Meant) -> List<Body>

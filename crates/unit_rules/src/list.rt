@@ -13,7 +13,7 @@ ghost use Rattle.elan_scope.specs.Answer.{Is};
 use elan_meant::meant::Meant;
 use elan_meant::operands::delivers;
 use elan_meant::part;
-use elan_meant::part::{delivering, one, unit_of};
+use elan_meant::part::{delivering, loaded, one, unit_of};
 use elan_meant::row::{Judged, Row, append};
 use elan_scope::trouble::Trouble;
 use elan_types::{Action, ElanType, ValuePhrase, Why};
@@ -118,7 +118,8 @@ pub fn alone(alloc: Global, meant: Meant) -> Judged
 {
     match meant {
         Meant::Variable { at, of, place } => {
-            let value = Boxed::new(alloc, ValuePhrase::Load(place, of.shape()))?;
+            let value = loaded(alloc, &of, place)?;
+            let value = Boxed::new(alloc, value)?;
             delivering(alloc, at, of, ValuePhrase::Unit(value))
         }
         Meant::Value { at, of, value } => delivering(alloc, at, of, ValuePhrase::Unit(value)),

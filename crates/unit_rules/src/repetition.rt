@@ -8,7 +8,7 @@ ghost use Rattle.elan_meant.specs.Verdict.{gives, ◌>>=◌ as and_then, Tells};
 
 use elan_meant::meant::Meant;
 use elan_meant::operands::delivers_kind;
-use elan_meant::part::{actions, may_deliver, unit_doing, variable, written};
+use elan_meant::part::{actions, both_written, four_written, may_deliver, unit_doing, variable};
 use elan_meant::row::Judged;
 use elan_scope::trouble::Trouble;
 use elan_types::{Action, PlacePhrase, ValuePhrase, Way, Why};
@@ -67,14 +67,23 @@ fn uncounted(alloc: Global, turns: Turns) -> Judged
         units,
         until,
     } = turns;
-    unit_doing(
-        alloc,
-        Action::Loop {
-            condition: written(condition),
-            units: actions(alloc, units),
-            until: written(until),
-        },
-    )
+    match both_written(alloc, condition, until) {
+        Err(_refusal) => {
+            units.let_go();
+            Err(Trouble::NoMemory)
+        }
+        Ok((condition, until)) => {
+            let units = actions(alloc, units);
+            unit_doing(
+                alloc,
+                Action::Loop {
+                    condition,
+                    units,
+                    until,
+                },
+            )
+        }
+    }
 }
 
 /// A loop without counter.
@@ -121,18 +130,28 @@ fn count(
         units,
         until,
     } = turns;
-    unit_doing(
-        alloc,
-        Action::Count {
-            counter,
-            from: first_value(written(from)),
-            way,
-            limit: written(limit),
-            condition: written(condition),
-            units: actions(alloc, units),
-            until: written(until),
-        },
-    )
+    match four_written(alloc, (from, limit), (condition, until)) {
+        Err(_refusal) => {
+            counter.let_go();
+            units.let_go();
+            Err(Trouble::NoMemory)
+        }
+        Ok(((from, limit), (condition, until))) => {
+            let units = actions(alloc, units);
+            unit_doing(
+                alloc,
+                Action::Count {
+                    counter,
+                    from: first_value(from),
+                    way,
+                    limit,
+                    condition,
+                    units,
+                    until,
+                },
+            )
+        }
+    }
 }
 
 // A variable is needed as a counter.

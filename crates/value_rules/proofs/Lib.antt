@@ -1,4 +1,3 @@
 mod Given
 mod Lists
 mod Numbers
-pub mod Pairs

@@ -30,6 +30,7 @@ use Rattle.elan_scope.specs.Callees.{Predefined, Body}
 use Rattle.elan_scope.specs.declared.predefined.Predefined.TheVariants.{Operation, Change, Request, ErrorStop}
 use Rattle.elan_scope.specs.Scope.{Callable, is_known, refinement_named, held, has_open, is_open_result, is_open_heading}
 use Rattle.elan_scope.specs.declared.type_name.TypeName.{TypeName}
+use Rattle.elan_scope.specs.Types.{is_open_named}
 use Rattle.elan_scope.specs.declared.scope.Scope.{Scope}
 use Rattle.elan_scope.specs.Scope.{Found}
 use Rattle.elan_scope.specs.declared.scope.Home.{Home}
@@ -165,7 +166,7 @@ type_declared at (Some t) = if nat_eq t.at at then gives (Done []) else breaks (
 
 abbrev pub is_open_type : ℕ → Option TypeName → Bool
 is_open_type at None = false
-is_open_type at (Some t) = nat_eq t.at at && is_open t.of
+is_open_type at (Some t) = nat_eq t.at at && is_open_named t.of
 
 -- a name in its declaration: a variable or constant can be given its initial value there
 abbrev pub declared_as : ℕ → Home → ℕ → Denotes → Meant

@@ -1,11 +1,14 @@
--- Numbers, texts, brackets, CAND and COR.
+-- Numbers, texts, brackets, items and fields, CAND and COR.
 use Rattle.std.specs.Prelude.{ℕ, ℤ, true, false, ◌&&◌, if◌then◌else◌, nat_le, List, length, Option, Some, None}
 use Rattle.elan_types.specs.declared.elan_type.ElanType.{ElanType}
 use Rattle.elan_types.specs.declared.elan_type.ElanType.TheVariants.{Int, Bool as Truths, Text}
-use Rattle.elan_types.specs.Types.{concrete, shape_in}
+use Rattle.elan_types.specs.Types.{concrete, shape_in, items, field, cells}
+use Rattle.elan_types.specs.declared.core_phrase.PlacePhrase.TheVariants as place
+use Rattle.elan_types.specs.declared.core_phrase.Items.{Items}
+use Rattle.elan_types.specs.declared.core_phrase.Part.{Part}
 use Rattle.elan_types.specs.declared.core_phrase.ValuePhrase.{ValuePhrase}
 use Rattle.elan_types.specs.declared.core_phrase.ValuePhrase.TheVariants as value
-use Rattle.elan_types.specs.declared.why.Why.TheVariants.{WrongType}
+use Rattle.elan_types.specs.declared.why.Why.TheVariants.{WrongType, Unknown}
 use Rattle.eu_base.specs.declared.value.TheConstants.{TEXT_BYTES}
 use Rattle.elan_scope.specs.declared.denoter.Denoter.{Denoter}
 use Rattle.elan_scope.specs.declared.denoter.Denoter.TheVariants as denoters
@@ -45,6 +48,40 @@ abbrev pub concr : ℕ → Meant → Verdict Meant
 concr at (Variable p t x) = concr_as at (concrete t) (λ u. Variable at u x)
 concr at (Value p t v) = concr_as at (concrete t) (λ u. Value at u v)
 concr at m = breaks (at, WrongType)
+
+-- ---- items of rows and fields of structures
+
+abbrev pub items_of : ℕ × ElanType → Items
+items_of r = record { count = r.0; cells = cells r.1 }
+
+-- what is made of the size of a row and the type of its items, where it is one
+abbrev pub item_as : ℕ → Option (ℕ × ElanType) → (ℕ × ElanType → Meant) → Verdict Meant
+item_as at (Some r) go = gives (go r)
+item_as at None go = breaks (at, WrongType)
+
+abbrev pub item : ℕ → Meant → ValuePhrase → Verdict Meant
+item at (Variable p t x) i = item_as at (items t) (λ r. Variable at r.1 (place.Item x i (items_of r)))
+item at (Value p t v) i = item_as at (items t) (λ r. Value at r.1 (value.Pick v i (items_of r) (shape_in r.1)))
+item at m i = breaks (at, WrongType)
+
+-- An index is a number.
+abbrev pub indexed : ℕ → Meant → Meant → Verdict Meant
+indexed at m i = if delivers Int i then item at m (value_of i) else breaks (at, WrongType)
+
+abbrev pub part_of : ElanType → ℕ × ElanType → Part
+part_of t f = record { of = cells t; before = f.0; cells = cells f.1 }
+
+-- what is made of the number of cells before a field, and its type. A field that is not there is unknown
+abbrev pub field_as : ℕ → Option (ℕ × ElanType) → (ℕ × ElanType → Meant) → Verdict Meant
+field_as at (Some f) go = gives (go f)
+field_as at None go = breaks (at, Unknown)
+
+abbrev pub field_part : ℕ → List ℕ → Meant → Verdict Meant
+field_part at x (Variable p t y) = field_as at (field t x) (λ f. Variable at f.1 (place.Field y f.0))
+field_part at x (Value p t v) = field_as at (field t x) (λ f. Value at f.1 (value.Take v (part_of t f) (shape_in f.1)))
+field_part at x m = breaks (at, WrongType)
+
+-- ---- CAND and COR
 
 -- the truth value that is made of two
 abbrev pub of_truths : ℕ → Meant → Meant → ValuePhrase → Verdict Meant

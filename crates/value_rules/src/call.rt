@@ -33,11 +33,14 @@ use std::alloc::Global;
 // ---- what is given
 
 // A VAR parameter needs a variable.
-fn given_as(at: u32, parameter: Formal, operand: Meant) -> Result<Actual, Trouble>
+fn given_as(alloc: Global, at: u32, parameter: Formal, operand: Meant) -> Result<Actual, Trouble>
     ensures { (t : ElanTypes) → parameter.shape ≡ shape_in t → Tells result (spec.given_as at parameter.access t operand) }
 {
     match parameter.access {
-        Access::Const => Ok(Actual::Value(value_in(operand))),
+        Access::Const => {
+            let value = value_in(alloc, operand)?;
+            Ok(Actual::Value(value))
+        }
         Access::Var => {
             let place = variable(at, operand)?;
             Ok(Actual::Place(place, parameter.shape))
@@ -45,8 +48,11 @@ fn given_as(at: u32, parameter: Formal, operand: Meant) -> Result<Actual, Troubl
     }
 }
 
+fn given_let_go(_actuals: Result<List<Actual>, Trouble>) {}
+
 // What parameters were given, and the first of those that are left, if one is.
 fn give(
+    alloc: Global,
     at: u32,
     actuals: Result<List<Actual>, Trouble>,
     rest: Parameters<'_>,
@@ -54,12 +60,17 @@ fn give(
 ) -> Result<List<Actual>, Trouble>
     ensures { (given : Verdict (List Actuals)) → Tells actuals given → Tells result (walk.given_next at (seen.parameters rest.entry) operand given) }
 {
-    match rest.first() {
-        None => {
+    match rest.first(alloc) {
+        Err(_refusal) => {
+            operand.let_go();
+            given_let_go(actuals);
+            Err(Trouble::NoMemory)
+        }
+        Ok(None) => {
             operand.let_go();
             actuals
         }
-        Some(parameter) => and(actuals, given_as(at, parameter, operand)),
+        Ok(Some(parameter)) => and(actuals, given_as(alloc, at, parameter, operand)),
     }
 }
 
@@ -75,7 +86,7 @@ fn given(
     let mut actuals = Ok(List::new(alloc));
     let mut rest = parameters;
     for operand in operands.into_vec() {
-        actuals = give(at, actuals, rest, operand);
+        actuals = give(alloc, at, actuals, rest, operand);
         rest = rest.behind_first();
     }
     actuals
@@ -184,20 +195,26 @@ fn predefined(alloc: Global, at: u32, callee: Predefined, actuals: List<Actual>)
     }
 }
 
+// A call of a body that delivers this type.
+fn called_for(alloc: Global, at: u32, number: usize, of: &ElanType, actuals: List<Actual>) -> Judged
+    ensures { Tells result (spec.performed at (callees.Body number) (Some of.now) actuals) }
+{
+    match of.shape(alloc) {
+        Err(_refusal) => {
+            given_let_go(Ok(actuals));
+            Err(Trouble::NoMemory)
+        }
+        Ok(shape) => delivering_as(alloc, at, of, ValuePhrase::Call(number, actuals, shape)),
+    }
+}
+
 fn performed(alloc: Global, at: u32, called: Called<'_>, actuals: List<Actual>) -> Judged
     ensures { Tells result (spec.performed at (seen.callee called.entry) (seen.result called.entry) actuals) }
 {
     match called {
         Called::Predefined(callee) => predefined(alloc, at, callee, actuals),
         Called::Body(number, _, None) => done(alloc, Action::Call(number, actuals)),
-        Called::Body(number, _, Some(of)) => {
-            delivering_as(
-                alloc,
-                at,
-                of,
-                ValuePhrase::Call(number, actuals, of.shape()),
-            )
-        }
+        Called::Body(number, _, Some(of)) => called_for(alloc, at, number, of, actuals),
     }
 }
 

@@ -1,6 +1,6 @@
 //! LEAVE.
 
-ghost use Rattle.std.specs.Prelude.{◌≡◌, ◌∷◌, []};
+ghost use Rattle.std.specs.Prelude.{◌≡◌, ◌∷◌, [], IfOk};
 ghost use Rattle.std.specs.Option.{option_map_or};
 ghost use Rattle.elan_scope.specs.declared.delivery.Delivery.TheVariants as deliver;
 ghost use Rattle.elan_types.specs.declared.core_phrase.Action.TheVariants as leaves;
@@ -20,6 +20,7 @@ use elan_scope::known::Known;
 use elan_scope::scope::Scope;
 use elan_scope::trouble::Trouble;
 use elan_types::{Action, Exit, Why};
+use eu_base::NoMemory;
 use std::alloc::Global;
 
 // Nothing is asked of the value where it is not known what is left.
@@ -36,17 +37,23 @@ fn agrees(delivery: Option<&Delivery>, value: &Meant) -> bool
     }
 }
 
-fn leave_of(exit: Exit, value: Meant) -> Action
-    ensures { result ≡ walk.leave_of exit value }
+fn leave_of(alloc: Global, exit: Exit, value: Meant) -> Result<Action, NoMemory>
+    ensures { IfOk result (λ action. action ≡ walk.leave_of exit value) }
 {
     match type_in(&value) {
-        Some(of) => {
-            let shape = of.shape();
-            Action::LeaveWith(exit, shape, value_in(value))
-        }
+        Some(of) => match of.shape(alloc) {
+            Err(refusal) => {
+                value.let_go();
+                Err(refusal)
+            }
+            Ok(shape) => {
+                let value = value_in(alloc, value)?;
+                Ok(Action::LeaveWith(exit, shape, value))
+            }
+        },
         None => {
             value.let_go();
-            Action::Leave(exit)
+            Ok(Action::Leave(exit))
         }
     }
 }
@@ -63,7 +70,8 @@ fn leave_as(alloc: Global, at: u32, exit: Exit, delivery: Option<&Delivery>, val
     ensures { Tells result (walk.leave_as at exit (option_map_or (λ d. d.now) delivery.entry deliver.Open) value) }
 {
     if agrees(delivery, &value) {
-        leave_unit(alloc, leave_of(exit, value))
+        let action = leave_of(alloc, exit, value)?;
+        leave_unit(alloc, action)
     } else {
         value.let_go();
         Err(Trouble::Breaks(at, Why::WrongType))

@@ -1,7 +1,8 @@
-//! The rules of values, names and calls, and of LEAVE.
+//! The rules of values, names and calls, of items and fields, and of LEAVE.
 #![tactic(auto)]
 
 pub mod call;
 pub mod leave;
 pub mod name;
+pub mod part;
 pub mod value;

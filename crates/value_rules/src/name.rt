@@ -66,7 +66,8 @@ fn variable(alloc: Global, at: u32, of: &ElanType, held: Held) -> Judged
 fn constant(alloc: Global, at: u32, of: &ElanType, held: Held) -> Judged
     ensures { Tells result (gives (spec.constant at of.now (spec.place_in held.home held.number held.access))) }
 {
-    delivering_as(alloc, at, of, ValuePhrase::Load(held.place(), of.shape()))
+    let shape = of.shape(alloc)?;
+    delivering_as(alloc, at, of, ValuePhrase::Load(held.place(), shape))
 }
 
 // A CONST parameter is a constant, a VAR parameter a variable.
@@ -94,7 +95,8 @@ fn referred(alloc: Global, at: u32, number: usize, delivery: Option<&Delivery>) 
         None | Some(Delivery::Open) => Err(Trouble::Hangs),
         Some(Delivery::Nothing) => done(alloc, Action::Refer(number)),
         Some(Delivery::Of(of)) => {
-            delivering_as(alloc, at, of, ValuePhrase::Refer(number, of.shape()))
+            let shape = of.shape(alloc)?;
+            delivering_as(alloc, at, of, ValuePhrase::Refer(number, shape))
         }
     }
 }
@@ -248,7 +250,7 @@ pub fn type_declared(alloc: Global, at: u32, scope: &Scope, name: &[u8]) -> Judg
         Some(named) => {
             if named.at != at {
                 Err(Trouble::Breaks(at, Why::Doubled))
-            } else if named.of.is_open() {
+            } else if named.is_open() {
                 Err(Trouble::Hangs)
             } else {
                 Ok(Meant::Done(List::new(alloc)))

@@ -11,7 +11,7 @@ ghost use Rattle.elan_meant.specs.Verdict.{gives, Tells};
 
 use elan_meant::meant::Meant;
 use elan_meant::operands::delivers_kind;
-use elan_meant::part::{delivering, value_of};
+use elan_meant::part::{delivering, loaded, value_of};
 use elan_meant::row::{Judged, both};
 use elan_scope::denoter::Denoter;
 use elan_scope::trouble::Trouble;
@@ -62,8 +62,8 @@ pub fn bracketed(alloc: Global, at: u32, meant: Meant) -> Judged
 {
     match meant {
         Meant::Variable { at: _at, of, place } => {
-            let shape = of.shape();
-            delivering(alloc, at, of, ValuePhrase::Load(place, shape))
+            let value = loaded(alloc, &of, place)?;
+            delivering(alloc, at, of, value)
         }
         Meant::Value { at: _at, of, value } => Ok(Meant::Value { at, of, value }),
         other => Ok(other),

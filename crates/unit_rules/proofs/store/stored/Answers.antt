@@ -1,3 +1,7 @@
+use Rattle.std.proofs.Common.{sym, subst}
+use Rattle.elan_types.specs.declared.core_phrase.Action.{Action}
+use Rattle.elan_scope.specs.Ruled.{Ruled}
+use Rattle.elan_scope.specs.Answer.{Is}
 use Rattle.unit_rules.proofs.Stores.{stored_fails, stored_is}
 use Rattle.unit_rules.proofs.store.stored.Goals as goal
 
@@ -6,5 +10,6 @@ returns-in-Err c = stored_fails c.args.at c.args.left c.args.right c.in-Err.trou
 
 pub returns-in-Ok-variable : goal.returns-in-Ok-variable
 returns-in-Ok-variable c =
-    rw c.value_in.ensures
-    (stored_is c.args.at c.args.left c.args.right c.in-Ok.shape c.in-Ok-variable.place c.in-Ok.ensures c.in-Ok-variable.ensures)
+    subst (λ (r : Ruled Action). Is c.store.result r)
+    (sym (stored_is c.args.at c.args.left c.args.right c.in-Ok.shape c.in-Ok-variable.place c.in-Ok.ensures c.in-Ok-variable.ensures))
+    c.store.ensures

@@ -6,7 +6,7 @@ use Rattle.elan_meant.specs.Verdict.{gives, Tells}
 use Rattle.elan_meant.specs.declared.meant.Meant.TheVariants.{Value}
 use Rattle.elan_meant.specs.Parts.{value_of}
 use Rattle.value_rules.specs.walks.Steps.{choice}
-use Rattle.value_rules.proofs.Pairs.{pair_is}
+use Rattle.elan_meant.proofs.Halves.{pair_is}
 use Rattle.value_rules.proofs.value.decided.Goals as goal
 
 pub returns : goal.returns

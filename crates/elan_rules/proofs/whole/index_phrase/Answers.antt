@@ -1,0 +1,11 @@
+use Rattle.elan_scope.specs.Phrase as form
+use Rattle.elan_rules.specs.Meaning.{judged}
+use Rattle.elan_rules.proofs.Together.{pair_fails, pair_is}
+use Rattle.elan_rules.proofs.whole.index_phrase.Goals as goal
+
+pub returns-in-Err : goal.returns-in-Err
+returns-in-Err c = λ k p q g h. pair_fails k c.args.at form.index p q c.in-Err.trouble (c.in-Err.ensures (judged k p) (judged k q) g h)
+
+pub returns-in-Ok : goal.returns-in-Ok
+returns-in-Ok c = λ k p q g h.
+    pair_is k c.args.at form.index p q c.indexed.result c.in-Ok.row c.in-Ok.index (c.in-Ok.ensures (judged k p) (judged k q) g h) c.indexed.ensures
