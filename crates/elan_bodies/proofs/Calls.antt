@@ -289,8 +289,10 @@ module _ (s : Scope) where
       let inside = nodes.all (map nodes.in_case (map fst cases)) in
       let other = nodes.all (map nodes.in_unit (map fst us)) in
       selected at of rest inside other (behind_calls ps p inside other (arms_call [] cases) (units_call Open us))
-  expr_calls (t.Index at of index) = refl
-  expr_calls (t.Field at of field) = refl
+  expr_calls (t.Index at a b) = two_found at form.index (shape.expr s a.0) (shape.expr s b.0) (nodes.in_expr a.0) (nodes.in_expr b.0) refl a.1 b.1
+  expr_calls (t.Field at a x) =
+      one_calls at (form.field x.text) (shape.expr s a.0) refl ∙ sym (nil (called_in (shape.expr s a.0)))
+      ∙ split (called_in (shape.expr s a.0)) [] (nodes.in_expr a.0) (nodes.other x ∷ []) a.1 refl
   expr_calls (t.Monadic at o a) = one_calls _ _ (shape.expr s a.0) refl ∙ a.1
   expr_calls (t.Dyadic at o a b) = two_found _ _ (shape.expr s a.0) (shape.expr s b.0) (nodes.in_expr a.0) (sign o ∷ nodes.in_expr b.0) refl a.1 b.1
   expr_calls (t.Cand at a b) = two_found at form.cand (shape.expr s a.0) (shape.expr s b.0) (nodes.in_expr a.0) (nodes.in_expr b.0) refl a.1 b.1

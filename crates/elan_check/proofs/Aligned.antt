@@ -3,6 +3,7 @@ use Rattle.std.proofs.Common.{◌≡◌, ℕ, suc, ◌+◌, Bool, true, false, i
 use Rattle.elan_scope.specs.Scope.{types_of, variables_of}
 use Rattle.std.proofs.Common.{◌∙◌, arith, append_assoc}
 use Rattle.std.specs.Prelude.{slice_get, nat_eq, flat_map}
+use Rattle.std.proofs.lemmas.List.{map-append}
 use Rattle.elan_types.specs.declared.elan_type.ElanType.{ElanType}
 use Rattle.elan_types.specs.declared.elan_type.Parameter.{Parameter}
 use Rattle.elan_types.specs.declared.core_phrase.Scope.{Scope as Owner}
@@ -12,8 +13,8 @@ use Rattle.elan_types.specs.declared.why.Why.TheVariants.{Doubled}
 use Rattle.eu_base.specs.declared.value.Kind.{Kind}
 use Rattle.elan_types.specs.declared.core_phrase.Formal as core
 use Rattle.elan_types.specs.Typing.{Held, OfKind, cells_of, frame_of, scope_of}
-use Rattle.elan_types.proofs.Shapes.{cell_is}
-use Rattle.elan_types.specs.Types.{held_const, kind_in, formal_of}
+use Rattle.eu_base.specs.Shapes.{cell_kinds}
+use Rattle.elan_types.specs.Types.{held_const, shape_in, formal_of}
 use Rattle.elan_tree.specs.declared.written_type.Name.{Name}
 use Rattle.elan_tree.specs.declared.written_type.TypePhrase.{TypePhrase}
 use Rattle.elan_tree.specs.declared.written_type.Formal.{Formal}
@@ -59,7 +60,8 @@ use Rattle.elan_bodies.proofs.Inferred.{unless_gives}
 use Rattle.elan_levels.proofs.Held.{held_append}
 use Rattle.elan_levels.proofs.OwnNames.{own_held}
 use Rattle.elan_rules.proofs.TypedPerformed.{owner_with}
-use Rattle.elan_rules.proofs.TypedCalls.{held_cells}
+use Rattle.elan_rules.proofs.TypedCalls.{held_cells, AllSized}
+use Rattle.elan_check.proofs.HeldTypes.{BodiesSized}
 
 -- ---- lists
 
@@ -90,15 +92,17 @@ cells_append [] qs = refl
 cells_append (p ∷ ps) qs =
     ap (λ (hs : List Held). cells_of (formal_of p) ++ hs) (cells_append ps qs) ∙ sym (append_assoc (cells_of (formal_of p)) (cells ps) (cells qs))
 
-const_cells : (ts : List ElanType) → cells (map held_const ts) ≡ map OfKind (map kind_in ts)
+abbrev kinds : List ElanType → List Kind
+kinds ts = flat_map (λ t. cell_kinds (shape_in t)) ts
+
+const_cells : (ts : List ElanType) → cells (map held_const ts) ≡ map OfKind (kinds ts)
 const_cells [] = refl
 const_cells (t ∷ ts) =
-    ap (λ (ks : List Kind). map OfKind ks ++ cells (map held_const ts)) (cell_is (kind_in t))
-    ∙ ap (λ (hs : List Held). OfKind (kind_in t) ∷ hs) (const_cells ts)
+    ap (λ (hs : List Held). map OfKind (cell_kinds (shape_in t)) ++ hs) (const_cells ts) ∙ sym (map-append OfKind (cell_kinds (shape_in t)) (kinds ts))
 
 frame_held : (ts : List TypeName) (fs : List Formal) (w : Written) → frame_of (frame ts fs w) ≡ held_cells (body_names ts fs w)
 frame_held ts fs w =
-    let here = body_types ts w ++ ts in
+    let here = body_types ts fs w ++ ts in
     let us = types_of (all_held (own_names here w)) in
     ap (λ (hs : List Held). cells (parameters ts fs) ++ hs) (sym (ap cells (own_held here w.units w.refinements) ∙ const_cells us))
     ∙ sym (cells_append (parameters ts fs) (all_held (own_names here w))) ∙ ap cells (sym (held_append (parameter_names ts fs) (own_names here w)))
@@ -113,12 +117,12 @@ Made (Refinement home) m b = (b.scope ≡ owner_with home) × (b.content ≡ u.c
 abbrev pub Inside : ℕ → List Body → List Body → Type 0
 Inside k bs all = (i : ℕ) (b : Body) → slice_get bs i ≡ Some b → slice_get all (k + i) ≡ Some b
 
--- the PROC or OP has what its names hold
+-- the PROC or OP has what its names hold, and each part of that has a cell
 abbrev pub Frames : List Body → Option Within → Type 0
 Frames all None = Unit {0}
 Frames all (Some v) =
     (fs : List core.Formal) × (vs : List Kind) × (scope_of (slice_get all v.number) ≡ Some (owner.Own fs vs))
-    × (frame_of (owner.Own fs vs) ≡ held_cells v.names)
+    × (frame_of (owner.Own fs vs) ≡ held_cells v.names) × AllSized (all_held v.names)
 
 abbrev pub within : ℕ → List Entry → List TypeName → Option Within
 within n names types = Some (record { number = n; names = names; types = types })
@@ -126,6 +130,7 @@ within n names types = Some (record { number = n; names = names; types = types }
 abbrev pub Stands : List Body → ℕ → What → Scope → Body → Type 0
 Stands all n (Routine sort ps r) z b =
     (names : List Entry) × (types : List TypeName) × (z.routine ≡ within n names types) × (z.refinement ≡ None) × (frame_of b.scope ≡ held_cells names)
+    × AllSized (all_held names)
 Stands all n (Refinement home) z b = (z.refinement ≡ Some n) × (number_of z.routine ≡ home) × Frames all z.routine
 
 module _ (kn : Known) (s : Scope) (all : List Body) where
@@ -302,10 +307,10 @@ module _ (kn : Known) (s : Scope) (all : List Body) where
         → m ≡ u.body_with own (u.content_as r v)
     one_body r ms m v e h = sym (gives_is (u.body_with own (u.content_as r v)) m (ap (ruled kn 0 (plain (form.body own r))) (sym e) ∙ h))
 
-    pub routine_rows : (sort : Sort) (names : List Phrase) (m : Meant) → AllQuiet names → judged kn (l.routine s k at x t fs w sort names) ≡ gives m
+    pub routine_rows : BodiesSized s.types → (sort : Sort) (names : List Phrase) (m : Meant) → AllQuiet names → judged kn (l.routine s k at x t fs w sort names) ≡ gives m
         → Inside k (u.bodies_in m) all →
         Rows k (b.routine_heading s.types sort at x fs t ∷ refinement_headings (Some k) w.refinements) (l.routine_units s k at x t fs w) (u.bodies_in m)
-    routine_rows sort names m quiet e inside =
+    routine_rows sized sort names m quiet e inside =
         let q =
         bind_gives (judged_all kn (all_of (l.heading_phrases s k at x t fs w sort names ++ l.body_phrases s k at x t fs w)))
         (ruled kn 0 (plain form.routine)) m e in
@@ -336,13 +341,18 @@ module _ (kn : Known) (s : Scope) (all : List Body) where
             means = d.2;
             list = l.body_units s k at x t fs w;
             is_list = refl;
-            made = (variables_of (own_names (body_types s.types w ++ s.types) w), refl, refl);
+            made = (variables_of (own_names (body_types s.types fs w ++ s.types) w), refl, refl);
             scope = inner;
             in_scope = body_units_in inner (delivered (result s.types t)) w.units;
             headings = refl;
             level = refl;
-            stands = (body_names s.types fs w, body_types s.types w, refl, refl, frame_held s.types fs w);
+            stands = (body_names s.types fs w, body_types s.types fs w, refl, refl, frame_held s.types fs w, sized fs w);
           },
-          refinement_rows inner (suc k) w.refinements a.1 refl refl
-              (map formal_of (parameters s.types fs), variables_of (own_names (body_types s.types w ++ s.types) w), ap scope_of here, frame_held s.types fs w) a.3,
+          refinement_rows inner (suc k) w.refinements a.1 refl refl (
+            map formal_of (parameters s.types fs),
+            variables_of (own_names (body_types s.types fs w ++ s.types) w),
+            ap scope_of here,
+            frame_held s.types fs w,
+            sized fs w,
+          ) a.3,
         )

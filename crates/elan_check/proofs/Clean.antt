@@ -1,11 +1,11 @@
 -- Where no type breaks a rule, no name and no heading has a type without meaning.
-use Rattle.std.proofs.Common.{◌≡◌, ℕ, zero, suc, Bool, true, false, ◌||◌, List, [], ◌∷◌, ◌++◌, Option, Some, None, refl, sym, ap, subst, ◌∙◌}
+use Rattle.std.proofs.Common.{◌≡◌, ℕ, zero, suc, Bool, true, false, ◌||◌, List, [], ◌∷◌, ◌++◌, Option, Some, None, refl, sym, ap, subst}
 use Rattle.std.proofs.lemmas.List.{append-nil}
 use Rattle.std.specs.Prelude.{flat_map, map, slice_get}
 use Rattle.elan_types.specs.declared.elan_type.Parameter.{Parameter}
-use Rattle.elan_types.specs.declared.why.Why.TheVariants.{Unknown}
 use Rattle.elan_types.specs.Types.{is_open}
 use Rattle.elan_tree.specs.declared.written_type.Name.{Name}
+use Rattle.elan_tree.specs.declared.written_type.Constant.TheVariants as constants
 use Rattle.elan_tree.specs.declared.written_type.Formal.{Formal}
 use Rattle.elan_tree.specs.declared.written_type.TypePhrase.{TypePhrase}
 use Rattle.elan_tree.specs.declared.tree.Body.{Body}
@@ -19,17 +19,15 @@ use Rattle.elan_walk.specs.Nodes.{Node, alone, other, sign, of_type, item, let_n
 use Rattle.elan_scope.specs.declared.scope.Denotes.TheVariants as denotes
 use Rattle.elan_scope.specs.declared.scope.Entry.{Entry}
 use Rattle.elan_scope.specs.declared.type_name.TypeName.{TypeName}
-use Rattle.elan_scope.specs.Types.{first_type, denoted_type}
+use Rattle.elan_scope.specs.Ruled.{Fault}
 use Rattle.elan_scope.specs.Scope.{held, all_held, has_open, is_open_result}
 use Rattle.value_rules.specs.Calls.{holds_open}
 use Rattle.type_names.specs.declared.definition.Definition.{Definition}
-use Rattle.type_names.specs.declared.definition.Written.{Written}
-use Rattle.type_names.specs.declared.definition.Written.TheVariants.{Of, Named}
 use Rattle.type_names.specs.Types as names
-use Rattle.type_names.specs.Types.{written, meant, look, type_in, defined, first_from, names_of, body_definitions, refinement_definitions, unit_definitions}
-use Rattle.type_names.specs.Types.{level_definitions, level_types, body_types}
-use Rattle.type_names.specs.Faults.{Here, here, calls, node_faults, nodes_faults, named_faults, written_faults, unit_faults, routine_faults, level_faults}
-use Rattle.type_names.proofs.Sound.{Mean, Sound, no_fault, unknown_if, not_unknown, names_mean, seen_mean}
+use Rattle.type_names.specs.Types.{type_in, defined_by, first_from, names_of, body_definitions, parameter_definitions, refinement_definitions, in_refinements}
+use Rattle.type_names.specs.Types.{unit_definitions, level_definitions, level_types, body_types}
+use Rattle.type_names.specs.Faults.{Here, here, calls, node_faults, nodes_faults, named_faults, or_named, written_faults, unit_faults, routine_faults, level_faults}
+use Rattle.type_names.proofs.Sound.{Mean, Sound, written_means, names_mean, seen_mean}
 use Rattle.elan_levels.specs.Declarations as d
 use Rattle.elan_levels.specs.Bodies as b
 
@@ -63,16 +61,8 @@ module _ (h : Here) where
 
   -- ---- types
 
-  written_means : Mean h.seen → (v : Written) → written_faults h v ≡ [] → is_open (meant (look h.seen) v) ≡ false
-  written_means m (Of t) e = no_fault (is_open t) (0, Unknown) e
-  written_means m (Named at x) e = by_found (first_type x h.seen) refl
-    where
-      by_found : (o : Option TypeName) → first_type x h.seen ≡ o → is_open (look h.seen x) ≡ false
-      by_found (Some t) i = ap (λ (q : Option TypeName). is_open (denoted_type q)) i ∙ m x t i
-      by_found None i = absurd (not_unknown at (ap (unknown_if at) (sym i) ∙ e))
-
-  phrase_means : Mean h.seen → (of : TypePhrase) → written_faults h (written of) ≡ [] → is_open (type_in h.seen of) ≡ false
-  phrase_means m of e = written_means m (written of) e
+  phrase_means : Mean h.seen → (of : TypePhrase) → written_faults h of ≡ [] → is_open (type_in h.seen of) ≡ false
+  phrase_means m of e = written_means h m of e
 
   -- ---- definitions
 
@@ -89,31 +79,49 @@ module _ (h : Here) where
   sound_at (a ∷ ds) zero e s g = let q : a ≡ e = cc in subst (λ (z : Definition). Sound h z) q s.0
   sound_at (a ∷ ds) (suc i) e s g = sound_at ds i e s.1 g
 
-  definition_sound : (at : ℕ) (n : Name) (own : Bool) (v : Written) → named_faults h at v (first_from 0 h.definitions n.text) ++ written_faults h v ≡ []
-      → Sound h (record { at = at; name_at = n.at; name = n.text; own = own; written = v })
-  definition_sound at n own v e =
-      let p = none_both (named_faults h at v (first_from 0 h.definitions n.text)) (written_faults h v) e in record { named = p.0; written = p.1 }
+  or_none : (fs gs : List Fault) → or_named h fs gs ≡ [] → (fs ≡ []) × (gs ≡ [])
+  or_none [] gs e = (refl, e)
+  or_none (f ∷ fs) gs e = absurd cc
 
-  node_sound : (n : Node) → node_faults h n ≡ [] → AllSound (defined n)
-  node_sound (abbreviation n of) e = (definition_sound n.at n false (written of) e, tt)
-  node_sound (new_type at n of) e = (definition_sound at n true (written of) e, tt)
+  node_sound : (n : Node) → node_faults h n ≡ [] → AllSound (defined_by n)
+  node_sound (abbreviation n of) e =
+      let p = or_none (written_faults h of) (named_faults h n.at of (first_from 0 h.definitions n.text)) e in ((p.1, p.0), tt)
+  node_sound (new_type at n of) e =
+      let p = or_none (written_faults h of) (named_faults h at of (first_from 0 h.definitions n.text)) e in ((p.1, p.0), tt)
+  node_sound (let_name n (constants.Number at k)) e = (tt, tt)
+  node_sound (let_name n (constants.Text at x)) e = (tt, tt)
+  node_sound (let_name n (constants.Truth at c)) e = (tt, tt)
+  node_sound (item k of n) e = (tt, tt)
   node_sound (alone n) e = tt
   node_sound (other n) e = tt
   node_sound (sign o) e = tt
   node_sound (of_type of) e = tt
-  node_sound (item k of n) e = tt
-  node_sound (let_name n c) e = tt
   node_sound unbuilt e = tt
 
-  nodes_sound : (ns : List Node) → Clean ns → AllSound (flat_map defined ns)
+  nodes_sound : (ns : List Node) → Clean ns → AllSound (flat_map defined_by ns)
   nodes_sound [] c = tt
-  nodes_sound (n ∷ ns) c = sound_append (defined n) (flat_map defined ns) (node_sound n c.0) (nodes_sound ns c.1)
+  nodes_sound (n ∷ ns) c = sound_append (defined_by n) (flat_map defined_by ns) (node_sound n c.0) (nodes_sound ns c.1)
+
+  -- The names of parameters, PROCs and refinements denote no types.
+  named_sound : (ns : List Name) → AllSound (flat_map names.other ns)
+  named_sound [] = tt
+  named_sound (n ∷ ns) = (tt, named_sound ns)
+
+  parameters_sound : (fs : List Formal) → AllSound (parameter_definitions fs)
+  parameters_sound [] = tt
+  parameters_sound (f ∷ fs) = sound_append (flat_map names.other f.names) (parameter_definitions fs) (named_sound f.names) (parameters_sound fs)
 
   refinements_sound : (rs : List Refinement) → Clean (nodes.refinements rs) → AllSound (refinement_definitions rs)
   refinements_sound [] c = tt
   refinements_sound (r ∷ rs) c =
       let p = clean_both (nodes.in_units r.units) (nodes.refinements rs) c.1 in
-      sound_append (names.in_units r.units) (refinement_definitions rs) (nodes_sound (nodes.in_units r.units) p.0) (refinements_sound rs p.1)
+      (tt, sound_append (names.in_units r.units) (refinement_definitions rs) (nodes_sound (nodes.in_units r.units) p.0) (refinements_sound rs p.1))
+
+  inside_sound : (rs : List Refinement) → Clean (nodes.refinements rs) → AllSound (in_refinements rs)
+  inside_sound [] c = tt
+  inside_sound (r ∷ rs) c =
+      let p = clean_both (nodes.in_units r.units) (nodes.refinements rs) c.1 in
+      sound_append (names.in_units r.units) (in_refinements rs) (nodes_sound (nodes.in_units r.units) p.0) (inside_sound rs p.1)
 
 -- ---- names whose types have meaning
 
@@ -135,7 +143,7 @@ held_closed [] c = refl
 held_closed (e ∷ es) c = open_append (held e.denotes) (all_held es) c.0 (held_closed es c.1)
 
 module _ (h : Here) (m : Mean h.seen) where
-  one_closed : (of : TypePhrase) → written_faults h (written of) ≡ [] → (is_open (type_in h.seen of) || false) ≡ false
+  one_closed : (of : TypePhrase) → written_faults h of ≡ [] → (is_open (type_in h.seen of) || false) ≡ false
   one_closed of e = or_false (is_open (type_in h.seen of)) false (phrase_means h m of e) refl
 
   node_closed : (n : Node) → node_faults h n ≡ [] → Closed (d.declared h.seen n)
@@ -191,20 +199,23 @@ module _ (w : Level) (faultless : level_faults w ≡ []) where
   abbrev pub ts : List TypeName
   ts = level_types w
 
+  abbrev rs : List Refinement
+  rs = w.refinements
+
   -- what is known in the level: there is nothing around
   abbrev outer : Here
-  outer = record { seen = ts; definitions = ds; calls = calls ds }
+  outer = record { seen = ts; definitions = ds; calls = calls ds; refinements = rs }
 
-  outer_is : here [] ds ≡ outer
-  outer_is = ap (λ (us : List TypeName). record { seen = us; definitions = ds; calls = calls ds }) (append-nil ts)
+  outer_is : here [] ds rs ≡ outer
+  outer_is = ap (λ (us : List TypeName). record { seen = us; definitions = ds; calls = calls ds; refinements = rs }) (append-nil ts)
 
-  outer_clean : (ns : List Node) → nodes_faults (here [] ds) ns ≡ [] → Clean outer ns
+  outer_clean : (ns : List Node) → nodes_faults (here [] ds rs) ns ≡ [] → Clean outer ns
   outer_clean ns e = clean_of outer ns (subst (λ (h : Here). nodes_faults h ns ≡ []) outer_is e)
 
   abbrev pub RoutineClean : Option TypePhrase → List Formal → Body → Type 0
   RoutineClean r fs v =
       Clean outer (nodes.result r ++ nodes.formals fs)
-      × Clean (here ts (body_definitions v)) (nodes.in_units v.units ++ nodes.refinements v.refinements)
+      × Clean (here ts (body_definitions fs v) []) (nodes.in_units v.units ++ nodes.refinements v.refinements)
 
   -- a unit of a level breaks no rule of types
   abbrev pub UnitClean : LevelUnit → Type 0
@@ -217,27 +228,27 @@ module _ (w : Level) (faultless : level_faults w ≡ []) where
   AllUnits [] = Unit {0}
   AllUnits (v ∷ vs) = UnitClean v × AllUnits vs
 
-  routine_clean : (r : Option TypePhrase) (fs : List Formal) (v : Body) → routine_faults ds r fs v ≡ [] → RoutineClean r fs v
+  routine_clean : (r : Option TypePhrase) (fs : List Formal) (v : Body) → routine_faults ds rs r fs v ≡ [] → RoutineClean r fs v
   routine_clean r fs v e =
       let p =
-      none_both (nodes_faults (here [] ds) (nodes.result r ++ nodes.formals fs))
-      (nodes_faults (here (names_of [] ds) (body_definitions v)) (nodes.in_units v.units ++ nodes.refinements v.refinements)) e in (
+      none_both (nodes_faults (here [] ds rs) (nodes.result r ++ nodes.formals fs))
+      (nodes_faults (here (names_of [] ds) (body_definitions fs v) []) (nodes.in_units v.units ++ nodes.refinements v.refinements)) e in (
         outer_clean (nodes.result r ++ nodes.formals fs) p.0,
-        clean_of (here ts (body_definitions v)) (nodes.in_units v.units ++ nodes.refinements v.refinements) p.1,
+        clean_of (here ts (body_definitions fs v) []) (nodes.in_units v.units ++ nodes.refinements v.refinements) p.1,
       )
 
-  unit_clean : (v : LevelUnit) → unit_faults ds v ≡ [] → UnitClean v
+  unit_clean : (v : LevelUnit) → unit_faults ds rs v ≡ [] → UnitClean v
   unit_clean (level.Plain u) e = outer_clean (nodes.in_unit u) e
   unit_clean (level.NewType at n of) e = outer_clean (new_type at n of ∷ []) e
   unit_clean (level.Proc at r n fs v) e = routine_clean r fs v e
   unit_clean (level.Op at r n fs v) e = routine_clean r fs v e
 
-  units_clean : (vs : List LevelUnit) → flat_map (unit_faults ds) vs ≡ [] → AllUnits vs
+  units_clean : (vs : List LevelUnit) → flat_map (unit_faults ds rs) vs ≡ [] → AllUnits vs
   units_clean [] e = tt
-  units_clean (v ∷ vs) e = let p = none_both (unit_faults ds v) (flat_map (unit_faults ds) vs) e in (unit_clean v p.0, units_clean vs p.1)
+  units_clean (v ∷ vs) e = let p = none_both (unit_faults ds rs v) (flat_map (unit_faults ds rs) vs) e in (unit_clean v p.0, units_clean vs p.1)
 
-  both_parts : (flat_map (unit_faults ds) w.units ≡ []) × (nodes_faults (here [] ds) (nodes.refinements w.refinements) ≡ [])
-  both_parts = none_both (flat_map (unit_faults ds) w.units) (nodes_faults (here [] ds) (nodes.refinements w.refinements)) faultless
+  both_parts : (flat_map (unit_faults ds rs) w.units ≡ []) × (nodes_faults (here [] ds rs) (nodes.refinements w.refinements) ≡ [])
+  both_parts = none_both (flat_map (unit_faults ds rs) w.units) (nodes_faults (here [] ds rs) (nodes.refinements w.refinements)) faultless
 
   pub all_clean : AllUnits w.units
   all_clean = units_clean w.units both_parts.0
@@ -250,7 +261,8 @@ module _ (w : Level) (faultless : level_faults w ≡ []) where
   unit_sound : (v : LevelUnit) → UnitClean v → AllSound outer (unit_definitions v)
   unit_sound (level.Plain u) c = nodes_sound outer (nodes.in_unit u) c
   unit_sound (level.NewType at n of) c = node_sound outer (new_type at n of) c.0
-  unit_sound (level.Proc at r n fs v) c = tt
+  unit_sound (level.Proc at r n [] v) c = (tt, tt)
+  unit_sound (level.Proc at r n (f ∷ fs) v) c = tt
   unit_sound (level.Op at r n fs v) c = tt
 
   units_sound : (vs : List LevelUnit) → AllUnits vs → AllSound outer (flat_map unit_definitions vs)
@@ -259,14 +271,13 @@ module _ (w : Level) (faultless : level_faults w ≡ []) where
 
   level_sound : AllSound outer ds
   level_sound =
-      sound_append outer (flat_map unit_definitions w.units) (refinement_definitions w.refinements) (units_sound w.units all_clean)
-      (refinements_sound outer w.refinements refinements_clean)
+      sound_append outer (flat_map unit_definitions w.units) (in_refinements rs) (units_sound w.units all_clean) (inside_sound outer rs refinements_clean)
 
-  sound_here : (i : ℕ) (e : Definition) → slice_get ds i ≡ Some e → Sound (here [] ds) e
+  sound_here : (i : ℕ) (e : Definition) → slice_get ds i ≡ Some e → Sound (here [] ds rs) e
   sound_here i e g = subst (λ (h : Here). Sound h e) (sym outer_is) (sound_at outer ds i e level_sound g)
 
   pub level_means : Mean ts
-  level_means = names_mean [] ds mean_none sound_here
+  level_means = names_mean [] ds rs mean_none sound_here
 
   -- ---- its names have types with meaning
 
@@ -289,7 +300,7 @@ module _ (w : Level) (faultless : level_faults w ≡ []) where
 
   module _ (r : Option TypePhrase) (fs : List Formal) (v : Body) (c : RoutineClean r fs v) where
     abbrev inner : Here
-    inner = here ts (body_definitions v)
+    inner = here ts (body_definitions fs v) []
 
     heading_clean : Clean outer (nodes.result r) × Clean outer (nodes.formals fs)
     heading_clean = clean_both outer (nodes.result r) (nodes.formals fs) c.0
@@ -297,19 +308,20 @@ module _ (w : Level) (faultless : level_faults w ≡ []) where
     body_clean : Clean inner (nodes.in_units v.units) × Clean inner (nodes.refinements v.refinements)
     body_clean = clean_both inner (nodes.in_units v.units) (nodes.refinements v.refinements) c.1
 
-    body_sound : AllSound inner (body_definitions v)
+    body_sound : AllSound inner (body_definitions fs v)
     body_sound =
-        sound_append inner (names.in_units v.units) (refinement_definitions v.refinements) (nodes_sound inner (nodes.in_units v.units) body_clean.0)
+        sound_append inner (parameter_definitions fs ++ names.in_units v.units) (refinement_definitions v.refinements)
+        (sound_append inner (parameter_definitions fs) (names.in_units v.units) (parameters_sound inner fs) (nodes_sound inner (nodes.in_units v.units) body_clean.0))
         (refinements_sound inner v.refinements body_clean.1)
 
-    sound_inside : (i : ℕ) (e : Definition) → slice_get (body_definitions v) i ≡ Some e → Sound inner e
-    sound_inside i e g = sound_at inner (body_definitions v) i e body_sound g
+    sound_inside : (i : ℕ) (e : Definition) → slice_get (body_definitions fs v) i ≡ Some e → Sound inner e
+    sound_inside i e g = sound_at inner (body_definitions fs v) i e body_sound g
 
-    pub body_means : Mean (body_types ts v)
-    body_means = names_mean ts (body_definitions v) level_means sound_inside
+    pub body_means : Mean (body_types ts fs v)
+    body_means = names_mean ts (body_definitions fs v) [] level_means sound_inside
 
     inner_means : Mean inner.seen
-    inner_means = seen_mean ts (body_definitions v) level_means sound_inside
+    inner_means = seen_mean ts (body_definitions fs v) [] level_means sound_inside
 
     pub parameters_closed : has_open (b.parameters ts fs) ≡ false
     parameters_closed = held_closed (b.parameter_names ts fs) (formals_closed outer level_means fs heading_clean.1)
@@ -319,6 +331,6 @@ module _ (w : Level) (faultless : level_faults w ≡ []) where
 
     pub body_closed : Closed (b.body_names ts fs v)
     body_closed =
-        closed_append (b.parameter_names ts fs) (b.own_names (body_types ts v ++ ts) v) (formals_closed outer level_means fs heading_clean.1)
+        closed_append (b.parameter_names ts fs) (b.own_names (body_types ts fs v ++ ts) v) (formals_closed outer level_means fs heading_clean.1)
         (closed_append (d.in_units inner.seen v.units) (b.refinement_names inner.seen v.refinements)
         (nodes_closed inner inner_means (nodes.in_units v.units) body_clean.0) (refinements_closed inner inner_means v.refinements body_clean.1))

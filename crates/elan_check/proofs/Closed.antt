@@ -1,10 +1,9 @@
 -- Where no name and no heading has a type without meaning, nothing hangs on one.
-use Rattle.std.proofs.Common.{◌≡◌, ℕ, zero, suc, ◌+◌, Bool, true, false, ◌||◌, ◌&&◌, if◌then◌else◌, List, [], ◌∷◌, ◌++◌, length, Option, Some, None, refl, sym, ap, subst, ◌∙◌}
-use Rattle.std.specs.Prelude.{nat_eq, slice_get}
+use Rattle.std.proofs.Common.{◌≡◌, ℕ, zero, suc, ◌+◌, Bool, true, false, ◌||◌, ◌&&◌, if◌then◌else◌, List, [], ◌∷◌, ◌++◌, Option, Some, None, refl, sym, ap, subst, ◌∙◌}
+use Rattle.std.specs.Prelude.{nat_eq, option_map, slice_get}
 use Rattle.elan_types.specs.declared.core_phrase.Exit.{Exit}
 use Rattle.std.specs.Option.{option_or, option_map_or}
 use Rattle.std.specs.Str.{bytes_eq}
-use Rattle.elan_types.specs.Types.{is_open}
 use Rattle.elan_scope.specs.declared.scope.Denotes.{Denotes}
 use Rattle.elan_scope.specs.declared.scope.Denotes.TheVariants as denotes
 use Rattle.elan_scope.specs.declared.scope.Entry.{Entry}
@@ -13,12 +12,16 @@ use Rattle.elan_scope.specs.declared.scope.Within.{Within}
 use Rattle.elan_scope.specs.declared.scope.Home.{Home}
 use Rattle.elan_scope.specs.declared.scope.Home.TheVariants.{Level as of_level, Routine as of_routine}
 use Rattle.elan_scope.specs.declared.type_name.TypeName.{TypeName}
+use Rattle.elan_scope.specs.declared.type_name.Named.{Named}
+use Rattle.elan_scope.specs.declared.type_name.Named.TheVariants.{Of, Size, Other}
+use Rattle.elan_scope.specs.Types.{is_open_named}
+use Rattle.type_names.specs.Types.{look}
 use Rattle.elan_scope.specs.declared.heading.Sort.{Sort}
 use Rattle.elan_scope.specs.declared.heading.Sort.TheVariants.{Procedure, Operator}
 use Rattle.elan_scope.specs.declared.heading.What.{What}
 use Rattle.elan_scope.specs.declared.heading.What.TheVariants.{Routine, Refinement}
 use Rattle.elan_scope.specs.declared.heading.Heading.{Heading}
-use Rattle.elan_scope.specs.Names.{first_from, held}
+use Rattle.elan_scope.specs.Names.{first_from, cells_held}
 use Rattle.elan_scope.specs.Scope as scope
 use Rattle.elan_scope.specs.Scope.{Found, Callable, first, found_in, first_named, from_inside, is_refinement, own_callable, own_callables, has_open, is_open_result, is_open_callable}
 use Rattle.elan_scope.specs.Phrase as form
@@ -43,12 +46,16 @@ abbrev pub HeadingsClosed : List Heading → Type 0
 HeadingsClosed [] = Unit {0}
 HeadingsClosed (h ∷ hs) = HeadingClosed h.what × HeadingsClosed hs
 
+-- the names of types that are declared in the scope
+abbrev pub own_types : Scope → List TypeName
+own_types z = option_map_or (λ (w : Within). w.types) z.routine z.types
+
 -- what stands around a phrase has types with meaning
 pub record ScopeClosed (z : Scope) : Type 0 where
   pub level : Closed z.level
   pub routine : Closed (option_map_or (λ (w : Within). w.names) z.routine [])
   pub headings : HeadingsClosed z.headings
-  pub types : Mean (option_map_or (λ (w : Within). w.types) z.routine z.types)
+  pub types : Mean (own_types z)
 
 abbrev CallablesClosed : List Callable → Type 0
 CallablesClosed [] = Unit {0}
@@ -96,10 +103,10 @@ nothing_unclear z h sort x ms =
 
 entry_closed : (k : ℕ) (es : List Entry) (x : List ℕ) (f : ℕ × Entry) → Closed es → first_from k es x ≡ Some f → holds_open f.1.denotes ≡ false
 entry_closed k [] x f h e = absurd cc
-entry_closed k (g ∷ es) x f h e = by_test (bytes_eq g.name x) (entry_closed (k + length (held g.denotes)) es x f h.1) e
+entry_closed k (g ∷ es) x f h e = by_test (bytes_eq g.name x) (entry_closed (k + cells_held g.denotes) es x f h.1) e
   where
-    by_test : (b : Bool) → (first_from (k + length (held g.denotes)) es x ≡ Some f → holds_open f.1.denotes ≡ false)
-        → (if b then Some (k, g) else first_from (k + length (held g.denotes)) es x) ≡ Some f
+    by_test : (b : Bool) → (first_from (k + cells_held g.denotes) es x ≡ Some f → holds_open f.1.denotes ≡ false)
+        → (if b then Some (k, g) else first_from (k + cells_held g.denotes) es x) ≡ Some f
         → holds_open f.1.denotes ≡ false
     by_test true rest i = let q : (k, g) ≡ f = cc in subst (λ (p : ℕ × Entry). holds_open p.1.denotes ≡ false) q h.0
     by_test false rest i = rest i
@@ -183,7 +190,12 @@ type_closed z h at x = by_found (scope.find_own_type z x) refl
   where
     by_found : (o : Option TypeName) → scope.find_own_type z x ≡ o → is_open_type at o ≡ false
     by_found None e = refl
-    by_found (Some t) e = and_false (nat_eq t.at at) (is_open t.of) (h.types x t e)
+    by_found (Some t) e = and_false (nat_eq t.at at) (is_open_named t.of) (by_name t.of (ap (option_map (λ u. u.of)) e))
+      where
+        by_name : (n : Named) → look (own_types z) x ≡ Some n → is_open_named n ≡ false
+        by_name (Of u) i = h.types x u i
+        by_name (Size k) i = refl
+        by_name Other i = refl
 
 heading_at : (hs : List Heading) (n : ℕ) → HeadingsClosed hs → scope.is_open_heading (slice_get hs n) ≡ false
 heading_at [] n h = refl
@@ -214,6 +226,8 @@ nothing_hangs z h at (form.truth b) i ms = refl
 nothing_hangs z h at (form.text x) i ms = refl
 nothing_hangs z h at form.bracket i ms = refl
 nothing_hangs z h at form.concr i ms = refl
+nothing_hangs z h at form.index i ms = refl
+nothing_hangs z h at (form.field x) i ms = refl
 nothing_hangs z h at form.cand i ms = refl
 nothing_hangs z h at form.cor i ms = refl
 nothing_hangs z h at form.choice i ms = refl

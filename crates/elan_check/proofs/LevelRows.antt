@@ -25,6 +25,7 @@ use Rattle.elan_bodies.specs.Level as l
 use Rattle.elan_rules.specs.Meaning.{judged, judged_all}
 use Rattle.elan_rules.proofs.First.{bind_gives, before_gives, gives_is}
 use Rattle.elan_bodies.proofs.Counts.{unit_headings_count}
+use Rattle.elan_check.proofs.HeldTypes.{BodiesSized}
 use Rattle.elan_check.proofs.Aligned.{Inside, Row, Rows, rows_append, routine_rows, procedure_quiet, type_quiet}
 use Rattle.elan_levels.specs.walks.Headings.{all_headings}
 use Rattle.elan_bodies.specs.walks.Units.{all_unit_bodies, level_units}
@@ -73,26 +74,26 @@ module _ (kn : Known) (s : Scope) (all : List Body) where
   plain_quiet : (q : Phrase) (m : Meant) → judged kn (around (form.place q) form.without_value q) ≡ gives m → u.bodies_in m ≡ []
   plain_quiet q m e = let r = bind_gives (judged_all kn (part q none)) (ruled kn (form.place q) (plain form.without_value)) m e in no_bodies_in (form.place q) r.0 m r.2
 
-  unit_rows : (k : ℕ) (v : LevelUnit) (m : Meant) → judged kn (l.level_unit s k v) ≡ gives m → Inside k (u.bodies_in m) all
+  unit_rows : BodiesSized s.types → (k : ℕ) (v : LevelUnit) (m : Meant) → judged kn (l.level_unit s k v) ≡ gives m → Inside k (u.bodies_in m) all
       → Rows kn s all k (b.unit_headings s.types k v) (l.unit_bodies s k v) (u.bodies_in m)
-  unit_rows k (level.Plain v) m e h = subst (λ (bs : List Body). Rows kn s all k [] [] bs) (sym (plain_quiet (shape.written (shape.unit s v)) m e)) tt
-  unit_rows k (level.Proc at r n fs w) m e h =
-      routine_rows kn s all k n.at n.text r fs w Procedure (l.procedure_name s n fs) m (procedure_quiet kn s all n fs) e h
-  unit_rows k (level.Op at r n fs w) m e h = routine_rows kn s all k n.at (operator_text n.operator) r fs w Operator [] m tt e h
-  unit_rows k (level.NewType at n of) m e h =
+  unit_rows sized k (level.Plain v) m e h = subst (λ (bs : List Body). Rows kn s all k [] [] bs) (sym (plain_quiet (shape.written (shape.unit s v)) m e)) tt
+  unit_rows sized k (level.Proc at r n fs w) m e h =
+      routine_rows kn s all k n.at n.text r fs w sized Procedure (l.procedure_name s n fs) m (procedure_quiet kn s all n fs) e h
+  unit_rows sized k (level.Op at r n fs w) m e h = routine_rows kn s all k n.at (operator_text n.operator) r fs w sized Operator [] m tt e h
+  unit_rows sized k (level.NewType at n of) m e h =
       subst (λ (bs : List Body). Rows kn s all k [] [] bs) (sym (type_quiet kn s all n m e)) tt
 
-  pub units_rows : (k : ℕ) (vs : List LevelUnit) (ms : List Meant) → judged_all kn (all_of (level_units s k vs)) ≡ gives ms → Inside k (u.bodies_of ms) all
-      → Rows kn s all k (all_headings s.types k vs) (all_unit_bodies s k vs) (u.bodies_of ms)
-  units_rows k [] ms e h = subst (λ (ns : List Meant). Rows kn s all k [] [] (u.bodies_of ns)) (gives_is [] ms e) tt
-  units_rows k (v ∷ vs) ms e h =
+  pub units_rows : BodiesSized s.types → (k : ℕ) (vs : List LevelUnit) (ms : List Meant) → judged_all kn (all_of (level_units s k vs)) ≡ gives ms
+      → Inside k (u.bodies_of ms) all → Rows kn s all k (all_headings s.types k vs) (all_unit_bodies s k vs) (u.bodies_of ms)
+  units_rows sized k [] ms e h = subst (λ (ns : List Meant). Rows kn s all k [] [] (u.bodies_of ns)) (gives_is [] ms e) tt
+  units_rows sized k (v ∷ vs) ms e h =
       let q = before_gives (judged kn (l.level_unit s k v)) (judged_all kn (all_of (level_units s (k + b.bodies_in v) vs))) ms e in
       let h' : Inside k (u.bodies_in q.0 ++ u.bodies_of q.1) all = subst (λ (ns : List Meant). Inside k (u.bodies_of ns) all) q.4 h in
-      let first = unit_rows k v q.0 q.2 (inside_first k (u.bodies_in q.0) (u.bodies_of q.1) all h') in
+      let first = unit_rows sized k v q.0 q.2 (inside_first k (u.bodies_in q.0) (u.bodies_of q.1) all h') in
       let count : length (u.bodies_in q.0) ≡ b.bodies_in v =
       rows_count k (b.unit_headings s.types k v) (l.unit_bodies s k v) (u.bodies_in q.0) first ∙ unit_headings_count s.types k v in
       let rest =
-      units_rows (k + b.bodies_in v) vs q.1 q.3
+      units_rows sized (k + b.bodies_in v) vs q.1 q.3
       (subst (λ (n : ℕ). Inside (k + n) (u.bodies_of q.1) all) count (inside_rest k (u.bodies_in q.0) (u.bodies_of q.1) all h')) in
       subst (λ (ns : List Meant). Rows kn s all k (all_headings s.types k (v ∷ vs)) (all_unit_bodies s k (v ∷ vs)) (u.bodies_of ns)) (sym q.4)
       (rows_append kn s all k (k + b.bodies_in v) (b.unit_headings s.types k v) (all_headings s.types (k + b.bodies_in v) vs) (l.unit_bodies s k v)

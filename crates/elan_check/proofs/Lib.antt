@@ -11,3 +11,4 @@ pub mod Spots
 pub mod Over
 pub mod Clean
 pub mod Closed
+pub mod HeldTypes

@@ -31,7 +31,7 @@ use Rattle.elan_scope.specs.declared.heading.Heading.{Heading}
 use Rattle.elan_meant.specs.declared.meant.Meant.{Meant}
 use Rattle.elan_meant.specs.declared.meant.Meant.TheVariants.{Absent, Variable, Value, Done, Left, Labels, Bodies, Level}
 use Rattle.std.specs.Option.{option_or}
-use Rattle.elan_scope.specs.Scope.{number_of, variables_of}
+use Rattle.elan_scope.specs.Scope.{number_of, variables_of, all_held}
 use Rattle.elan_scope.specs.declared.scope.Scope.{Scope}
 use Rattle.elan_scope.specs.declared.scope.Within.{Within}
 use Rattle.elan_scope.specs.declared.type_name.TypeName.{TypeName}
@@ -58,7 +58,8 @@ use Rattle.elan_rules.proofs.TypeEquations.{Stand}
 use Rattle.elan_rules.proofs.Typed as ty
 use Rattle.elan_rules.proofs.TypedUnits.{content_as_good, content_of_good}
 use Rattle.elan_rules.proofs.TypedPerformed.{owner_with, Headed, Delivering, BodyFits}
-use Rattle.elan_rules.proofs.TypedCalls.{held_cells, FrameIs, Fits}
+use Rattle.elan_rules.proofs.TypedCalls.{held_cells, AllSized, AllConst, FrameIs, WithinSized, Fits}
+use Rattle.elan_check.proofs.HeldTypes.{BodiesSized, level_const, level_sized, level_types_sized, bodies_sized}
 use Rattle.elan_judge.proofs.TypedRules.{good}
 use Rattle.elan_bodies.proofs.Counts.{all_headings_count}
 use Rattle.elan_bodies.proofs.Settled.{told_found, refinement_found}
@@ -123,6 +124,12 @@ module _ (w : Written) (us : List Action) (all : List Body) where
   abbrev MeansLevel : Type 0
   MeansLevel = judged kn (l.level_phrase w) ≡ gives (Level us all)
 
+  sized_level : AllSized (all_held s.level)
+  sized_level = level_sized w
+
+  sized_inside : BodiesSized s.types
+  sized_inside = bodies_sized s.types (level_types_sized w)
+
   -- the meanings of the units, and of the refinements
   abbrev Parts2 : Type 0
   Parts2 =
@@ -164,7 +171,7 @@ module _ (w : Written) (us : List Action) (all : List Body) where
   rows q =
       let inside : Inside 0 (u.bodies_of q.0 ++ u.bodies_of q.1) all =
       subst (λ (bs : List Body). Inside 0 bs all) q.5 (λ i b e. let z : 0 + i ≡ i = omega arith in ap (slice_get all) z ∙ e) in
-      let first = units_rows kn s all 0 w.units q.0 q.2 (inside_first 0 (u.bodies_of q.0) (u.bodies_of q.1) all inside) in
+      let first = units_rows kn s all sized_inside 0 w.units q.0 q.2 (inside_first 0 (u.bodies_of q.0) (u.bodies_of q.1) all inside) in
       let count : length (u.bodies_of q.0) ≡ after_units =
       rows_count kn s all 0 (all_headings s.types 0 w.units) (all_unit_bodies s 0 w.units) (u.bodies_of q.0) first ∙ all_headings_count s.types 0 w.units in
       let rest = refinement_rows kn s all s after_units w.refinements q.1 refl refl tt q.3 in
@@ -212,7 +219,28 @@ module _ (w : Written) (us : List Action) (all : List Body) where
   stand n = record { variables = vs; bodies = all; home = Some n }
 
   level_fits : Rows kn s all 0 hs ps all → Fits level_stand s kn
-  level_fits rs = record { level = refl; frame = tt; owner_is = refl; home_is = refl; part_of = λ r q e f. absurd cc; bodies = bodies_fit rs }
+  level_fits rs =
+      record {
+        level = refl;
+        constant = level_const w;
+        sized = sized_level;
+        frame_sized = tt;
+        frame = tt;
+        owner_is = refl;
+        home_is = refl;
+        part_of = λ r q e f. absurd cc;
+        bodies = bodies_fit rs;
+      }
+
+  constant_at : (z : Scope) → z.level ≡ s.level → AllConst (all_held z.level)
+  constant_at z e = subst (λ (es : List Entry). AllConst (all_held es)) (sym e) (level_const w)
+
+  sized_at : (z : Scope) → z.level ≡ s.level → AllSized (all_held z.level)
+  sized_at z e = subst (λ (es : List Entry). AllSized (all_held es)) (sym e) sized_level
+
+  sized_frame : (v : Option Within) → Frames all v → WithinSized v
+  sized_frame None f = tt
+  sized_frame (Some v) f = f.4
 
   owner_here : (n : ℕ) (c : Body) → slice_get all n ≡ Some c → owner_in all (Some n) ≡ owner_at n (Some c.scope)
   owner_here n c e = ap (λ (o : Option Body). owner_at n (scope_of o)) e
@@ -222,11 +250,14 @@ module _ (w : Written) (us : List Action) (all : List Body) where
 
   routine_fits : Rows kn s all 0 hs ps all → (n : ℕ) (c : Body) (z : Scope) (fs : List Formal) (ks : List Kind) (names : List Entry) (types : List TypeName)
       → slice_get all n ≡ Some c → z.headings ≡ s.headings → z.level ≡ s.level → c.scope ≡ owner.Own fs ks → z.routine ≡ within n names types
-      → z.refinement ≡ None → frame_of c.scope ≡ held_cells names → Fits (stand n) z kn
-  routine_fits rs n c z fs ks names types i zh zl own rt rf fr =
+      → z.refinement ≡ None → frame_of c.scope ≡ held_cells names → AllSized (all_held names) → Fits (stand n) z kn
+  routine_fits rs n c z fs ks names types i zh zl own rt rf fr si =
       let owned : owner_in all (Some n) ≡ Some n = owner_here n c i ∙ ap (λ (o : Owner). owner_at n (Some o)) own in
       record {
         level = ap variables_of (sym zl);
+        constant = constant_at z zl;
+        sized = sized_at z zl;
+        frame_sized = subst WithinSized (sym rt) si;
         frame = subst (λ (v : Option Within). FrameIs (frame_in all (owner_in all (Some n))) v) (sym rt) (ap (frame_in all) owned ∙ frame_here n c i ∙ fr);
         owner_is = owned ∙ sym (ap number_of rt);
         home_is = sym (ap (λ (o : Option ℕ). option_or o (number_of z.routine)) rf ∙ ap number_of rt);
@@ -254,6 +285,9 @@ module _ (w : Written) (us : List Action) (all : List Body) where
       let owned : owner_in all (Some n) ≡ owner_at n (Some (owner_with home)) = owner_here n c i ∙ ap (λ (o : Owner). owner_at n (Some o)) own in
       record {
         level = ap variables_of (sym zl);
+        constant = constant_at z zl;
+        sized = sized_at z zl;
+        frame_sized = sized_frame z.routine fr;
         frame = subst (λ (o : Home). FrameIs (frame_in all o) z.routine) (sym owned) (refined_frame n home z.routine rt fr);
         owner_is = owned ∙ refined_owner n home ∙ sym rt;
         home_is = sym (ap (λ (o : Option ℕ). option_or o (number_of z.routine)) rf);
@@ -268,7 +302,7 @@ module _ (w : Written) (us : List Action) (all : List Body) where
 
   row_fits : Rows kn s all 0 hs ps all → (n : ℕ) (what : What) (m : Meant) (c : Body) (z : Scope) → slice_get all n ≡ Some c → z.headings ≡ s.headings
       → z.level ≡ s.level → Made what m c → Stands all n what z c → Fits (stand n) z kn
-  row_fits rs n (Routine sort params r) m c z i zh zl made st = routine_fits rs n c z (map formal_of params) made.0 st.0 st.1 i zh zl made.1 st.2 st.3 st.4
+  row_fits rs n (Routine sort params r) m c z i zh zl made st = routine_fits rs n c z (map formal_of params) made.0 st.0 st.1 i zh zl made.1 st.2 st.3 st.4 st.5
   row_fits rs n (Refinement home) m c z i zh zl made st = refinement_fits rs n c z home i zh zl made.0 st.0 st.1 st.2
 
   -- ---- the content of bodies

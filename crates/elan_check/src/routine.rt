@@ -158,7 +158,7 @@ fn frame(alloc: Global, scope: &Scope, of: Routine<'_>) -> Result<Owner, NoMemor
     ensures { IfOk result (λ frame. frame ≡ bodies.frame scope.now.types of.entry.formals.now of.entry.body.now) }
 {
     let types = scope.types.as_slice();
-    let variables = own_kinds(alloc, types, of.body)?;
+    let variables = own_kinds(alloc, types, of.formals, of.body)?;
     let parameters = parameters(alloc, types, of.formals)?;
     let parameters = formals(alloc, parameters.as_slice())?;
     Ok(Owner::Own {

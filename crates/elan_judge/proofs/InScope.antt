@@ -190,8 +190,8 @@ module _ (s : Scope) where
           (units_in Open us, tt),
     ),
   )
-  expr_in (t.Index at of index) = (tt, tt)
-  expr_in (t.Field at of field) = (tt, tt)
+  expr_in (t.Index at of index) = (tt, (of.1, (index.1, tt)))
+  expr_in (t.Field at of field) = (tt, (of.1, tt))
   expr_in (t.Monadic at o a) = (refl, (a.1, tt))
   expr_in (t.Dyadic at o a b) = (refl, (a.1, (b.1, tt)))
   expr_in (t.Cand at a b) = (tt, (a.1, (b.1, tt)))

@@ -161,6 +161,14 @@ module _ (s : Scope) where
         ∙ ap (λ (y : Expr). pair at form.cor (shape.expr s l) (shape.expr s y)) f
         ∙ sym (ap (shape.expr s) (i ∙ sym (expression.rolls-Cor at l r)) ∙ rw fold-roll-Expr refl)) h
 
+    pub index_is : (w : Expr) (at : ℕ) (a a' i i' : Expr) → w ≡ expression.Index at a i → a' ≡ a → i' ≡ i
+        → Is q (judged known (pair at form.index (shape.expr s a') (shape.expr s i'))) → Is q (judged known (shape.expr s w))
+    index_is w at a a' i i' is e f h =
+        subst (λ (p : Phrase). Is q (judged known p))
+        (ap (λ (y : Expr). pair at form.index (shape.expr s y) (shape.expr s i')) e
+        ∙ ap (λ (y : Expr). pair at form.index (shape.expr s a) (shape.expr s y)) f
+        ∙ sym (ap (shape.expr s) (is ∙ sym (expression.rolls-Index at a i)) ∙ rw fold-roll-Expr refl)) h
+
     pub loop_is : (w : Statement) (at : ℕ) (k : Option Counter) (c : Option Expr) (us us' : List Statement) (u : Option Expr) → w ≡ statement.Loop at k c us u
         → us' ≡ us
         → Is q (judged known (loop_of at k c us' u)) → Is q (judged known (shape.written (shape.unit s w)))

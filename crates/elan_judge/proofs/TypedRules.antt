@@ -25,7 +25,7 @@ use Rattle.elan_rules.proofs.Typed as ty
 use Rattle.elan_rules.proofs.Typed.{Gives, MayGive, on_if, on_bind, on_told, on_unless}
 use Rattle.elan_rules.proofs.TypeEquations.{Stand}
 use Rattle.elan_rules.proofs.TypedUnits.{number_good, truth_good, text_good, bracketed_good, concr_good, cand_good, cor_good, assigned_good, initial_good, in_order_good}
-use Rattle.elan_rules.proofs.TypedUnits.{alone_good, without_value_good, must_deliver_good}
+use Rattle.elan_rules.proofs.TypedUnits.{indexed_good, field_part_good, alone_good, without_value_good, must_deliver_good}
 use Rattle.elan_rules.proofs.TypedChoices.{choice_good, selected_good, label_named_good}
 use Rattle.elan_rules.proofs.TypedLoops.{counted_good, loop_good}
 use Rattle.elan_rules.proofs.TypedCalls.{Fits, named_good, applied_good, declared_good, leaving_good}
@@ -68,6 +68,8 @@ module _ (here : Stand) (s : Scope) (k : Known) (fits : Fits here s k) where
   plain_rules at (form.applied z sort x) ms i g = in_scope (λ y. r.applied at y sort x ms) z i (applied_good here s k fits at sort x ms g)
   plain_rules at form.bracket ms i g = bracketed_good here at (p.nth ms 0) (good_part ms 0 g)
   plain_rules at form.concr ms i g = concr_good here at (p.nth ms 0) (good_part ms 0 g)
+  plain_rules at form.index ms i g = indexed_good here at (p.nth ms 0) (p.nth ms 1) (good_part ms 0 g) (good_part ms 1 g)
+  plain_rules at (form.field x) ms i g = field_part_good here at x (p.nth ms 0) (good_part ms 0 g)
   plain_rules at form.cand ms i g = cand_good here at (p.nth ms 0) (p.nth ms 1) (good_part ms 0 g) (good_part ms 1 g)
   plain_rules at form.cor ms i g = cor_good here at (p.nth ms 0) (p.nth ms 1) (good_part ms 0 g) (good_part ms 1 g)
   plain_rules at form.choice ms i g = choice_good here at ms g

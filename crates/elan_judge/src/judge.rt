@@ -20,7 +20,8 @@ use elan_meant::meant::Meant;
 use elan_meant::row::{Judged, Row};
 use elan_meant::together::{Three, before, let_go, none, one, pair, three, with};
 use elan_rules::whole::{
-    assignment_phrase, cand_phrase, cor_phrase, count_phrase, initial_phrase, loop_phrase,
+    assignment_phrase, cand_phrase, cor_phrase, count_phrase, index_phrase, initial_phrase,
+    loop_phrase,
 };
 use elan_scope::heading::Sort;
 use elan_scope::known::Known;
@@ -35,6 +36,7 @@ use unit_rules::list::{alone, declaration, in_order, must_deliver, without_value
 use value_rules::call::applied;
 use value_rules::leave::leaving;
 use value_rules::name::{declared, named};
+use value_rules::part::field_part;
 use value_rules::value::{bracketed, concr, number, text, truth};
 
 fn way(limit: &Limit) -> Way
@@ -163,8 +165,17 @@ fn judge(alloc: Global, known: &Known, scope: &Scope, expr: &Expr) -> Judged
                 Ok(inner) => concr(*at, inner),
             }
         }
-        Expr::Index { at, .. } => Err(Trouble::Breaks(*at, Why::Unknown)),
-        Expr::Field { at, .. } => Err(Trouble::Breaks(*at, Why::Unknown)),
+        Expr::Index { at, of, index } => {
+            let of = judge(alloc, known, scope, of.get());
+            let index = judge(alloc, known, scope, index.get());
+            index_phrase(alloc, *at, of, index)
+        }
+        Expr::Field { at, of, field } => {
+            match judge(alloc, known, scope, of.get()) {
+                Err(trouble) => Err(trouble),
+                Ok(of) => field_part(alloc, *at, field.text.as_slice(), of),
+            }
+        }
     }
 }
 

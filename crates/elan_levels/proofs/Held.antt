@@ -1,19 +1,35 @@
--- What is held under names, and its types.
-use Rattle.std.proofs.Common.{◌≡◌, List, [], ◌∷◌, ◌++◌, map, refl, sym, ap, ◌∙◌, append_assoc}
+-- What is held under names, its types, and the kinds of its cells.
+use Rattle.std.proofs.Common.{◌≡◌, ℕ, List, [], ◌∷◌, ◌++◌, take, refl, sym, ap, ◌∙◌, append_assoc}
+use Rattle.std.specs.Prelude.{flat_map}
+use Rattle.std.proofs.Math.Seq.{take-length}
+use Rattle.std.proofs.lemmas.List.{append-nil}
 use Rattle.eu_base.specs.declared.value.Kind.{Kind}
+use Rattle.eu_base.specs.Shapes.{cell_kinds}
 use Rattle.elan_types.specs.declared.elan_type.ElanType.{ElanType}
 use Rattle.elan_types.specs.declared.elan_type.Parameter.{Parameter}
-use Rattle.elan_types.specs.Types.{kind_in}
+use Rattle.elan_types.specs.Types.{shape_in, cells}
+use Rattle.elan_types.proofs.Types.{cells_kinds}
 use Rattle.elan_scope.specs.declared.scope.Entry.{Entry}
 use Rattle.elan_scope.specs.Scope.{held, all_held, types_of}
+
+abbrev kinds_in : List ElanType → List Kind
+kinds_in ts = flat_map (λ t. cell_kinds (shape_in t)) ts
+
+pub all_cells : (t : ElanType) → take (cells t) (cell_kinds (shape_in t)) ≡ cell_kinds (shape_in t)
+all_cells t = ap (λ (n : ℕ). take n (cell_kinds (shape_in t))) (sym (cells_kinds t)) ∙ take-length (cell_kinds (shape_in t))
+
+pub one_more : (ks : List Kind) (t : ElanType) → ks ++ (cell_kinds (shape_in t) ++ []) ≡ ks ++ cell_kinds (shape_in t)
+one_more ks t = ap (λ (js : List Kind). ks ++ js) (append-nil (cell_kinds (shape_in t)))
 
 pub types_append : (xs ys : List Parameter) → types_of (xs ++ ys) ≡ types_of xs ++ types_of ys
 types_append [] ys = refl
 types_append (x ∷ xs) ys = ap (λ (l : List ElanType). x.of ∷ l) (types_append xs ys)
 
-pub kinds_append : (xs ys : List Parameter) → map kind_in (types_of (xs ++ ys)) ≡ map kind_in (types_of xs) ++ map kind_in (types_of ys)
+pub kinds_append : (xs ys : List Parameter) → kinds_in (types_of (xs ++ ys)) ≡ kinds_in (types_of xs) ++ kinds_in (types_of ys)
 kinds_append [] ys = refl
-kinds_append (x ∷ xs) ys = ap (λ (l : List Kind). kind_in x.of ∷ l) (kinds_append xs ys)
+kinds_append (x ∷ xs) ys =
+    ap (λ (l : List Kind). cell_kinds (shape_in x.of) ++ l) (kinds_append xs ys)
+    ∙ sym (append_assoc (cell_kinds (shape_in x.of)) (kinds_in (types_of xs)) (kinds_in (types_of ys)))
 
 pub held_append : (es gs : List Entry) → all_held (es ++ gs) ≡ all_held es ++ all_held gs
 held_append [] gs = refl

@@ -2,12 +2,13 @@
 use Rattle.std.proofs.Common.{◌≡◌, false, List, [], ◌∷◌, ◌++◌, Result, Ok, Err, ap, ◌∙◌, append_assoc}
 use Rattle.std.specs.Prelude.{IfOk}
 use Rattle.elan_tree.specs.declared.tree.Refinement.{Refinement}
+use Rattle.elan_tree.specs.declared.written_type.Formal.{Formal}
 use Rattle.elan_scope.specs.declared.scope.Denotes.TheVariants as denotes
 use Rattle.elan_scope.specs.declared.scope.Entry.{Entry}
 use Rattle.elan_scope.specs.declared.type_name.TypeName.{TypeName}
 use Rattle.elan_levels.specs.declared.declare.Names.{Names}
 use Rattle.elan_levels.specs.Declarations.{entry, in_units}
-use Rattle.elan_levels.specs.Bodies.{refinement_names}
+use Rattle.elan_levels.specs.Bodies.{parameter, parameter_names, named_as, refinement_names}
 use Rattle.elan_levels.specs.walks.Seen.{visible, with_entries, Adds}
 
 seen_as : (old new : Names) → new.here.now ≡ old.here.now → new.around.now ≡ old.around.now → visible new ≡ visible old
@@ -42,7 +43,7 @@ pub met_is : {E : Type 0} (es : List Entry) (s t : Names) (r : Result (List Entr
 met_is es s t (Ok made) n x h = h.1 ∙ (x h.0).1 ∙ ap (λ (l : List Entry). l ++ es) n
 met_is es s t (Err e) n x h = tt
 
--- ---- refinements
+-- ---- refinements and parameters
 
 pub as_added : (es : List Entry) (s t : Names) → (t.wanted ≡ false → (s.wanted ≡ false) × (t ≡ with_entries s es)) → Adds es s t
 as_added es s t h w =
@@ -64,6 +65,19 @@ refined_next all begun s t r rest h x w =
       i.0,
       ap (λ (l : List Entry). l ++ refinement_names (visible begun) rest) (a.1 ∙ ap (λ (ts : List TypeName). s.entries ++ (e ++ in_units ts r.units)) same)
           ∙ append_assoc s.entries (e ++ in_units (visible begun) r.units) (refinement_names (visible begun) rest) ∙ i.1,
+      a.2 ∙ i.2,
+      a.3 ∙ i.3,
+    )
+
+pub given_next : (all : List Entry) (begun s t : Names) (f : Formal) (rest : List Formal) → Rest (parameter_names begun.around.now (f ∷ rest)) all begun s
+    → Adds (named_as f.names (denotes.Parameter (parameter s.around.now f))) s t → Rest (parameter_names begun.around.now rest) all begun t
+given_next all begun s t f rest h x w =
+    let a = x w in
+    let i = h a.0 in
+    let given = λ (ts : List TypeName). named_as f.names (denotes.Parameter (parameter ts f)) in (
+      i.0,
+      ap (λ (l : List Entry). l ++ parameter_names begun.around.now rest) (a.1 ∙ ap (λ (ts : List TypeName). s.entries ++ given ts) i.3)
+          ∙ append_assoc s.entries (given begun.around.now) (parameter_names begun.around.now rest) ∙ i.1,
       a.2 ∙ i.2,
       a.3 ∙ i.3,
     )

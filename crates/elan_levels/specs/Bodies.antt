@@ -74,15 +74,15 @@ procedure_name n (f ∷ fs) = []
 -- The names of a PROC or OP, where these types are declared around: its parameters, what its units declare, and its refinements with
 -- what they declare. Its heading is read in the level.
 abbrev pub body_names : List TypeName → List Formal → Body → List Entry
-body_names ts fs b = parameter_names ts fs ++ own_names (body_types ts b ++ ts) b
+body_names ts fs b = parameter_names ts fs ++ own_names (body_types ts fs b ++ ts) b
 
 -- the parameters and variables of a PROC or OP
 abbrev pub frame : List TypeName → List Formal → Body → Owner
-frame ts fs b = owner.Own (map formal_of (parameters ts fs)) (variables_of (own_names (body_types ts b ++ ts) b))
+frame ts fs b = owner.Own (map formal_of (parameters ts fs)) (variables_of (own_names (body_types ts fs b ++ ts) b))
 
 -- the PROC or OP with this number, where these types are declared around
 abbrev pub body_within : List TypeName → ℕ → List Formal → Body → Within
-body_within ts k fs b = record { number = k; names = body_names ts fs b; types = body_types ts b }
+body_within ts k fs b = record { number = k; names = body_names ts fs b; types = body_types ts fs b }
 
 -- in this PROC or OP
 abbrev pub routine_scope : Scope → Within → Scope

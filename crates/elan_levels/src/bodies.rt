@@ -1,7 +1,8 @@
 //! The names that a level and its bodies declare.
 
-ghost use Rattle.std.specs.Prelude.{◌≡◌, ◌++◌, flat_map, map, IfOk, OnOk};
-ghost use Rattle.elan_types.specs.Types.{kind_in};
+ghost use Rattle.std.specs.Prelude.{◌≡◌, ◌++◌, flat_map, IfOk, OnOk};
+ghost use Rattle.eu_base.specs.Shapes.{cell_kinds};
+ghost use Rattle.elan_types.specs.Types.{shape_in};
 ghost use Rattle.elan_scope.specs.declared.scope.Denotes.TheVariants as denote;
 ghost use Rattle.elan_scope.specs.Scope as scopes;
 ghost use Rattle.elan_levels.specs.Bodies as spec;
@@ -13,7 +14,7 @@ use elan_scope::directory::Directory;
 use elan_scope::scope::{Denotes, Entry, Within};
 use elan_scope::type_name::TypeName;
 use elan_tree::{Access as Given, Body, Formal, Level, LevelUnit, Name, Refinement};
-use elan_types::{Access, Parameter};
+use elan_types::{Access, ElanType, Parameter};
 use eu_base::{Kind, List, NoMemory};
 use std::alloc::Global;
 use type_names::definition::{body_definitions, level_definitions};
@@ -138,7 +139,7 @@ pub fn body_within(
 ) -> Result<Within, NoMemory>
     ensures { IfOk result (λ within. within ≡ spec.body_within around.now number formals.now body.now) }
 {
-    let definitions = body_definitions(alloc, body)?;
+    let definitions = body_definitions(alloc, formals, body)?;
     let types = names_of(alloc, around, definitions.as_slice())?;
     let names = body_names(alloc, types.as_slice(), around, formals, body)?;
     Ok(Within {
@@ -201,35 +202,62 @@ fn own_names(
     refinement_names(names, body.refinements.as_slice()).met()
 }
 
-// Adds the kind of what is held under a name.
-fn add_held(out: &mut List<Kind>, denotes: &Denotes) -> Result<(), NoMemory>
-    ensures { OnOk result (out.new ≡ out.old ++ map kind_in (scopes.types_of (scopes.held denotes.now))) }
+// The kinds of a type's cells.
+#[tactic(auto, using(crate::proofs::Held::all_cells))]
+fn kinds_of(alloc: Global, of: &ElanType) -> Result<List<Kind>, NoMemory>
+    ensures { IfOk result (λ kinds. kinds ≡ cell_kinds (shape_in of.now)) }
+{
+    let cells = of.cells().ok_or(NoMemory)?;
+    let shape = of.shape(alloc)?;
+    shape.kinds(alloc, usize::from(cells))
+}
+
+// Adds the kinds of a type's cells.
+fn add_kinds(alloc: Global, out: &mut List<Kind>, of: &ElanType) -> Result<(), NoMemory>
+    ensures { OnOk result (out.new ≡ out.old ++ cell_kinds (shape_in of.now)) }
+{
+    let kinds = kinds_of(alloc, of)?;
+    for kind in kinds.as_slice() {
+        out.push(*kind)?;
+    }
+    Ok(())
+}
+
+// Adds the kinds of the cells of what is held under a name.
+#[tactic(auto, using(crate::proofs::Held::one_more))]
+fn add_held(alloc: Global, out: &mut List<Kind>, denotes: &Denotes) -> Result<(), NoMemory>
+    ensures { OnOk result (out.new ≡ out.old ++ flat_map (λ t. cell_kinds (shape_in t)) (scopes.types_of (scopes.held denotes.now))) }
 {
     match denotes {
-        Denotes::Variable(of) => out.push(of.kind()),
-        Denotes::Constant(of) => out.push(of.kind()),
-        Denotes::Parameter(parameter) => out.push(parameter.of.kind()),
+        Denotes::Variable(of) | Denotes::Constant(of) => add_kinds(alloc, out, of),
+        Denotes::Parameter(parameter) => add_kinds(alloc, out, &parameter.of),
         Denotes::Procedure | Denotes::Refinement | Denotes::Denoter(_) => Ok(()),
     }
 }
 
-/// The kinds of the variables, constants and parameters among names.
+/// The kinds of the cells of the variables, constants and parameters among names.
 #[tactic(auto, using(crate::proofs::Held::kinds_append))]
 pub fn held_kinds(alloc: Global, names: &[Entry]) -> Result<List<Kind>, NoMemory>
     ensures { IfOk result (λ kinds. kinds ≡ scopes.variables_of names.now) }
 {
     let mut kinds = List::new(alloc);
     for entry in names {
-        add_held(&mut kinds, &entry.denotes)?;
+        add_held(alloc, &mut kinds, &entry.denotes)?;
     }
     Ok(kinds)
 }
 
-/// The kinds of the variables and constants that a PROC or OP declares, where these types are declared around.
-pub fn own_kinds(alloc: Global, around: &[TypeName], body: &Body) -> Result<List<Kind>, NoMemory>
-    ensures { IfOk result (λ kinds. kinds ≡ scopes.variables_of (spec.own_names (types.body_types around.now body.now ++ around.now) body.now)) }
+/// The kinds of the cells of the variables and constants that a PROC or OP declares, where these types are declared around.
+pub fn own_kinds(
+    alloc: Global,
+    around: &[TypeName],
+    formals: &[Formal],
+    body: &Body,
+) -> Result<List<Kind>, NoMemory>
+    ensures { IfOk result (λ kinds. kinds
+        ≡ scopes.variables_of (spec.own_names (types.body_types around.now formals.now body.now ++ around.now) body.now)) }
 {
-    let definitions = body_definitions(alloc, body)?;
+    let definitions = body_definitions(alloc, formals, body)?;
     let types = names_of(alloc, around, definitions.as_slice())?;
     let names = own_names(alloc, types.as_slice(), around, body)?;
     held_kinds(alloc, names.as_slice())

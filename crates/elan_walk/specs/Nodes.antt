@@ -93,6 +93,8 @@ expr_step (t.Monadic at o a) = sign o ∷ a
 expr_step (t.Dyadic at o a b) = a ++ sign o ∷ b
 expr_step (t.Cand at a b) = a ++ b
 expr_step (t.Cor at a b) = a ++ b
+expr_step (t.Index at of index) = of ++ index
+expr_step (t.Field at of field) = of ++ other field ∷ []
 expr_step _ = unbuilt ∷ []
 
 abbrev pub limit_step : Layer Limit-F → List Node

@@ -89,7 +89,15 @@ fn in_expr<V: Visitor>(visitor: V, expr: &Expr) -> V
             let visitor = in_expr(visitor, left.get());
             in_expr(visitor, right.get())
         }
-        _ => visitor.visit(Node::Unbuilt),
+        Expr::Index { of, index, .. } => {
+            let visitor = in_expr(visitor, of.get());
+            in_expr(visitor, index.get())
+        }
+        Expr::Field { of, field, .. } => {
+            let visitor = in_expr(visitor, of.get());
+            visitor.visit(Node::Other(field))
+        }
+        Expr::Procedure(_, _) => visitor.visit(Node::Unbuilt),
     }
 }
 

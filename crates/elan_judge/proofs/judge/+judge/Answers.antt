@@ -17,12 +17,12 @@ use Rattle.elan_judge.specs.Shape as shape
 use Rattle.elan_judge.specs.walks.Steps as walk
 use Rattle.elan_judge.proofs.Rows.{row_goes, two_more, roles_go, roles_end, row_is, one_is, branches_go, branches_end, cases_go, cases_end}
 use Rattle.elan_judge.proofs.Rows.{first_fails, first_is, whole_fails, whole_is}
-use Rattle.elan_judge.proofs.Shapes.{units_of, units_absent, units_written, choice_parts, case_parts, loop_of, choice_is, selection_is, cand_is, cor_is}
+use Rattle.elan_judge.proofs.Shapes.{units_of, units_absent, units_written, choice_parts, case_parts, loop_of, choice_is, selection_is, cand_is, cor_is, index_is}
 use Rattle.elan_judge.proofs.Shapes.{loop_is, branch_shape, case_shape, counter_shape, item_is, variables_is, constants_is, let_is}
 use Rattle.elan_judge.proofs.judge.+judge.Goals as goal
 use Rattle.elan_judge.proofs.judge.+judge.Goals.{judge-in-None, judge-in-Some, judge-in-None-otherwise, judge-in-Some-otherwise}
 
--- ---- IF, SELECT, CAND and COR
+-- ---- IF, SELECT, CAND, COR and items
 
 pub judge-judge_units-otherwise-requires-in-Some-otherwise : goal.judge-judge_units-otherwise-requires-in-Some-otherwise
 judge-judge_units-otherwise-requires-in-Some-otherwise t c =
@@ -125,6 +125,13 @@ judge-returns-in-Cor t c =
     c.get-in-Cor-2.result.now c.in-Cor.is c.get-in-Cor.ensures c.get-in-Cor-2.ensures
     (c.cor_phrase.ensures c.args.known.now (shape.expr c.args.scope.now c.get-in-Cor.result.now) (shape.expr c.args.scope.now c.get-in-Cor-2.result.now)
     c.judge-left-in-Cor.ensures c.judge-right-in-Cor.ensures)
+
+pub judge-returns-in-Index : goal.judge-returns-in-Index
+judge-returns-in-Index t c =
+    index_is c.args.scope.now c.args.known.now c.index_phrase.result c.args.expr.now c.in-Index.at c.in-Index.of c.get-in-Index.result.now c.in-Index.index
+    c.get-in-Index-2.result.now c.in-Index.is c.get-in-Index.ensures c.get-in-Index-2.ensures
+    (c.index_phrase.ensures c.args.known.now (shape.expr c.args.scope.now c.get-in-Index.result.now)
+    (shape.expr c.args.scope.now c.get-in-Index-2.result.now) c.judge-of-in-Index.ensures c.judge-index.ensures)
 
 pub judge_exprs-loop-expr-preserved : goal.judge_exprs-loop-expr-preserved
 judge_exprs-loop-expr-preserved t c =
