@@ -34,7 +34,7 @@ use Rattle.elan_walk.specs.Nodes as nodes
 use Rattle.elan_walk.specs.Nodes.{Node, other, sign, of_type, item}
 use Rattle.elan_scope.specs.declared.scope.Usage.TheVariants.{Counter as Counts}
 use Rattle.elan_levels.specs.Declarations as d
-use Rattle.type_names.specs.Types.{defined}
+use Rattle.type_names.specs.Types.{defined_by}
 use Rattle.type_names.specs.declared.definition.Definition.{Definition}
 use Rattle.elan_scope.specs.declared.type_name.TypeName.{TypeName}
 use Rattle.elan_scope.specs.declared.scope.Entry.{Entry}
@@ -87,12 +87,12 @@ module _ (s : Scope) where
 module _ (s : Scope) (ts : List TypeName) where
   -- The scope has what these nodes declare.
   abbrev pub Fine : List Node → Type 0
-  Fine ns = AllNamed s (flat_map (d.declared ts) ns) × AllDefined s (flat_map defined ns)
+  Fine ns = AllNamed s (flat_map (d.declared ts) ns) × AllDefined s (flat_map defined_by ns)
 
   split : (xs ys : List Node) → Fine (xs ++ ys) → Fine xs × Fine ys
   split xs ys h =
       let a = nodes_split (λ (e : Entry). Named s e.name) (d.declared ts) xs ys h.0 in
-      let b = nodes_split (λ (e : Definition). NamedType s e.name) defined xs ys h.1 in
+      let b = nodes_split (λ (e : Definition). NamedType s e.name) defined_by xs ys h.1 in
       ((a.0, b.0), (a.1, b.1))
 
   rest : (x : Node) (xs : List Node) → Fine (x ∷ xs) → Fine xs
@@ -308,8 +308,8 @@ module _ (s : Scope) (ts : List TypeName) where
     expr_in (t.Select at of cases None) h = (arms_odd (form.leaf 0 form.absent) [] cases, selection_in of cases None h)
     expr_in (t.Select at of cases (Some us)) h =
         (arms_odd (shape.units Open (map (shape.unit s) (map fst us))) [] cases, selection_in of cases (Some us) h)
-    expr_in (t.Index at of index) h = (tt, tt)
-    expr_in (t.Field at of field) h = (tt, tt)
+    expr_in (t.Index at a b) h = (tt, two_in (shape.expr s a.0) (shape.expr s b.0) (nodes.in_expr a.0) (nodes.in_expr b.0) a.1 b.1 h)
+    expr_in (t.Field at a x) h = let q = split (nodes.in_expr a.0) (other x ∷ []) h in (tt, (a.1 q.0, tt))
     expr_in (t.Monadic at o a) h = (tt, (a.1 (rest (sign o) (nodes.in_expr a.0) h), tt))
     expr_in (t.Dyadic at o a b) h =
         let right : Fine (sign o ∷ nodes.in_expr b.0) → AreServed (shape.expr s b.0) = λ g. b.1 (rest (sign o) (nodes.in_expr b.0) g) in

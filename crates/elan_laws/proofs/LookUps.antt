@@ -1,5 +1,5 @@
 -- What is declared is found, and a refinement that is found is a body.
-use Rattle.std.proofs.Common.{◌≡◌, ℕ, ◌+◌, Bool, true, false, ◌&&◌, if◌then◌else◌, List, [], ◌∷◌, ◌++◌, length, Option, Some}
+use Rattle.std.proofs.Common.{◌≡◌, ℕ, ◌+◌, Bool, true, false, ◌&&◌, if◌then◌else◌, List, [], ◌∷◌, ◌++◌, Option, Some}
 use Rattle.elan_scope.specs.declared.scope.Denotes.TheVariants as denotes
 use Rattle.std.specs.Prelude.{flat_map}
 use Rattle.std.proofs.Common.{None, refl, sym, ap, subst, ◌∙◌, ◌⊎◌, inl, inr}
@@ -21,7 +21,8 @@ use Rattle.elan_scope.specs.declared.scope.Within.{Within}
 use Rattle.elan_scope.specs.declared.scope.Home.{Home}
 use Rattle.elan_scope.specs.declared.heading.Heading.{Heading}
 use Rattle.std.specs.Option.{option_or}
-use Rattle.elan_scope.specs.Scope.{held, first_from, find, find_in, found, found_in, from_inside}
+use Rattle.elan_scope.specs.Names.{cells_held}
+use Rattle.elan_scope.specs.Scope.{first_from, find, find_in, found, found_in, from_inside}
 use Rattle.elan_scope.proofs.Layers.{layers_in, outer_layers}
 use Rattle.elan_scope.proofs.Named.{first_heading_from}
 use Rattle.elan_scope.specs.Scope.{first_heading, is_refinement, is_refined, number_in, number_of, refinement_in}
@@ -33,7 +34,7 @@ use Rattle.std.proofs.lemmas.Bool.Decides.{Decides-eqb}
 use Rattle.elan_levels.specs.Declarations as d
 use Rattle.elan_scope.specs.declared.type_name.TypeName.{TypeName}
 use Rattle.elan_scope.specs.Types.{first_type}
-use Rattle.type_names.specs.Types.{type_name, names_from, names_of}
+use Rattle.type_names.specs.Types.{type_name, names_from, names_of, in_units, in_refinements, refinement_definitions}
 use Rattle.type_names.specs.declared.definition.Definition.{Definition}
 use Rattle.elan_levels.specs.Bodies as b
 use Rattle.elan_laws.specs.Served.{HasBody}
@@ -58,6 +59,14 @@ any_second : {A : Type 0} (P : A → Type 0) (xs ys : List A) → Any P ys → A
 any_second P [] ys h = h
 any_second P (x ∷ xs) ys h = inr (any_second P xs ys h)
 
+any_behind : {A : Type 0} (P : A → Type 0) (xs ys zs : List A) → (Any P ys → Any P zs) → Any P (xs ++ ys) → Any P (xs ++ zs)
+any_behind P [] ys zs f h = f h
+any_behind P (x ∷ xs) ys zs f h =
+    elim h [
+      | inl i ↦ inl i
+      | inr i ↦ inr (any_behind P xs ys zs f i)
+    ]
+
 abbrev pub Has : List Entry → List ℕ → Type 0
 Has es x = Any (λ (e : Entry). e.name ≡ x) es
 
@@ -67,7 +76,7 @@ in_first xs ys x h = any_first (λ (e : Entry). e.name ≡ x) xs ys h
 pub in_second : (xs ys : List Entry) (x : List ℕ) → Has ys x → Has (xs ++ ys) x
 in_second xs ys x h = any_second (λ (e : Entry). e.name ≡ x) xs ys h
 
--- These define a type of that name.
+-- These define that name.
 abbrev pub Defines : List Definition → List ℕ → Type 0
 Defines ds x = Any (λ (e : Definition). e.name ≡ x) ds
 
@@ -76,6 +85,13 @@ defined_first xs ys x h = any_first (λ (e : Definition). e.name ≡ x) xs ys h
 
 pub defined_second : (xs ys : List Definition) (x : List ℕ) → Defines ys x → Defines (xs ++ ys) x
 defined_second xs ys x h = any_second (λ (e : Definition). e.name ≡ x) xs ys h
+
+-- what refinements declare is defined with their names
+pub refined : (rs : List Refinement) (x : List ℕ) → Defines (in_refinements rs) x → Defines (refinement_definitions rs) x
+refined [] x h = absurd h
+refined (r ∷ rs) x h =
+    inr
+    (any_behind (λ (e : Definition). e.name ≡ x) (in_units r.units) (in_refinements rs) (refinement_definitions rs) (refined rs x) h)
 
 pub bytes_self : (x : List ℕ) → bytes_eq x x ≡ true
 bytes_self x = (bytes_eq-Decides x x).1 refl
@@ -89,11 +105,11 @@ first_is k (e ∷ es) x h =
     by_test (bytes_eq e.name x) refl
     (elim h [
       | inl g ↦ inl (subst (λ (y : List ℕ). bytes_eq e.name y ≡ true) g (bytes_self e.name))
-      | inr g ↦ inr (first_is (k + length (held e.denotes)) es x g)
+      | inr g ↦ inr (first_is (k + cells_held e.denotes) es x g)
     ])
   where
-    by_test : (c : Bool) → bytes_eq e.name x ≡ c → (bytes_eq e.name x ≡ true) ⊎ (is_some (first_from (k + length (held e.denotes)) es x) ≡ true)
-        → is_some (if c then Some (k, e) else first_from (k + length (held e.denotes)) es x) ≡ true
+    by_test : (c : Bool) → bytes_eq e.name x ≡ c → (bytes_eq e.name x ≡ true) ⊎ (is_some (first_from (k + cells_held e.denotes) es x) ≡ true)
+        → is_some (if c then Some (k, e) else first_from (k + cells_held e.denotes) es x) ≡ true
     by_test true i g = refl
     by_test false i g =
         elim g [
@@ -233,10 +249,10 @@ lead_append z (e ∷ es) gs h g = (h.0, lead_append z es gs h.1 g)
 
 found_leads : (z : Scope) (x : List ℕ) (home : Home) (k : ℕ) (es : List Entry) → AllLead z es → Leads z x (found_in home (first_from k es x))
 found_leads z x home k [] h = tt
-found_leads z x home k (e ∷ es) h = by_test (bytes_eq e.name x) refl (found_leads z x home (k + length (held e.denotes)) es h.1)
+found_leads z x home k (e ∷ es) h = by_test (bytes_eq e.name x) refl (found_leads z x home (k + cells_held e.denotes) es h.1)
   where
-    by_test : (c : Bool) → bytes_eq e.name x ≡ c → Leads z x (found_in home (first_from (k + length (held e.denotes)) es x))
-        → Leads z x (found_in home (if c then Some (k, e) else first_from (k + length (held e.denotes)) es x))
+    by_test : (c : Bool) → bytes_eq e.name x ≡ c → Leads z x (found_in home (first_from (k + cells_held e.denotes) es x))
+        → Leads z x (found_in home (if c then Some (k, e) else first_from (k + cells_held e.denotes) es x))
     by_test true i g = λ r. subst (IsBody z) ((bytes_eq-Decides e.name x).0 i) (h.0 r)
     by_test false i g = g
 

@@ -3,8 +3,9 @@ use Rattle.eu_base.specs.declared.operation.Way.{Way}
 use Rattle.std.proofs.Common.{ℕ, ℤ, Bool, true, false, ◌&&◌, if◌then◌else◌, nat_le, List, [], ◌∷◌, length, drop, Option, Some, None, nat_eq, zero, suc}
 use Rattle.elan_types.specs.declared.elan_type.ElanType.{ElanType}
 use Rattle.elan_types.specs.declared.elan_type.ElanType.TheVariants as type
-use Rattle.elan_types.specs.Types.{concrete, shape_in, is_own}
+use Rattle.elan_types.specs.Types.{concrete, shape_in, has_own, items, field}
 use Rattle.std.specs.Option.{option_map_or}
+use Rattle.elan_types.specs.declared.core_phrase.PlacePhrase.TheVariants as place
 use Rattle.elan_types.specs.declared.core_phrase.ValuePhrase.TheVariants as value
 use Rattle.elan_types.specs.declared.why.Why.{Why}
 use Rattle.elan_types.specs.declared.why.Why.TheVariants as why
@@ -156,6 +157,27 @@ module _ (ns : List ℕ) where
     concr_placed (Value q t x) = concr_as_placed (concrete t) (λ z. Value at z x) (λ z. here)
     concr_placed _ = here
 
+    item_as_placed : (o : Option (ℕ × ElanType)) (go : ℕ × ElanType → Meant) → ((q : ℕ × ElanType) → Placed (go q)) → Tells Placed (v.item_as at o go)
+    item_as_placed (Some q) go h = h q
+    item_as_placed None go h = here
+
+    item_placed : (m : Meant) (i : ValuePhrase) → Tells Placed (v.item at m i)
+    item_placed (Variable q t x) i = item_as_placed (items t) (λ z. Variable at z.1 (place.Item x i (v.items_of z))) (λ z. here)
+    item_placed (Value q t x) i = item_as_placed (items t) (λ z. Value at z.1 (value.Pick x i (v.items_of z) (shape_in z.1))) (λ z. here)
+    item_placed _ i = here
+
+    indexed_placed : (m i : Meant) → Tells Placed (v.indexed at m i)
+    indexed_placed m i = on_if Placed (delivers type.Int i) (v.item at m (p.value_of i)) (breaks (at, why.WrongType)) (item_placed m (p.value_of i)) here
+
+    field_as_placed : (o : Option (ℕ × ElanType)) (go : ℕ × ElanType → Meant) → ((q : ℕ × ElanType) → Placed (go q)) → Tells Placed (v.field_as at o go)
+    field_as_placed (Some q) go h = h q
+    field_as_placed None go h = here
+
+    field_part_placed : (x : List ℕ) (m : Meant) → Tells Placed (v.field_part at x m)
+    field_part_placed x (Variable q t y) = field_as_placed (field t x) (λ z. Variable at z.1 (place.Field y z.0)) (λ z. here)
+    field_part_placed x (Value q t y) = field_as_placed (field t x) (λ z. Value at z.1 (value.Take y (v.part_of t z) (shape_in z.1))) (λ z. here)
+    field_part_placed x _ = here
+
     -- ---- calls
 
     given_as_placed : (a : Access) (t : ElanType) (m : Meant) → Placed m → Tells Any (r.given_as at a t m)
@@ -269,7 +291,7 @@ module _ (ns : List ℕ) where
 
     assigned_placed : (m n : Meant) → Placed m → Tells Placed (u.assigned at m n)
     assigned_placed m n h =
-        on_if Placed (option_map_or is_own (p.type_in m) false) _ _ here (on_bind Any Placed (u.stored at m n) _ (stored_placed m n h) (λ a k. tt))
+        on_if Placed (option_map_or has_own (p.type_in m) false) _ _ here (on_bind Any Placed (u.stored at m n) _ (stored_placed m n h) (λ a k. tt))
 
     initial_placed : (m n : Meant) → Placed m → Tells Placed (u.initial at m n)
     initial_placed m n h = on_bind Any Placed (u.stored at m n) _ (stored_placed m n h) (λ a k. tt)
@@ -360,6 +382,8 @@ module _ (ns : List ℕ) where
   rule_placed at (form.applied s sort x) ms h g = applied_placed at h s sort x ms g
   rule_placed at form.bracket ms h g = bracketed_placed at h (p.nth ms 0)
   rule_placed at form.concr ms h g = concr_placed at h (p.nth ms 0)
+  rule_placed at form.index ms h g = indexed_placed at h (p.nth ms 0) (p.nth ms 1)
+  rule_placed at (form.field x) ms h g = field_part_placed at h x (p.nth ms 0)
   rule_placed at form.cand ms h g =
       or_broken at h (value_walk.are_truths (p.nth ms 0) (p.nth ms 1))
       (value_walk.decided at false (p.value_of (p.nth ms 0)) (p.value_of (p.nth ms 1))) why.WrongType h

@@ -230,8 +230,8 @@ module _ (s : Scope) where
       (both (whole (shape.expr s of.0) of.1)
       (parts_follow (shape.arms s [] (map (shape.case s) (map fst cases))) (shape.units Open (map (shape.unit s) (map fst us)) ∷ []) (arms_follow [] cases)
       (one_part (shape.units Open (map (shape.unit s) (map fst us))) (units_follow Open us))))
-  expr_starts (t.Index a of index) = placed a nothing
-  expr_starts (t.Field a of field) = placed a nothing
+  expr_starts (t.Index a b c) = placed a (two_parts (shape.expr s b.0) (shape.expr s c.0) (whole (shape.expr s b.0) b.1) (whole (shape.expr s c.0) c.1))
+  expr_starts (t.Field a b x) = placed a (one_part (shape.expr s b.0) (whole (shape.expr s b.0) b.1))
   expr_starts (t.Monadic a o b) = placed a (one_part (shape.expr s b.0) (whole (shape.expr s b.0) b.1))
   expr_starts (t.Dyadic a o b c) = placed a (two_parts (shape.expr s b.0) (shape.expr s c.0) (whole (shape.expr s b.0) b.1) (whole (shape.expr s c.0) c.1))
   expr_starts (t.Cand a b c) = placed a (two_parts (shape.expr s b.0) (shape.expr s c.0) (whole (shape.expr s b.0) b.1) (whole (shape.expr s c.0) c.1))

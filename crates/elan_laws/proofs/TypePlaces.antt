@@ -1,18 +1,26 @@
 -- The faults of types stand in text order.
-use Rattle.std.proofs.Common.{◌≡◌, ℕ, Bool, true, false, ◌||◌, not, if◌then◌else◌, List, [], ◌∷◌, ◌++◌, Option, Some, None, refl, sym, ap, subst, ◌∙◌}
+use Rattle.std.proofs.Common.{◌≡◌, ℕ, ℤ, Bool, true, false, ◌&&◌, ◌||◌, not, if◌then◌else◌, List, [], ◌∷◌, ◌++◌, Option, Some, None, refl, sym, ap, subst, ◌∙◌}
 use Rattle.std.proofs.Common.{append_assoc}
 use Rattle.std.specs.Prelude.{map, flat_map}
-use Rattle.std.specs.List.{list_any}
+use Rattle.std.specs.List.{list_all, list_any}
+use Rattle.std.specs.Str.{bytes_eq}
 use Rattle.std.specs.Option.{is_some}
+use Rattle.elan_types.specs.declared.elan_type.ElanType.{ElanType}
 use Rattle.elan_types.specs.declared.elan_type.ElanType.TheVariants as elan
-use Rattle.elan_types.specs.Types.{is_open}
-use Rattle.elan_types.proofs.Types.{int_closed, bool_closed, text_closed}
-use Rattle.elan_types.specs.declared.why.Why.TheVariants.{Unknown, WrongPlace}
+use Rattle.elan_types.specs.declared.elan_type.FieldType.{FieldType}
+use Rattle.elan_types.specs.Types.{is_open, is_too_large}
+use Rattle.elan_types.specs.declared.why.Why.TheVariants.{Unknown, Doubled, WrongType, WrongPlace, TooLarge}
 use Rattle.elan_tree.specs.declared.written_type.Name.{Name}
 use Rattle.elan_tree.specs.declared.written_type.TypePhrase.{TypePhrase}
-use Rattle.elan_tree.specs.declared.written_type.TypePhrase.TheVariants as type
+use Rattle.elan_tree.specs.declared.written_type.TypePhrase.TheOpen as type
+use Rattle.elan_tree.specs.declared.written_type.TypePhrase.TheOpen.{TypePhrase-F, Field-F}
+use Rattle.elan_tree.specs.declared.written_type.TypePhrase.TheFolds.{ind-TypePhrase, map-TypePhrase, map-Field, fold-roll-TypePhrase, fold-roll-Field}
+use Rattle.elan_tree.specs.declared.written_type.Field.{Field, roll-Field}
+use Rattle.elan_tree.specs.declared.written_type.Size.{Size}
+use Rattle.elan_tree.specs.declared.written_type.Size.TheVariants as sizes
 use Rattle.elan_tree.specs.declared.written_type.Formal.{Formal}
 use Rattle.elan_tree.specs.declared.tree.Body.{Body}
+use Rattle.elan_tree.specs.declared.tree.Refinement.{Refinement}
 use Rattle.elan_tree.specs.declared.tree.LevelUnit.{LevelUnit}
 use Rattle.elan_tree.specs.declared.tree.LevelUnit.TheVariants as level
 use Rattle.elan_tree.specs.declared.tree.Tree.{Tree}
@@ -21,23 +29,32 @@ use Rattle.elan_walk.specs.Nodes as nodes
 use Rattle.elan_walk.specs.Nodes.{Node, alone, other, sign, of_type, item, let_name, abbreviation, new_type, unbuilt}
 use Rattle.elan_unbuilt.specs.Names.{is_not_built}
 use Rattle.elan_unbuilt.specs.NotBuilt as built
-use Rattle.elan_unbuilt.specs.Types.{is_type_built}
-use Rattle.elan_scope.specs.Types.{first_type}
+use Rattle.elan_unbuilt.specs.Types.{is_type_built, is_field_built, is_size_built, are_names_built, built_step, field_built_step}
+use Rattle.elan_scope.specs.declared.type_name.TypeName.{TypeName}
+use Rattle.elan_scope.specs.declared.type_name.Named.{Named}
+use Rattle.elan_scope.specs.declared.type_name.Named.TheVariants as named
 use Rattle.elan_scope.specs.Ruled.{Fault}
-use Rattle.type_names.specs.declared.definition.Written.{Written}
 use Rattle.type_names.specs.declared.definition.Definition.{Definition}
-use Rattle.type_names.specs.Types.{written, first_from, names_of, body_definitions, level_definitions}
+use Rattle.type_names.specs.Types.{first_from, names_of, body_definitions, level_definitions, look, size_in, size_of, is_broken}
 use Rattle.type_names.specs.Faults as faults
-use Rattle.type_names.specs.Faults.{Here, here}
+use Rattle.type_names.specs.Faults.{Here, here, Judged, JudgedFields}
 use Rattle.elan_bodies.specs.Level.{level_in}
 use Rattle.elan_laws.specs.Places as at
 use Rattle.elan_laws.specs.Places.{type_places}
 use Rattle.elan_laws.specs.Order.{Follows, ends}
-use Rattle.elan_laws.proofs.Through.{beside, all_of_it}
+use Rattle.elan_laws.proofs.Through.{beside, before, later, all_of_it}
 
 neither : (a b : Bool) → (a || b) ≡ false → (a ≡ false) × (b ≡ false)
 neither true b e = absurd cc
 neither false b e = (refl, e)
+
+both_of : (a b : Bool) → (a && b) ≡ true → (a ≡ true) × (b ≡ true)
+both_of true b e = (refl, e)
+both_of false b e = absurd cc
+
+not_false : (a : Bool) → not a ≡ false → a ≡ true
+not_false true e = refl
+not_false false e = absurd cc
 
 any_split : (xs ys : List Node) → list_any built.node (xs ++ ys) ≡ false → (list_any built.node xs ≡ false) × (list_any built.node ys ≡ false)
 any_split [] ys h = (refl, h)
@@ -66,9 +83,13 @@ may_tell : (a : ℕ) (b : Bool) (g : Fault) → g.0 ≡ a → Follows (told_at (
 may_tell a true g e = subst (λ (n : ℕ). Follows (g.0 ∷ []) (n ∷ [])) e (all_of_it (g.0 ∷ []))
 may_tell a false g e = ends (a ∷ [])
 
--- a fault that is not told
-none_told : (b : Bool) → b ≡ false → Follows (told_at (if b then (0, Unknown) ∷ [] else [])) []
-none_told b e = subst (λ (c : Bool). Follows (told_at (if c then (0, Unknown) ∷ [] else [])) []) (sym e) (ends [])
+may_not_tell : (a : ℕ) (b : Bool) (g : Fault) → g.0 ≡ a → Follows (told_at (if b then [] else g ∷ [])) (a ∷ [])
+may_not_tell a true g e = ends (a ∷ [])
+may_not_tell a false g e = may_tell a true g e
+
+one_of_two : (a : ℕ) (b : Bool) (f g : Fault) → f.0 ≡ a → g.0 ≡ a → Follows (told_at (if b then f ∷ [] else g ∷ [])) (a ∷ [])
+one_of_two a true f g e i = may_tell a true f e
+one_of_two a false f g e i = may_tell a true g i
 
 -- ---- nodes
 
@@ -80,31 +101,136 @@ types_append [] ys = refl
 types_append (x ∷ xs) ys =
     ap (λ (ns : List ℕ). at.node_types x ++ ns) (types_append xs ys) ∙ sym (append_assoc (at.node_types x) (types_in xs) (types_in ys))
 
-module _ (h : Here) where
-  written_follows : (of : TypePhrase) → not (is_type_built of) ≡ false → Follows (told_at (faults.written_faults h (written of))) (at.type_name of)
-  written_follows (type.Int a) b = none_told (is_open elan.Int) int_closed
-  written_follows (type.Bool a) b = none_told (is_open elan.Bool) bool_closed
-  written_follows (type.Text a) b = none_told (is_open elan.Text) text_closed
-  written_follows (type.Named n) b = by_test (is_some (first_type n.text h.seen))
-    where
-      by_test : (c : Bool) → Follows (told_at (if c then [] else (n.at, Unknown) ∷ [])) (n.at ∷ [])
-      by_test true = ends (n.at ∷ [])
-      by_test false = all_of_it (n.at ∷ [])
-  written_follows of b = absurd cc
+-- where these names can be seen, and these are the refinements of the level
+module _ (seen : List TypeName) (rs : List Refinement) where
+  abbrev WrittenFollows : TypePhrase → Type 0
+  WrittenFollows of = is_type_built of ≡ true → Follows (told_at (faults.judged seen rs of).faults) (at.type_phrase of)
 
-  named_follows : (a : ℕ) (w : Written) (o : Option (ℕ × Definition)) → Follows (told_at (faults.named_faults h a w o)) (a ∷ [])
-  named_follows a w None = ends (a ∷ [])
-  named_follows a w (Some d) = may_tell a (faults.contains_itself h a w d) (a, WrongPlace) refl
+  -- the faults of the type of fields, and behind them those of their names, where these stand before
+  abbrev FieldFollows : Field → Type 0
+  FieldFollows f = is_field_built f ≡ true → (earlier : List (List ℕ))
+      → Follows (told_at ((faults.judged_fields seen rs f).faults ++ faults.doubled_names earlier (faults.judged_fields seen rs f).names)) (at.field f)
+
+  abbrev WrittenOne : Type 0
+  WrittenOne = (of : TypePhrase) × WrittenFollows of
+
+  abbrev FieldOne : Type 0
+  FieldOne = (f : Field) × FieldFollows f
+
+  name_follows : (n : Name) (o : Option Named) → Follows (told_at (faults.name_faults seen rs n o)) (n.at ∷ [])
+  name_follows n None = all_of_it (n.at ∷ [])
+  name_follows n (Some (named.Of t)) = ends (n.at ∷ [])
+  name_follows n (Some (named.Size k)) = all_of_it (n.at ∷ [])
+  name_follows n (Some named.Other) = all_of_it (n.at ∷ [])
+
+  range_follows : (a : ℕ) (n : ℤ) → Follows (told_at (faults.size_range a n)) (a ∷ [])
+  range_follows a n = may_not_tell a (is_some (size_in n)) (a, TooLarge) refl
+
+  size_follows : (size : Size) → Follows (told_at (faults.size_faults seen rs size)) (at.size_place size ∷ [])
+  size_follows (sizes.Number a n) = range_follows a n
+  size_follows (sizes.Named n) = by_name (look seen n.text)
+    where
+      by_name : (o : Option Named) → Follows (told_at (faults.size_named_fault seen rs n o)) (n.at ∷ [])
+      by_name None = one_of_two n.at (faults.is_known seen rs n.text) (n.at, WrongType) (n.at, Unknown) refl refl
+      by_name (Some (named.Of t)) = all_of_it (n.at ∷ [])
+      by_name (Some (named.Size k)) = range_follows n.at k
+      by_name (Some named.Other) = all_of_it (n.at ∷ [])
+
+  large_follows : (a : ℕ) (sound : Bool) (t : ElanType) → Follows (told_at (faults.large_fault a sound t)) (a ∷ [])
+  large_follows a sound t = may_tell a (sound && is_too_large t) (a, TooLarge) refl
+
+  row_fault_follows : (a : ℕ) (o : Option ℕ) (t : ElanType) → Follows (told_at (faults.row_fault a o t)) (a ∷ [])
+  row_fault_follows a None t = ends (a ∷ [])
+  row_fault_follows a (Some n) t = large_follows a (not (is_open t)) (elan.Row n t)
+
+  structure_follows : (a : ℕ) (fs : List FieldType) → Follows (told_at (faults.structure_fault a fs)) (a ∷ [])
+  structure_follows a [] = all_of_it (a ∷ [])
+  structure_follows a (f ∷ fs) = large_follows a (not (is_broken (f ∷ fs))) (elan.Struct (f ∷ fs))
+
+  doubled_follow : (earlier : List (List ℕ)) (ns : List Name) → Follows (told_at (faults.doubled_names earlier ns)) (at.names ns)
+  doubled_follow earlier [] = ends []
+  doubled_follow earlier (n ∷ ns) =
+      two_lists (faults.doubled_name earlier n) (faults.doubled_names (earlier ++ n.text ∷ []) ns)
+      (may_tell n.at (list_any (λ x. bytes_eq x n.text) earlier) (n.at, Doubled) refl) (doubled_follow (earlier ++ n.text ∷ []) ns)
+
+  fields_follow : (earlier : List (List ℕ)) (fs : List FieldOne) → list_all (λ b. b) (map is_field_built (map (λ e. e.0) fs)) ≡ true
+      → Follows (told_at (faults.fields_faults earlier (map (faults.judged_fields seen rs) (map (λ e. e.0) fs)))) (at.all (map at.field (map (λ e. e.0) fs)))
+  fields_follow earlier [] b = ends []
+  fields_follow earlier (f ∷ fs) b =
+      let q = both_of (is_field_built f.0) (list_all (λ b. b) (map is_field_built (map (λ e. e.0) fs))) b in
+      let j = faults.judged_fields seen rs f.0 in
+      let further = earlier ++ map (λ (n : Name). n.text) j.names in
+      two_lists (j.faults ++ faults.doubled_names earlier j.names) (faults.fields_faults further (map (faults.judged_fields seen rs) (map (λ e. e.0) fs)))
+      (f.1 q.0 earlier) (fields_follow further fs q.1)
+
+  written_here : (y : TypePhrase-F WrittenOne FieldOne)
+      → built_step (map-TypePhrase _ _ _ _ is_type_built is_field_built (map-TypePhrase _ _ _ _ (λ e. e.0) (λ e. e.0) y)) ≡ true
+      → Follows (told_at (faults.judged_step seen rs
+      (map-TypePhrase _ _ _ _ (faults.judged seen rs) (faults.judged_fields seen rs) (map-TypePhrase _ _ _ _ (λ e. e.0) (λ e. e.0) y))).faults)
+      (at.written_step (map-TypePhrase _ _ _ _ at.type_phrase at.field (map-TypePhrase _ _ _ _ (λ e. e.0) (λ e. e.0) y)))
+  written_here (type.Int a) b = ends []
+  written_here (type.Bool a) b = ends []
+  written_here (type.Text a) b = ends []
+  written_here (type.Task a) b = absurd cc
+  written_here (type.Dataspace a) b = absurd cc
+  written_here (type.Named n) b = name_follows n (look seen n.text)
+  written_here (type.Row a size of) b =
+      let q = both_of (is_size_built size) (is_type_built of.0) b in
+      let o = size_of (look seen) size in
+      let j = faults.judged seen rs of.0 in
+      two_lists (faults.row_fault a o j.of ++ faults.size_faults seen rs size) j.faults
+      (two_lists (faults.row_fault a o j.of) (faults.size_faults seen rs size) (row_fault_follows a o j.of) (size_follows size)) (of.1 q.1)
+  written_here (type.Struct a fields) b =
+      let js = map (faults.judged_fields seen rs) (map (λ e. e.0) fields) in
+      let fs = flat_map (λ (f : JudgedFields). f.fields) js in
+      two_lists (faults.structure_fault a fs) (faults.fields_faults [] js) (structure_follows a fs) (fields_follow [] fields b)
+
+  field_here : (y : Field-F WrittenOne FieldOne)
+      → field_built_step (map-Field _ _ _ _ is_type_built is_field_built (map-Field _ _ _ _ (λ e. e.0) (λ e. e.0) y)) ≡ true → (earlier : List (List ℕ))
+      → Follows (told_at ((faults.judged seen rs y.of.0).faults ++ faults.doubled_names earlier y.names)) (at.type_phrase y.of.0 ++ at.names y.names)
+  field_here y b earlier =
+      let q = both_of (is_type_built y.of.0) (are_names_built y.names) b in
+      two_lists (faults.judged seen rs y.of.0).faults (faults.doubled_names earlier y.names) (y.of.1 q.0) (doubled_follow earlier y.names)
+
+  field_follows : (y : Field-F WrittenOne FieldOne) → FieldFollows (roll-Field (map-Field _ _ _ _ (λ e. e.0) (λ e. e.0) y))
+  field_follows y b earlier =
+      let z = map-Field _ _ _ _ (λ e. e.0) (λ e. e.0) y in
+      let built_so = fold-roll-Field Bool Bool built_step field_built_step z in
+      let judged_so = fold-roll-Field Judged JudgedFields (faults.judged_step seen rs) (faults.judged_fields_step seen rs) z in
+      let placed_so = fold-roll-Field (List ℕ) (List ℕ) at.written_step at.field_step z in
+      let j = faults.judged_fields seen rs (roll-Field z) in
+      subst (Follows (told_at (j.faults ++ faults.doubled_names earlier j.names))) (sym placed_so)
+      (subst (λ (j : JudgedFields). Follows (told_at (j.faults ++ faults.doubled_names earlier j.names)) (at.type_phrase y.of.0 ++ at.names y.names))
+      (sym judged_so) (field_here y (sym built_so ∙ b) earlier))
+
+  written_follows : (of : TypePhrase) → WrittenFollows of
+  written_follows =
+      ind-TypePhrase WrittenFollows FieldFollows
+      (λ x y is. rw (← is) (rw (fold-roll-TypePhrase Bool Bool, fold-roll-TypePhrase Judged JudgedFields, fold-roll-TypePhrase (List ℕ) (List ℕ)) (written_here y)))
+      (λ x y is. rw (← is) (field_follows y))
+
+module _ (h : Here) where
+  named_follows : (a : ℕ) (of : TypePhrase) (o : Option (ℕ × Definition)) → Follows (told_at (faults.named_faults h a of o)) (a ∷ [])
+  named_follows a of None = ends (a ∷ [])
+  named_follows a of (Some d) = may_tell a (faults.contains_itself h a of d) (a, WrongPlace) refl
+
+  or_follows : (a : ℕ) (fs gs : List Fault) (ns : List ℕ) → Follows (told_at fs) ns → Follows (told_at gs) (a ∷ [])
+      → Follows (told_at (faults.or_named h fs gs)) (a ∷ ns)
+  or_follows a [] gs ns h k = before ns k
+  or_follows a (f ∷ fs) gs ns h k = later a h
+
+  built_follows : (of : TypePhrase) → not (is_type_built of) ≡ false → Follows (told_at (faults.written_faults h of)) (at.type_phrase of)
+  built_follows of b = written_follows h.seen h.refinements of (not_false (is_type_built of) b)
 
   definition_follows : (a : ℕ) (n : Name) (of : TypePhrase) → not (is_type_built of) ≡ false
-      → Follows (told_at (faults.definition_faults h a n (written of))) (a ∷ at.type_name of)
+      → Follows (told_at (faults.definition_faults h a n of)) (a ∷ at.type_phrase of)
   definition_follows a n of b =
       let o = first_from 0 h.definitions n.text in
-      two_lists (faults.named_faults h a (written of) o) (faults.written_faults h (written of)) (named_follows a (written of) o) (written_follows of b)
+      or_follows a (faults.written_faults h of) (faults.named_faults h a of o) (at.type_phrase of) (built_follows of b) (named_follows a of o)
 
   node_follows : (n : Node) → built.node n ≡ false → Follows (told_at (faults.node_faults h n)) (at.node_types n)
-  node_follows (of_type of) b = written_follows of b
-  node_follows (item held of n) b = let q = neither (not (is_type_built of)) (is_not_built n.text) b in written_follows of q.0
+  node_follows (of_type of) b = built_follows of b
+  node_follows (item held of n) b = let q = neither (not (is_type_built of)) (is_not_built n.text) b in built_follows of q.0
   node_follows (abbreviation n of) b = definition_follows n.at n of b
   node_follows (new_type a n of) b = definition_follows a n of b
   node_follows (alone n) b = ends []
@@ -124,7 +250,7 @@ module _ (h : Here) where
 grouped : (a b c d : List ℕ) → (a ++ b) ++ (c ++ d) ≡ a ++ ((b ++ c) ++ d)
 grouped a b c d = append_assoc a b (c ++ d) ∙ sym (ap (λ (l : List ℕ). a ++ l) (append_assoc b c d))
 
-module _ (ds : List Definition) (r : Option TypePhrase) (fs : List Formal) (b : Body) where
+module _ (ds : List Definition) (rs : List Refinement) (r : Option TypePhrase) (fs : List Formal) (b : Body) where
   abbrev given : List Node
   given = nodes.formals fs
 
@@ -141,13 +267,13 @@ module _ (ds : List Definition) (r : Option TypePhrase) (fs : List Formal) (b : 
       (types_append (given ++ units) rest ∙ ap (λ (l : List ℕ). l ++ types_in rest) (types_append given units))
 
   routine_follows : list_any built.node (nodes.result r) ≡ false → list_any built.node (nodes.body fs b) ≡ false
-      → Follows (told_at (faults.routine_faults ds r fs b)) (types_in (nodes.result r) ++ types_in (nodes.body fs b))
+      → Follows (told_at (faults.routine_faults ds rs r fs b)) (types_in (nodes.result r) ++ types_in (nodes.body fs b))
   routine_follows g h =
       let p = any_split (given ++ units) rest h in
       let q = any_split given units p.0 in
-      let heading = here [] ds in
-      let inside = here (names_of [] ds) (body_definitions b) in
-      subst (Follows (told_at (faults.routine_faults ds r fs b)))
+      let heading = here [] ds rs in
+      let inside = here (names_of [] ds) (body_definitions fs b) [] in
+      subst (Follows (told_at (faults.routine_faults ds rs r fs b)))
       (grouped (types_in (nodes.result r)) (types_in given) (types_in units) (types_in rest) ∙ sym body_types_are)
       (two_lists (faults.nodes_faults heading (nodes.result r ++ given)) (faults.nodes_faults inside (units ++ rest))
       (subst (Follows (told_at (faults.nodes_faults heading (nodes.result r ++ given)))) (types_append (nodes.result r) given)
@@ -163,36 +289,37 @@ module _ (ds : List Definition) (r : Option TypePhrase) (fs : List Formal) (b : 
 
 -- ---- the level
 
-module _ (ds : List Definition) where
+module _ (ds : List Definition) (rs : List Refinement) where
   unit_follows : (u : LevelUnit) → list_any built.node (nodes.level_unit u) ≡ false
-      → Follows (told_at (faults.unit_faults ds u)) (types_in (nodes.level_unit u))
-  unit_follows (level.Plain u) h = nodes_follow (here [] ds) (nodes.in_unit u) h
-  unit_follows (level.NewType a n of) h = nodes_follow (here [] ds) (new_type a n of ∷ []) h
+      → Follows (told_at (faults.unit_faults ds rs u)) (types_in (nodes.level_unit u))
+  unit_follows (level.Plain u) h = nodes_follow (here [] ds rs) (nodes.in_unit u) h
+  unit_follows (level.NewType a n of) h = nodes_follow (here [] ds rs) (new_type a n of ∷ []) h
   unit_follows (level.Proc a r n fs b) h =
       let q = any_split (nodes.result r) (other n ∷ nodes.body fs b) h in
-      subst (Follows (told_at (faults.routine_faults ds r fs b))) (sym (types_append (nodes.result r) (other n ∷ nodes.body fs b)))
-      (routine_follows ds r fs b q.0 (any_rest (other n) (nodes.body fs b) q.1))
+      subst (Follows (told_at (faults.routine_faults ds rs r fs b))) (sym (types_append (nodes.result r) (other n ∷ nodes.body fs b)))
+      (routine_follows ds rs r fs b q.0 (any_rest (other n) (nodes.body fs b) q.1))
   unit_follows (level.Op a r n fs b) h =
       let q = any_split (nodes.result r) (sign n.operator ∷ nodes.body fs b) h in
-      subst (Follows (told_at (faults.routine_faults ds r fs b))) (sym (types_append (nodes.result r) (sign n.operator ∷ nodes.body fs b)))
-      (routine_follows ds r fs b q.0 (any_rest (sign n.operator) (nodes.body fs b) q.1))
+      subst (Follows (told_at (faults.routine_faults ds rs r fs b))) (sym (types_append (nodes.result r) (sign n.operator ∷ nodes.body fs b)))
+      (routine_follows ds rs r fs b q.0 (any_rest (sign n.operator) (nodes.body fs b) q.1))
 
   units_follow : (us : List LevelUnit) → list_any built.node (flat_map nodes.level_unit us) ≡ false
-      → Follows (told_at (flat_map (faults.unit_faults ds) us)) (types_in (flat_map nodes.level_unit us))
+      → Follows (told_at (flat_map (faults.unit_faults ds rs) us)) (types_in (flat_map nodes.level_unit us))
   units_follow [] h = ends []
   units_follow (u ∷ us) h =
       let q = any_split (nodes.level_unit u) (flat_map nodes.level_unit us) h in
-      subst (Follows (told_at (faults.unit_faults ds u ++ flat_map (faults.unit_faults ds) us)))
+      subst (Follows (told_at (faults.unit_faults ds rs u ++ flat_map (faults.unit_faults ds rs) us)))
       (sym (types_append (nodes.level_unit u) (flat_map nodes.level_unit us)))
-      (two_lists (faults.unit_faults ds u) (flat_map (faults.unit_faults ds) us) (unit_follows u q.0) (units_follow us q.1))
+      (two_lists (faults.unit_faults ds rs u) (flat_map (faults.unit_faults ds rs) us) (unit_follows u q.0) (units_follow us q.1))
 
 pub faults_follow : (t : Tree) → built.not_built t ≡ false → Follows (told_at (faults.level_faults (level_in t))) (type_places t)
 faults_follow (tree.Program w) h =
     let ds = level_definitions w in
+    let rs = w.refinements in
     let units = flat_map nodes.level_unit w.units in
     let rest = nodes.refinements w.refinements in
     let q = any_split units rest h in
     subst (Follows (told_at (faults.level_faults w))) (sym (types_append units rest))
-    (two_lists (flat_map (faults.unit_faults ds) w.units) (faults.nodes_faults (here [] ds) rest) (units_follow ds w.units q.0)
-    (nodes_follow (here [] ds) rest q.1))
+    (two_lists (flat_map (faults.unit_faults ds rs) w.units) (faults.nodes_faults (here [] ds rs) rest) (units_follow ds rs w.units q.0)
+    (nodes_follow (here [] ds rs) rest q.1))
 faults_follow (tree.Packet a n exports w) h = ends (type_places (tree.Packet a n exports w))

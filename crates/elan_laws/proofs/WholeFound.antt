@@ -1,5 +1,5 @@
 -- All declarations of a text are found.
-use Rattle.std.proofs.Common.{◌≡◌, ℕ, suc, ◌+◌, true, ◌&&◌, ◌==◌, List, [], ◌∷◌, ◌++◌, Option, Some, None, refl, inl, inr}
+use Rattle.std.proofs.Common.{◌≡◌, ℕ, suc, ◌+◌, true, ◌&&◌, List, [], ◌∷◌, ◌++◌, Option, Some, None, refl, inl, inr}
 use Rattle.std.specs.Prelude.{map, flat_map}
 use Rattle.std.specs.Str.{bytes_eq}
 use lib.Pointwise.{pointwise}
@@ -38,7 +38,7 @@ use Rattle.elan_levels.specs.Bodies as b
 use Rattle.elan_bodies.specs.Level as l
 use Rattle.elan_laws.specs.Served.{AreServed, AllServed}
 use Rattle.elan_laws.proofs.Declared.{NamedType, AllNamed, AllDefined, Fine, unit_alone_found, body_units_found}
-use Rattle.elan_laws.proofs.LookUps.{Has, in_first, in_second, Defines, defined_first, defined_second, type_named, bytes_self, named, own}
+use Rattle.elan_laws.proofs.LookUps.{Has, in_first, in_second, Defines, defined_first, defined_second, refined, type_named, bytes_self, named, own}
 use Rattle.elan_laws.proofs.LookUps.{HasHeading, heading_first, heading_second, heading_is, both_true, SubHeadings, Bodies}
 use Rattle.elan_laws.proofs.LookUps.{bodies_of, lead_append, nodes_lead, formals_lead, refinements_lead, units_lead}
 use Rattle.elan_levels.specs.walks.Headings.{all_headings}
@@ -58,8 +58,8 @@ all_defined : (z : Scope) (ds : List Definition) → SubTypes z ds → AllDefine
 all_defined z [] f = tt
 all_defined z (e ∷ es) f = (f e.name (inl refl), all_defined z es (λ x h. f x (inr h)))
 
-fine : (z : Scope) (ts : List TypeName) (ns : List Node) → Sub z (flat_map (d.declared ts) ns) → SubTypes z (flat_map types.defined ns) → Fine z ts ns
-fine z ts ns f g = (all_named z (flat_map (d.declared ts) ns) f, all_defined z (flat_map types.defined ns) g)
+fine : (z : Scope) (ts : List TypeName) (ns : List Node) → Sub z (flat_map (d.declared ts) ns) → SubTypes z (flat_map types.defined_by ns) → Fine z ts ns
+fine z ts ns f g = (all_named z (flat_map (d.declared ts) ns) f, all_defined z (flat_map types.defined_by ns) g)
 
 append_found : (ps qs : List Phrase) → AllServed (all_of ps) → AllServed (all_of qs) → AllServed (all_of (ps ++ qs))
 append_found [] qs h g = g
@@ -83,17 +83,17 @@ formals_found z ts (g ∷ fs) f =
 -- ---- refinements
 
 refinements_found : (z : Scope) (ts : List TypeName) (bodies : Bodies z) (k : ℕ) (rs : List Refinement) → Sub z (b.refinement_names ts rs)
-    → SubTypes z (types.refinement_definitions rs) → AllServed (all_of (l.refinements z k rs))
+    → SubTypes z (types.in_refinements rs) → AllServed (all_of (l.refinements z k rs))
 refinements_found z ts bodies k [] f g = tt
 refinements_found z ts bodies k (r ∷ rs) f g =
     let us = d.in_units ts r.units in
     let ds = types.in_units r.units in
     let inside =
     fine (l.refinement_scope z k) ts (nodes.in_units r.units) (λ x i. f x (inr (in_first us (b.refinement_names ts rs) x i)))
-    (λ x i. g x (defined_first ds (types.refinement_definitions rs) x i)) in (
+    (λ x i. g x (defined_first ds (types.in_refinements rs) x i)) in (
       (tt, ((named z r.name.text (f r.name.text (inl refl)), tt), (body_units_found (l.refinement_scope z k) ts bodies Open r.units inside, tt))),
       refinements_found z ts bodies (suc k) rs (λ x i. f x (inr (in_second us (b.refinement_names ts rs) x i)))
-          (λ x i. g x (defined_second ds (types.refinement_definitions rs) x i)),
+          (λ x i. g x (defined_second ds (types.in_refinements rs) x i)),
     )
 
 -- ---- alike headings
@@ -122,10 +122,10 @@ module _ (s : Scope) (k : ℕ) (at : ℕ) (x : List ℕ) (r : Option TypePhrase)
 
   -- the names of types that can be seen in it
   abbrev seen : List TypeName
-  seen = types.body_types s.types w ++ s.types
+  seen = types.body_types s.types fs w ++ s.types
 
-  body_defined : SubTypes inner (types.body_definitions w)
-  body_defined = λ y j. type_named s.types (types.body_definitions w) y j
+  body_defined : SubTypes inner (types.body_definitions fs w)
+  body_defined = λ y j. type_named s.types (types.body_definitions fs w) y j
 
   routine_found : (sort : Sort) (names : List Phrase) → AllServed (all_of names) → HasHeading s.headings (b.routine_heading s.types sort at x fs r)
       → SubHeadings s (b.refinement_headings (Some k) w.refinements) → AreServed (l.routine s k at x r fs w sort names)
@@ -133,6 +133,7 @@ module _ (s : Scope) (k : ℕ) (at : ℕ) (x : List ℕ) (r : Option TypePhrase)
       let given = b.parameter_names s.types fs in
       let units = d.in_units seen w.units in
       let rest = b.refinement_names seen w.refinements in
+      let cs = types.parameter_definitions fs in
       let ds = types.in_units w.units in
       let es = types.refinement_definitions w.refinements in
       let ps = types_of (b.parameters s.types fs) in
@@ -143,10 +144,10 @@ module _ (s : Scope) (k : ℕ) (at : ℕ) (x : List ℕ) (r : Option TypePhrase)
       let body =
       body_units_found inner seen bodies (delivered (b.result s.types r)) w.units
       (fine inner seen (nodes.in_units w.units) (λ y j. in_second given (units ++ rest) y (in_first units rest y j))
-      (λ y j. body_defined y (defined_first ds es y j))) in
+      (λ y j. body_defined y (defined_first (cs ++ ds) es y (defined_second cs ds y j)))) in
       let refined =
       refinements_found inner seen bodies (suc k) w.refinements (λ y j. in_second given (units ++ rest) y (in_second units rest y j))
-      (λ y j. body_defined y (defined_second ds es y j)) in
+      (λ y j. body_defined y (defined_second (cs ++ ds) es y (refined w.refinements y j))) in
       let formals = formals_found inner s.types fs (λ y j. in_first given (units ++ rest) y j) in
       let missing = l.is_missing (b.result s.types r) (l.body_units s k at x r fs w) in
       let marked = leaf at (form.heading s sort x (b.parameters s.types fs) (b.result s.types r) missing) in
@@ -197,7 +198,7 @@ text_found (tree.Program w) =
     let units = flat_map (b.unit_names ts) w.units in
     let rest = b.refinement_names ts w.refinements in
     let ds = flat_map types.unit_definitions w.units in
-    let es = types.refinement_definitions w.refinements in
+    let es = types.in_refinements w.refinements in
     let heads = all_headings ts 0 w.units in
     let others = b.refinement_headings None w.refinements in
     let lead =

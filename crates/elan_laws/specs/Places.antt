@@ -3,7 +3,12 @@
 use Rattle.std.specs.Prelude.{ℕ, List, [], ◌∷◌, ◌++◌, map, flat_map, Option, Some, None}
 use Rattle.elan_tree.specs.declared.written_type.Name.{Name}
 use Rattle.elan_tree.specs.declared.written_type.TypePhrase.{TypePhrase}
-use Rattle.elan_tree.specs.declared.written_type.TypePhrase.TheVariants as type
+use Rattle.elan_tree.specs.declared.written_type.TypePhrase.TheOpen as type
+use Rattle.elan_tree.specs.declared.written_type.TypePhrase.TheOpen.{TypePhrase-F, Field-F}
+use Rattle.elan_tree.specs.declared.written_type.TypePhrase.TheFolds.{fold-TypePhrase, fold-Field}
+use Rattle.elan_tree.specs.declared.written_type.Field.{Field}
+use Rattle.elan_tree.specs.declared.written_type.Size.{Size}
+use Rattle.elan_tree.specs.declared.written_type.Size.TheVariants as size
 use Rattle.elan_tree.specs.declared.written_type.Constant.{Constant}
 use Rattle.elan_tree.specs.declared.written_type.Constant.TheVariants as constants
 use Rattle.elan_tree.specs.declared.written_type.LetItem.{LetItem}
@@ -80,8 +85,8 @@ expr_step (t.Concr at a) = at ∷ a
 expr_step (t.Bracket at a) = at ∷ a
 expr_step (t.If at branches otherwise) = at ∷ all branches ++ listed otherwise
 expr_step (t.Select at of cases otherwise) = at ∷ of ++ (all cases ++ listed otherwise)
-expr_step (t.Index at of index) = at ∷ []
-expr_step (t.Field at of field) = at ∷ []
+expr_step (t.Index at of index) = at ∷ of ++ index
+expr_step (t.Field at of field) = at ∷ of
 expr_step (t.Monadic at o a) = at ∷ a
 expr_step (t.Dyadic at o a b) = at ∷ a ++ b
 expr_step (t.Cand at a b) = at ∷ a ++ b
@@ -169,17 +174,32 @@ places (tree.Packet at n exports l) = []
 
 -- ---- types
 
--- a name of a type where it is written
-abbrev pub type_name : TypePhrase → List ℕ
-type_name (type.Named n) = n.at ∷ []
-type_name _ = []
+abbrev pub size_place : Size → ℕ
+size_place (size.Number at n) = at
+size_place (size.Named n) = n.at
+
+-- a type as it is written: the names of types, the word and the size of a row, the word and the fields of a structure
+abbrev pub written_step : TypePhrase-F (List ℕ) (List ℕ) → List ℕ
+written_step (type.Named n) = n.at ∷ []
+written_step (type.Row at size ns) = at ∷ size_place size ∷ ns
+written_step (type.Struct at fields) = at ∷ all fields
+written_step _ = []
+
+abbrev pub field_step : Field-F (List ℕ) (List ℕ) → List ℕ
+field_step f = f.of ++ names f.names
+
+abbrev pub type_phrase : TypePhrase → List ℕ
+type_phrase = fold-TypePhrase (List ℕ) (List ℕ) written_step field_step
+
+abbrev pub field : Field → List ℕ
+field = fold-Field (List ℕ) (List ℕ) written_step field_step
 
 -- A type is told of once more for each name that is declared with it. A LET of a type has the place of its name, and a TYPE its own.
 abbrev pub node_types : Node → List ℕ
-node_types (of_type of) = type_name of
-node_types (item h of n) = type_name of
-node_types (abbreviation n of) = n.at ∷ type_name of
-node_types (new_type at n of) = at ∷ type_name of
+node_types (of_type of) = type_phrase of
+node_types (item h of n) = type_phrase of
+node_types (abbreviation n of) = n.at ∷ type_phrase of
+node_types (new_type at n of) = at ∷ type_phrase of
 node_types _ = []
 
 -- the places of types in text order

@@ -23,7 +23,7 @@ pub fn phrases_stand_in_text_order()
 {}
 
 /// The first phrase that breaks a rule breaks it at a place of the text: that of a name that it declares, or of a label, an
-/// expression or a unit. A text is refused at such a place, or at that of the name of a type, or of a TYPE.
+/// expression or a unit. A text is refused at such a place, or at one in a type as it is written, or at that of a TYPE.
 pub fn a_refusal_has_a_place_of_the_text()
     ensures phrase { (t : Tree) → (f : Fault) → IsFirst (known t) (phrases (text t)) f → Contains (places t) f.0 }
     ensures refused { (env : Env) → (t : Tree) → (f : Fault) → Refused env t f → Contains (places t ++ type_places t) f.0 }

@@ -4,7 +4,7 @@ use Rattle.std.specs.Fmt.{decimal}
 use Rattle.line_command.specs.declared.refusal.Refusal.{Refusal}
 use Rattle.line_command.specs.declared.refusal.Refusal.TheVariants.{NoToken, TooMany, NotElan, NotBuilt, NoMeaning}
 use Rattle.elan_types.specs.declared.why.Why.{Why}
-use Rattle.elan_types.specs.declared.why.Why.TheVariants.{Unknown, Doubled, WrongType, NoVariable, WrongPlace}
+use Rattle.elan_types.specs.declared.why.Why.TheVariants.{Unknown, Doubled, WrongType, NoVariable, WrongPlace, TooLarge}
 
 -- a line and a place in it, both from 1
 pub record Position : Type 0 where
@@ -29,6 +29,7 @@ why_text Doubled = codes "doppelt"
 why_text WrongType = codes "falscher Typ"
 why_text NoVariable = codes "keine Variable"
 why_text WrongPlace = codes "falsche Stelle"
+why_text TooLarge = codes "zu gross"
 
 abbrev pub position_text : Position → List ℕ
 position_text p = codes " (Zeile " ++ (decimal p.line ++ (codes ", Stelle " ++ (decimal p.column ++ codes ")\n")))

@@ -97,5 +97,6 @@ fn why_text(why: Why) -> &'static [u8]
         Why::WrongType => b"falscher Typ",
         Why::NoVariable => b"keine Variable",
         Why::WrongPlace => b"falsche Stelle",
+        Why::TooLarge => b"zu gross",
     }
 }
