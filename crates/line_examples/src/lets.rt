@@ -74,7 +74,6 @@ FEHLER : kein ELAN-Text (Zeile 1, Stelle 9)
 FEHLER : keine Variable (Zeile 1, Stelle 15)
 > LET T = INT; T VAR x
 > LET n = 3; LET T = ROW n INT
-FEHLER : kein ELAN-Text
 > LET a = 1; IF TRUE THEN LET c = 3; put (c + a) FI
 4 
 > LET a = 32767; put (a + 1)

@@ -13,7 +13,13 @@ mod meanings;
 #[cfg(test)]
 mod outside;
 #[cfg(test)]
+mod row_sizes;
+#[cfg(test)]
+mod row_values;
+#[cfg(test)]
 mod rows;
+#[cfg(test)]
+mod structures;
 #[cfg(test)]
 mod table;
 #[cfg(test)]

@@ -37,7 +37,7 @@ FEHLER : kein ELAN-Text (Zeile 1, Stelle 8)
 FEHLER : kein ELAN-Text (Zeile 1, Stelle 9)
 > put (1
 FEHLER : kein ELAN-Text (Zeile 1, Stelle 7)
-> ROW 3 INT VAR a
+> TASK VAR a
 FEHLER : kein ELAN-Text
 > put (((((((((((((((((((((((((((((((((((((((((((((((((((((((((((((((((((((((((((((((((((((((((((((((((((((5)))))))))))))))))))))))))))))))))))))))))))))))))))))))))))))))))))))))))))))))))))))))))))))))))))))
 5 

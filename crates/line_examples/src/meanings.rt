@@ -366,11 +366,10 @@ a
 FEHLER : unbekannt (Zeile 1, Stelle 1)
 > LET T = INT
 > ROW 3 INT VAR a
-FEHLER : kein ELAN-Text
 > INT VAR a; a [1] := 2
-FEHLER : kein ELAN-Text
+FEHLER : falscher Typ (Zeile 1, Stelle 12)
 > INT VAR a; a.f := 2
-FEHLER : kein ELAN-Text
+FEHLER : unbekannt (Zeile 1, Stelle 12)
 > TASK VAR t
 FEHLER : kein ELAN-Text
 > put (x); TEXT VAR t

@@ -82,6 +82,29 @@ FEHLER : falsche Stelle (Zeile 1, Stelle 5)
 FEHLER : doppelt (Zeile 1, Stelle 20)
 > INT VAR a :: \"x\"; U VAR b
 FEHLER : falscher Typ (Zeile 1, Stelle 9)
+> ROW 3 INT VAR a; a [2] := 5; put (a [2]); put (a [4])
+5 
+FEHLER : Index ausserhalb
+> LET n = 4; ROW n INT VAR a; INT VAR i; FOR i UPTO n REP a [i] := i * i PER; put (a [n])
+16 
+> ROW 2 STRUCT (INT x, y) VAR q; q [2].y := 7; put (q [2].y); put (q [1].y)
+7 0 
+> ROW 3 INT PROC squares: ROW 3 INT VAR r; INT VAR i; FOR i UPTO 3 REP r [i] := i * i PER; r END PROC squares; put (squares [3])
+9 
+> PROC p (INT VAR x): x INCR 1 END PROC p; ROW 2 INT VAR a; p (a [2]); p (a [2]); put (a [2])
+2 
+> LET P = STRUCT (INT x, y); P VAR p; STRUCT (INT x, y) VAR q; q.x := 4; p := q; put (p.x)
+4 
+> STRUCT (INT a) VAR s; STRUCT (INT b) VAR t; s := t
+FEHLER : falscher Typ (Zeile 1, Stelle 45)
+> TYPE T = INT; ROW 2 T VAR a, b; a := b
+FEHLER : falscher Typ (Zeile 1, Stelle 33)
+> TYPE P = STRUCT (INT x, y); P VAR p; CONCR (p).x := 3; put (CONCR (p).x)
+3 
+> ROW 129 ROW 128 INT VAR a
+FEHLER : zu gross (Zeile 1, Stelle 1)
+> INT VAR n; ROW n INT VAR a
+FEHLER : falscher Typ (Zeile 1, Stelle 16)
 > PROC p (INT VAR a, b): a INCR 1; b INCR 1 END PROC p; INT VAR x :: 5; p (x, x); put (x)
 7 
 > PROC p (INT CONST a): a := 3 END PROC p; p (1)
@@ -118,6 +141,12 @@ FEHLER : Zeitgrenze
 1 2 3 7 
 > IF FALSE CAND 1 DIV 0 = 1 THEN put (1) ELSE put (2) FI
 2 
+> ROW 3 INT VAR a; INT PROC f: put (1); 5 END PROC f; a [4] := f
+FEHLER : Index ausserhalb
+> PROC p (ROW 3 INT CONST r): put (r [2]); a [2] := 9; put (r [2]) END PROC p; ROW 3 INT VAR a; p (a); put (a [2])
+0 0 9 
+> ROW 2 TEXT VAR a, b; a [1] := \"old\"; b := a; a [1] := \"new\"; put (b [1])
+old 
 > PROC p: INT VAR n; n INCR 1; put (n) END PROC p; p; p
 1 1 
 > PROC p (INT CONST n): IF n > 0 THEN p (n - 1) FI END PROC p; p (5460); put (1)
@@ -129,6 +158,11 @@ FEHLER : Stapelueberlauf
 > TEXT VAR a :: 16000 * \"a\", b :: a, c :: a, d :: a, e :: a, f :: a, g :: a; put (1); TEXT VAR h :: a
 1 
 FEHLER : Textspeicher voll
+> ROW 8192 INT VAR a, b; put (1); a := b; put (2)
+1 
+FEHLER : Operandenspeicher voll
+> ROW 8192 INT VAR a; ROW 8193 INT VAR b; put (1)
+FEHLER : Stapelueberlauf
 > TEXT VAR a :: 16000 * \"a\"; PROC q (TEXT CONST b, c, d, e, f): END PROC q; q (a, a, a, a, a)
 FEHLER : Operandenspeicher voll
 > INT VAR i, n :: 3; FOR i UPTO n REP n := 1; put (i) PER; put (i)
@@ -221,6 +255,17 @@ REGAL = LAGER? hahaha
 > TEXT VAR who; put (\"Who is there?\"); getline (who); put (\"Hello, \" + who)
 Who is there? 
 FEHLER : nur in einer Sitzung
+> ROW 5 INT VAR a; INT VAR i, sum; FOR i UPTO 5 REP a [i] := i * i PER; FOR i UPTO 5 REP put (a [i]); sum INCR a [i] PER; put (sum)
+1 4 9 16 25 55 
+> LET size = 3; ROW size TEXT VAR word; word [1] := \"one\"; word [2] := \"two\"; word [3] := \"three\"; INT VAR i; FOR i FROM size DOWNTO 1 REP put (word [i]) PER; put (word [4])
+three two one 
+FEHLER : Index ausserhalb
+> STRUCT (TEXT who, INT age) VAR p; p.who := \"Ada\"; p.age := 36; put (p.who); p.age INCR 1; put (p.age)
+Ada 37 
+> LET P = STRUCT (INT x, y); P PROC at (INT CONST x, y):   P VAR p; p.x := x; p.y := y; p END PROC at; PROC move (INT VAR i): i INCR 10 END PROC move; ROW 2 P VAR a; a [1] := at (1, 2); a [2] := a [1]; move (a [2].x); put (a [1].x); put (a [2].x)
+1 11 
+> TYPE P = STRUCT (INT x, y); P OP + (P CONST a, b):   P VAR c; CONCR (c).x := CONCR (a).x + CONCR (b).x;   CONCR (c).y := CONCR (a).y + CONCR (b).y; c END OP +; P VAR p; CONCR (p).x := 2; put (CONCR (p + p).x)
+4 
 > put (aple)
 FEHLER : unbekannt (Zeile 1, Stelle 6)
 > INT VAR a; put (a = TRUE)
@@ -248,8 +293,8 @@ FEHLER : kein ELAN-Text (Zeile 1, Stelle 11)
 5 
 > IF 2 > 1 THEN put (2)
 FEHLER : kein ELAN-Text (Zeile 1, Stelle 22)
-> ROW 3 INT VAR a
-FEHLER : kein ELAN-Text
+> ROW INT VAR a
+FEHLER : kein ELAN-Text (Zeile 1, Stelle 5)
 > INT VAR name
 FEHLER : kein ELAN-Text
 > put 1
@@ -260,10 +305,14 @@ FEHLER : unbekannt (Zeile 1, Stelle 5)
 FEHLER : unbekannt (Zeile 1, Stelle 23)
 > GANZ VAR i; put (i)
 FEHLER : unbekannt (Zeile 1, Stelle 1)
+> STRUCT (INT a) VAR s; put (s.b)
+FEHLER : unbekannt (Zeile 1, Stelle 28)
 > INT VAR a; INT VAR a
 FEHLER : doppelt (Zeile 1, Stelle 20)
 > SELECT 1 OF CASE 1: put (1) CASE 1: put (2) END SELECT
 FEHLER : doppelt (Zeile 1, Stelle 34)
+> STRUCT (INT a, TEXT b, a) VAR s
+FEHLER : doppelt (Zeile 1, Stelle 24)
 > put (TRUE)
 FEHLER : falscher Typ (Zeile 1, Stelle 1)
 > IF 1 THEN put (1) FI
@@ -274,6 +323,10 @@ FEHLER : falscher Typ (Zeile 1, Stelle 1)
 FEHLER : falscher Typ (Zeile 1, Stelle 9)
 > INT PROC f: line END PROC f; put (f)
 FEHLER : falscher Typ (Zeile 1, Stelle 13)
+> INT VAR x; put (x [1])
+FEHLER : falscher Typ (Zeile 1, Stelle 17)
+> ROW 2 INT VAR a; ROW 3 INT VAR b; a := b
+FEHLER : falscher Typ (Zeile 1, Stelle 35)
 > PROC p (INT VAR a): a := 3 END PROC p; p (1)
 FEHLER : keine Variable (Zeile 1, Stelle 43)
 > LEAVE f
@@ -282,11 +335,19 @@ FEHLER : falsche Stelle (Zeile 1, Stelle 1)
 FEHLER : falsche Stelle (Zeile 1, Stelle 24)
 > TYPE T = T
 FEHLER : falsche Stelle (Zeile 1, Stelle 1)
+> TYPE T = ROW 3 T
+FEHLER : falsche Stelle (Zeile 1, Stelle 1)
+> ROW 0 INT VAR a
+FEHLER : zu gross (Zeile 1, Stelle 5)
+> ROW 16385 INT VAR a
+FEHLER : zu gross (Zeile 1, Stelle 5)
 > put (200 * 200)
 FEHLER : INT-Ueberlauf
 > put (4); put (7 MOD 0)
 4 
 FEHLER : Division durch 0
+> ROW 3 INT VAR a; put (a [4])
+FEHLER : Index ausserhalb
 > INT PROC f (INT CONST n): IF n = 0 THEN 0 ELSE 1 + (1 + (1 + f (n - 1))) FI END PROC f; put (f (30000))
 FEHLER : Operandenspeicher voll
 > TEXT VAR t; REP t CAT \"abcdefgh\" PER

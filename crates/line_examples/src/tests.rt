@@ -1,7 +1,10 @@
 //! The first table that is not right.
 
 use crate::rows::{Asked, add, is_right, put};
-use crate::{code, lets, lines, meanings, outside, table, texts, typed, types};
+use crate::{
+    code, lets, lines, meanings, outside, row_sizes, row_values, structures, table, texts, typed,
+    types,
+};
 use eu_base::Bytes;
 use eumel_top::{Status, one_output};
 use std::alloc::Global;
@@ -28,7 +31,8 @@ fn codes_are_right() -> bool {
         && Status::SessionFull.code() == 8
 }
 
-fn wrong_table(alloc: Global) -> &'static str {
+// The first table of lines that is not right.
+fn wrong_lines(alloc: Global) -> &'static str {
     let how = Asked::Line("64 0 0 line");
     if !is_right(alloc, lines::LINES, how) {
         "lines"
@@ -50,8 +54,23 @@ fn wrong_table(alloc: Global) -> &'static str {
         "lets"
     } else if !is_right(alloc, types::TYPES, how) {
         "types"
+    } else if !is_right(alloc, row_values::ROWS, how) {
+        "rows"
+    } else if !is_right(alloc, row_sizes::SIZES, how) {
+        "sizes of rows"
+    } else if !is_right(alloc, structures::STRUCTURES, how) {
+        "structures"
     } else if !is_right(alloc, table::EXAMPLES, how) {
         "examples"
+    } else {
+        ""
+    }
+}
+
+fn wrong_table(alloc: Global) -> &'static str {
+    let lines = wrong_lines(alloc);
+    if !lines.is_empty() {
+        lines
     } else if !writes_until_spent(alloc) {
         "endless"
     } else if !is_right(alloc, lines::LISTINGS, Asked::Listing) {

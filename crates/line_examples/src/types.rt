@@ -163,11 +163,11 @@ FEHLER : falscher Typ (Zeile 1, Stelle 34)
 > TYPE T = INT; T VAR a; INT VAR b :: CONCR (a); put (b)
 0 
 > TYPE T = ROW 3 INT; T VAR x; put (1)
-FEHLER : kein ELAN-Text
+1 
 > LET T = ROW 3 INT; put (1)
-FEHLER : kein ELAN-Text
+1 
 > TYPE T = STRUCT (INT a); put (1)
-FEHLER : kein ELAN-Text
+1 
 > TYPE T = BOOL; TYPE T = T; put (1)
 FEHLER : doppelt (Zeile 1, Stelle 21)
 > LET T = BOOL; LET T = T; put (1)
