@@ -1,5 +1,5 @@
 //! Tests of the parts of a system of tasks: the ready list, channels, lines and pieces, the tree, names,
-//! messages, and the commands that lines spell; and of types by number.
+//! messages, and the commands that lines spell.
 #![tactic(auto)]
 
 #[cfg(test)]
@@ -22,5 +22,3 @@ mod tables;
 mod tests;
 #[cfg(test)]
 mod tree;
-#[cfg(test)]
-mod types;

@@ -1,6 +1,6 @@
 //! Lines and scenes, each with the text that is noted of it.
 use crate::notes::put;
-use crate::{channels, commands, directory, lines, messages, rotation, tables, tree, types};
+use crate::{channels, commands, directory, lines, messages, rotation, tables, tree};
 use containers::Bytes;
 use std::alloc::Global;
 use task_numbers::TASKS;
@@ -121,8 +121,6 @@ enum Scene {
     ByAge,
     Refused,
     Pieces,
-    Types,
-    Kinds,
 }
 
 fn play(alloc: Global, out: &mut Bytes, scene: Scene) {
@@ -137,8 +135,6 @@ fn play(alloc: Global, out: &mut Bytes, scene: Scene) {
         Scene::ByAge => tree::by_age(alloc, out),
         Scene::Refused => tree::refused(alloc, out),
         Scene::Pieces => lines::pieces(alloc, out),
-        Scene::Types => types::each_once(alloc, out),
-        Scene::Kinds => types::kinds_of_cells(alloc, out),
     }
 }
 
@@ -178,10 +174,6 @@ fn wrong_scene(alloc: Global) -> &'static str {
         b"1,8 \n2:\n4:a\"13\"b\"127\"\nx\n3:y\n",
     ) {
         "pieces"
-    } else if !goes(alloc, Scene::Types, b"01232-4543RC67602-") {
-        "types"
-    } else if !goes(alloc, Scene::Kinds, b"012345ITITIT--+++-") {
-        "kinds"
     } else {
         ""
     }

@@ -1,5 +1,0 @@
-pub mod Once
-pub mod Tables
-pub mod Limits
-pub mod Rooms
-pub mod CellKinds

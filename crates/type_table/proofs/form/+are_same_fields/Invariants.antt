@@ -1,5 +1,0 @@
-use Rattle.std.proofs.Common.{length}
-use Rattle.type_table.proofs.form.+are_same_fields.Given as goal
-
-abbrev pub decreases-are_same_fields : goal.decreases-are_same_fields
-decreases-are_same_fields l = length l.fields.now
