@@ -5,7 +5,8 @@ ghost use Rattle.code_form.specs.Valid.{IsValid};
 
 use crate::instr::Instr;
 use crate::operand::OperandKind;
-use eu_base::{Kind, List, Shape};
+use cell_kinds::CellKinds;
+use eu_base::{List, Shape};
 use std::marker::Model;
 
 /// An instruction, with what is pending when it is reached.
@@ -45,7 +46,7 @@ pub enum Layout {
     /// Those of a PROC: its parameters, which stand as a call takes them, and behind them its variables, a kind a cell.
     Own {
         parameters: List<OperandKind>,
-        variables: List<Kind>,
+        variables: CellKinds,
     },
     /// Those of the PROC with this number, whose refinement it is.
     Of(usize),
@@ -57,7 +58,7 @@ pub enum Layout {
 /// instruction that spends a mark.
 #[derive(Drop)]
 pub struct Code {
-    variables: List<Kind>,
+    variables: CellKinds,
     bodies: List<Entry>,
     lines: List<Line>,
 }
@@ -81,7 +82,7 @@ impl Model for Code {
 
 impl Code {
     /// Code of these instructions, whose tables agree.
-    pub fn new(variables: List<Kind>, bodies: List<Entry>, lines: List<Line>) -> Code
+    pub fn new(variables: CellKinds, bodies: List<Entry>, lines: List<Line>) -> Code
         requires { IsValid (record { variables = variables; bodies = bodies; lines = lines }) }
         ensures { result ≡ record { variables = variables; bodies = bodies; lines = lines } }
     {
@@ -93,10 +94,10 @@ impl Code {
     }
 
     /// The kinds of the level's variables.
-    pub fn variables(&self) -> &[Kind]
+    pub fn variables(&self) -> &CellKinds
         ensures { result.now ≡ self.now.variables }
     {
-        self.variables.as_slice()
+        &self.variables
     }
 
     /// The PROCs and refinements.

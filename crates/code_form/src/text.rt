@@ -8,6 +8,7 @@ ghost use Rattle.code_form.specs.Program.{cell_uses, cells_of};
 use crate::code::{Code, Entry, Layout};
 use crate::instr::Instr;
 use crate::operand::OperandKind;
+use cell_kinds::count;
 use eu_base::{Bytes, Change, Kind, NoMemory, Operation, RequestName, Shape, TextOperation, Way};
 use itoa::Buffer;
 use std::alloc::Global;
@@ -19,7 +20,7 @@ pub fn listing(alloc: Global, code: &Code) -> Result<Bytes, NoMemory>
     let mut out = Bytes::new(alloc);
     let mut texts = 0usize;
     for (number, line) in code.lines().iter().enumerate() {
-        append_line(alloc, &mut out, code.bodies(), texts, number, &line.instr)?;
+        append_line(&mut out, code.bodies(), texts, number, &line.instr)?;
         texts = texts_with(texts, &line.instr)?;
     }
     Ok(out)
@@ -36,7 +37,6 @@ fn texts_with(texts: usize, instr: &Instr) -> Result<usize, NoMemory>
 }
 
 fn append_line(
-    alloc: Global,
     out: &mut Bytes,
     bodies: &[Entry],
     texts: usize,
@@ -47,14 +47,13 @@ fn append_line(
 {
     append_number(out, number)?;
     out.append(b" ")?;
-    append_instr(alloc, out, bodies, texts, instr)?;
+    append_instr(out, bodies, texts, instr)?;
     out.append(b"\n")?;
     Ok(())
 }
 
 // An arm an instruction, so it is as long as there are instructions.
 fn append_instr(
-    alloc: Global,
     out: &mut Bytes,
     bodies: &[Entry],
     texts: usize,
@@ -131,7 +130,7 @@ fn append_instr(
         Instr::ErrorStop => out.append(b"DO errorstop"),
         Instr::Call(body) => {
             append_with(out, b"CALL ", first_of(bodies, *body))?;
-            append_with(out, b" ", cells_of_frame(alloc, bodies, *body)?)
+            append_with(out, b" ", cells_of_frame(bodies, *body)?)
         }
         Instr::Refer(body) => append_with(out, b"REFER ", first_of(bodies, *body)),
         Instr::Back(_) => out.append(b"BACK"),
@@ -151,52 +150,44 @@ fn first_of(bodies: &[Entry], body: usize) -> usize
 }
 
 // How many cells a body's frame has for its parameters and variables.
-fn cells_of_frame(alloc: Global, bodies: &[Entry], body: usize) -> Result<usize, NoMemory>
+fn cells_of_frame(bodies: &[Entry], body: usize) -> Result<usize, NoMemory>
     ensures { IfOk result (λ cells. cells ≡ cells_of_frame (slice_get bodies.now body)) }
 {
     match bodies.get(body) {
-        Some(entry) => cells_of(alloc, &entry.layout),
+        Some(entry) => cells_of(&entry.layout),
         None => Ok(0),
     }
 }
 
-fn cells_of(alloc: Global, layout: &Layout) -> Result<usize, NoMemory>
+fn cells_of(layout: &Layout) -> Result<usize, NoMemory>
     ensures { IfOk result (λ cells. cells ≡ length (cells_of layout.now)) }
 {
     match layout {
         Layout::Own {
             parameters,
             variables,
-        } => cells_of_all(alloc, parameters.as_slice())?
+        } => cells_of_all(parameters.as_slice())?
             .checked_add(variables.len())
             .ok_or(NoMemory),
         Layout::Of(_) | Layout::Level => Ok(0),
     }
 }
 
-fn cells_of_all(alloc: Global, parameters: &[OperandKind]) -> Result<usize, NoMemory>
+fn cells_of_all(parameters: &[OperandKind]) -> Result<usize, NoMemory>
     ensures { IfOk result (λ cells. cells ≡ length (flat_map cell_uses parameters.now)) }
 {
     let mut cells = 0usize;
     for parameter in parameters {
-        cells = cells
-            .checked_add(cells_of_one(alloc, parameter)?)
-            .ok_or(NoMemory)?;
+        cells = cells.checked_add(cells_of_one(parameter)?).ok_or(NoMemory)?;
     }
     Ok(cells)
 }
 
-fn cells_of_one(alloc: Global, parameter: &OperandKind) -> Result<usize, NoMemory>
+fn cells_of_one(parameter: &OperandKind) -> Result<usize, NoMemory>
     ensures { IfOk result (λ cells. cells ≡ length (cell_uses parameter.now)) }
 {
     match parameter {
-        OperandKind::Value(shape) => {
-            let cells = shape.kinds(alloc, usize::MAX)?.len();
-            if cells == usize::MAX {
-                return Err(NoMemory);
-            }
-            Ok(cells)
-        }
+        OperandKind::Value(shape) => count(shape).ok_or(NoMemory),
         OperandKind::Place(_) => Ok(1),
     }
 }

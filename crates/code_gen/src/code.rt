@@ -7,7 +7,7 @@ ghost use Rattle.code_gen.specs.Program.{program_of};
 use crate::entries::emit_bodies;
 use code_form::{Code, Instr};
 use elan_types::Core;
-use eu_base::{List, NoMemory};
+use eu_base::NoMemory;
 use place_gen::{Draft, emit_actions};
 use std::alloc::Global;
 
@@ -17,7 +17,7 @@ pub fn generate(alloc: Global, core: &Core) -> Result<Code, NoMemory>
     ensures code { IfOk result (λ code. code ≡ program_of core.now) }
     ensures behaves { IfOk result (λ code. Behaves core.now code) }
 {
-    let variables = List::from_slice(alloc, core.variables.as_slice())?;
+    let variables = core.variables.try_clone(alloc)?;
     let mut out = Draft::new(alloc);
     emit_actions(&mut out, core.units.as_slice())?;
     out.put(Instr::End, 0, None)?;

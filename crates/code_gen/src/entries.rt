@@ -43,7 +43,7 @@ fn layout_of(alloc: Global, scope: &Scope) -> Result<Layout, NoMemory>
             variables,
         } => Ok(Layout::Own {
             parameters: parameter_kinds(alloc, parameters.as_slice())?,
-            variables: List::from_slice(alloc, variables.as_slice())?,
+            variables: variables.try_clone(alloc)?,
         }),
         Scope::Of(body) => Ok(Layout::Of(*body)),
         Scope::Level => Ok(Layout::Level),

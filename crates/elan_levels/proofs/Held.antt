@@ -1,22 +1,17 @@
 -- What is held under names, its types, and the kinds of its cells.
-use Rattle.std.proofs.Common.{◌≡◌, ℕ, List, [], ◌∷◌, ◌++◌, take, refl, sym, ap, ◌∙◌, append_assoc}
+use Rattle.std.proofs.Common.{◌≡◌, List, [], ◌∷◌, ◌++◌, refl, sym, ap, ◌∙◌, append_assoc}
 use Rattle.std.specs.Prelude.{flat_map}
-use Rattle.std.proofs.Math.Seq.{take-length}
 use Rattle.std.proofs.lemmas.List.{append-nil}
 use Rattle.eu_base.specs.declared.value.Kind.{Kind}
 use Rattle.eu_base.specs.Shapes.{cell_kinds}
 use Rattle.elan_types.specs.declared.elan_type.ElanType.{ElanType}
 use Rattle.elan_types.specs.declared.elan_type.Parameter.{Parameter}
-use Rattle.elan_types.specs.Types.{shape_in, cells}
-use Rattle.elan_types.proofs.Types.{cells_kinds}
+use Rattle.elan_types.specs.Types.{shape_in}
 use Rattle.elan_scope.specs.declared.scope.Entry.{Entry}
 use Rattle.elan_scope.specs.Scope.{held, all_held, types_of}
 
 abbrev kinds_in : List ElanType → List Kind
 kinds_in ts = flat_map (λ t. cell_kinds (shape_in t)) ts
-
-pub all_cells : (t : ElanType) → take (cells t) (cell_kinds (shape_in t)) ≡ cell_kinds (shape_in t)
-all_cells t = ap (λ (n : ℕ). take n (cell_kinds (shape_in t))) (sym (cells_kinds t)) ∙ take-length (cell_kinds (shape_in t))
 
 pub one_more : (ks : List Kind) (t : ElanType) → ks ++ (cell_kinds (shape_in t) ++ []) ≡ ks ++ cell_kinds (shape_in t)
 one_more ks t = ap (λ (js : List Kind). ks ++ js) (append-nil (cell_kinds (shape_in t)))

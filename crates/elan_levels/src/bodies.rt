@@ -10,12 +10,13 @@ ghost use Rattle.elan_levels.specs.walks.Seen.{visible, Adds};
 ghost use Rattle.type_names.specs.Types as types;
 
 use crate::declare::Names;
+use cell_kinds::CellKinds;
 use elan_scope::directory::Directory;
 use elan_scope::scope::{Denotes, Entry, Within};
 use elan_scope::type_name::TypeName;
 use elan_tree::{Access as Given, Body, Formal, Level, LevelUnit, Name, Refinement};
 use elan_types::{Access, ElanType, Parameter};
-use eu_base::{Kind, List, NoMemory};
+use eu_base::{List, NoMemory};
 use std::alloc::Global;
 use type_names::definition::{body_definitions, level_definitions};
 use type_names::resolve::names_of;
@@ -202,45 +203,24 @@ fn own_names(
     refinement_names(names, body.refinements.as_slice()).met()
 }
 
-// The kinds of a type's cells.
-#[tactic(auto, using(crate::proofs::Held::all_cells))]
-fn kinds_of(alloc: Global, of: &ElanType) -> Result<List<Kind>, NoMemory>
-    ensures { IfOk result (λ kinds. kinds ≡ cell_kinds (shape_in of.now)) }
-{
-    let cells = of.cells().ok_or(NoMemory)?;
-    let shape = of.shape(alloc)?;
-    shape.kinds(alloc, usize::from(cells))
-}
-
-// Adds the kinds of a type's cells.
-fn add_kinds(alloc: Global, out: &mut List<Kind>, of: &ElanType) -> Result<(), NoMemory>
-    ensures { OnOk result (out.new ≡ out.old ++ cell_kinds (shape_in of.now)) }
-{
-    let kinds = kinds_of(alloc, of)?;
-    for kind in kinds.as_slice() {
-        out.push(*kind)?;
-    }
-    Ok(())
-}
-
 // Adds the kinds of the cells of what is held under a name.
 #[tactic(auto, using(crate::proofs::Held::one_more))]
-fn add_held(alloc: Global, out: &mut List<Kind>, denotes: &Denotes) -> Result<(), NoMemory>
+fn add_held(alloc: Global, out: &mut CellKinds, denotes: &Denotes) -> Result<(), NoMemory>
     ensures { OnOk result (out.new ≡ out.old ++ flat_map (λ t. cell_kinds (shape_in t)) (scopes.types_of (scopes.held denotes.now))) }
 {
     match denotes {
-        Denotes::Variable(of) | Denotes::Constant(of) => add_kinds(alloc, out, of),
-        Denotes::Parameter(parameter) => add_kinds(alloc, out, &parameter.of),
+        Denotes::Variable(of) | Denotes::Constant(of) => out.push(of.shape(alloc)?),
+        Denotes::Parameter(parameter) => out.push(parameter.of.shape(alloc)?),
         Denotes::Procedure | Denotes::Refinement | Denotes::Denoter(_) => Ok(()),
     }
 }
 
 /// The kinds of the cells of the variables, constants and parameters among names.
 #[tactic(auto, using(crate::proofs::Held::kinds_append))]
-pub fn held_kinds(alloc: Global, names: &[Entry]) -> Result<List<Kind>, NoMemory>
+pub fn held_kinds(alloc: Global, names: &[Entry]) -> Result<CellKinds, NoMemory>
     ensures { IfOk result (λ kinds. kinds ≡ scopes.variables_of names.now) }
 {
-    let mut kinds = List::new(alloc);
+    let mut kinds = CellKinds::new(alloc);
     for entry in names {
         add_held(alloc, &mut kinds, &entry.denotes)?;
     }
@@ -253,7 +233,7 @@ pub fn own_kinds(
     around: &[TypeName],
     formals: &[Formal],
     body: &Body,
-) -> Result<List<Kind>, NoMemory>
+) -> Result<CellKinds, NoMemory>
     ensures { IfOk result (λ kinds. kinds
         ≡ scopes.variables_of (spec.own_names (types.body_types around.now formals.now body.now ++ around.now) body.now)) }
 {

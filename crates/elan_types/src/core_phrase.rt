@@ -1,13 +1,14 @@
 //! What a text means. Every name is resolved and every phrase has the shape of its value, so evaluation and
 //! the making of code go by structure alone. Of types a core knows nothing else.
 
-use eu_base::{Boxed, Bytes, Change, Kind, List, Operation, RequestName, Shape, Way};
+use cell_kinds::CellKinds;
+use eu_base::{Boxed, Bytes, Change, List, Operation, RequestName, Shape, Way};
 
 /// The meaning of a program.
 #[derive(Drop)]
 pub struct Core {
     /// The kinds of the cells of the level's variables and constants, in the order of their declarations.
-    pub variables: List<Kind>,
+    pub variables: CellKinds,
     /// The PROCs and refinements. Phrases name them by their numbers here.
     pub bodies: List<Body>,
     /// What the command does, in text order.
@@ -29,7 +30,7 @@ pub enum Scope {
     /// Those of a PROC: its parameters, and behind them the kinds of the cells of its own variables and constants.
     Own {
         parameters: List<Formal>,
-        variables: List<Kind>,
+        variables: CellKinds,
     },
     /// Those of the PROC with this number, whose refinement it is.
     Of(usize),

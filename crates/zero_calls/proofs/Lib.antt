@@ -5,3 +5,4 @@ pub mod Framing
 pub mod Calling
 pub mod Leaving
 pub mod Results
+pub mod Shaped

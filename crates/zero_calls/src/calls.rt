@@ -2,6 +2,7 @@
 ghost use Rattle.std.specs.Prelude.{◌≡◌, ℕ, ◌+◌, ◌-◌, ◌^◌, min, ◌≤◌, ◌∷◌, ◌++◌, List, flat_map, length, true, Some, slice_get, OnOk, IfOk};
 ghost use Rattle.eu_base.specs.Room.{bytes_fit, cells_fit};
 ghost use Rattle.eu_base.specs.Cells.{Cells, freed, HasFaultCause};
+ghost use Rattle.cell_kinds.specs.Kinds.{all_kinds};
 ghost use Rattle.code_form.specs.declared.instr.Instr.TheVariants as instrs;
 ghost use Rattle.code_form.specs.declared.operand.Operand.{Operand};
 ghost use Rattle.code_form.specs.Program.{Program};
@@ -15,7 +16,7 @@ ghost use Rattle.zero_calls.specs.Frames.{EntersSo, result_ops};
 use crate::frames::{cells_of_all, write_frame};
 use crate::release::free_frame;
 use code_form::{Code, Entry, Layout, Operand};
-use eu_base::{Kind, MemFault, Memory, NoMemory, Set, Shape};
+use eu_base::{MemFault, Memory, NoMemory, Set, Shape};
 use zero_state::{Link, Next, Stack, State, have_room};
 
 /// CALL
@@ -52,7 +53,8 @@ pub fn call<M: Memory>(
                 false,
                 body,
                 parameters.len(),
-                variables.as_slice(),
+                variables.len(),
+                variables.shapes(),
             )
         }
         _ => unreachable!(),
@@ -79,7 +81,7 @@ pub fn refer<M: Memory>(
     }
     *marks -= 1;
     let base = s.stack.base();
-    enter(s, m, entry.first, base, true, body, 0, &[])
+    enter(s, m, entry.first, base, true, body, 0, 0, &[])
 }
 
 // Goes to a body with a new frame, which takes the newest operands, where its cells have room.
@@ -91,21 +93,23 @@ fn enter<M: Memory>(
     refines: bool,
     body: usize,
     count: usize,
-    variables: &[Kind],
+    cells: usize,
+    variables: &[Shape],
 ) -> Result<Next, MemFault>
     requires ready { IsReady s.old }
     requires many { count ≤ length s.old.stack.ops }
+    requires counted { cells ≡ length (all_kinds variables.now) }
     ensures goes { IfOk result
-        (EntersSo (M.holds m.old) (M.holds m.new) first base refines body count variables.now (position_of s.old) (control_of s.new)) }
+        (EntersSo (M.holds m.old) (M.holds m.new) first base refines body count (all_kinds variables.now) (position_of s.old) (control_of s.new)) }
     ensures cause { HasFaultCause (M.faults m.old) (M.faults m.new) result }
     ensures follows { M.follows m.old m.new }
 {
     let operands = s.stack.top(count);
-    let more = frame_size(operands, variables.len());
+    let more = frame_size(operands, cells);
     if !have_room(s.used, more) {
         return Ok(Next::CellRoom);
     }
-    if let Set::HeapFull = write_frame(m, s.used, operands, variables)? {
+    if let Set::HeapFull = write_frame(s.alloc, m, s.used, operands, variables)? {
         return Ok(Next::TextRoom);
     }
     let link = Link {

@@ -3,33 +3,37 @@ ghost use Rattle.std.specs.Prelude.{◌≡◌, ◌+◌, ◌-◌, ◌^◌, ◌≤
 ghost use Rattle.eu_base.specs.declared.address.TheConstants.{CELLS};
 ghost use Rattle.eu_base.specs.Values.{blank_of};
 ghost use Rattle.eu_base.specs.Cells.{Free, Word, Cells, held_of, run_cell, written, cell_blocks, AreBare, HasFaultCause};
+ghost use Rattle.eu_base.specs.Shapes.{cell_kinds};
+ghost use Rattle.cell_kinds.specs.Kinds.{all_kinds};
 ghost use Rattle.code_form.specs.Machine.{held_cells, link_contents, frame_contents, written_from};
 ghost use Rattle.zero_calls.specs.Frames.{AreFree, PutsFrom};
 
 use crate::texts::{clear_operands, clear_values, put_new};
 use code_form::Operand;
-use eu_base::{Kind, MemFault, Memory, Set, Value};
+use eu_base::{CELLS, Kind, MemFault, Memory, Set, Shape, Value};
+use std::alloc::Global;
 use zero_state::run_cell;
 
 /// Writes the cells of a new frame: two for the call, what its parameters hold, and its variables. Where its texts have no room,
 /// nothing is known of these cells, as before.
 pub fn write_frame<M: Memory>(
+    alloc: Global,
     m: &mut M,
     at: usize,
     operands: &[Operand],
-    variables: &[Kind],
+    variables: &[Shape],
 ) -> Result<Set, MemFault>
-    requires { at + (2 + length (flat_map held_cells operands.now) + length variables.now) ≤ CELLS }
+    requires { at + (2 + length (flat_map held_cells operands.now) + length (all_kinds variables.now)) ≤ CELLS }
     ensures puts { IfOk result (λ set. (cells : Cells) → M.holds m.old cells →
-        AreFree at (2 + length (flat_map held_cells operands.now) + length variables.now) cells →
-        PutsFrom (M.holds m.new) at (frame_contents operands.now variables.now) cells set) }
+        AreFree at (2 + length (flat_map held_cells operands.now) + length (all_kinds variables.now)) cells →
+        PutsFrom (M.holds m.new) at (frame_contents operands.now (all_kinds variables.now)) cells set) }
     ensures cause { HasFaultCause (M.faults m.old) (M.faults m.new) result }
     ensures follows { M.follows m.old m.new }
 {
     write_link(m, at)?;
     match write_operands(m, at + 2, operands)? {
         Set::Done => {
-            write_blanks(m, at + 2 + cells_of_all(operands), variables)?;
+            write_variables(alloc, m, at + 2 + cells_of_all(operands), variables)?;
             Ok(Set::Done)
         }
         Set::HeapFull => Ok(Set::HeapFull),
@@ -139,7 +143,69 @@ fn write_value<M: Memory>(m: &mut M, cell: usize, value: &Value) -> Result<Set, 
 }
 
 /// Writes what variables hold before anything was stored.
-pub fn write_blanks<M: Memory>(m: &mut M, at: usize, variables: &[Kind]) -> Result<(), MemFault>
+pub fn write_variables<M: Memory>(
+    alloc: Global,
+    m: &mut M,
+    at: usize,
+    shapes: &[Shape],
+) -> Result<(), MemFault>
+    requires { at + length (all_kinds shapes.now) ≤ CELLS }
+    ensures written { OnOk result ((cells : Cells) → M.holds m.old cells → AreBare at (length (all_kinds shapes.now)) cells →
+        M.holds m.new (written_from at (map (λ k. held_of (blank_of k)) (all_kinds shapes.now)) cells)) }
+    ensures cause { HasFaultCause (M.faults m.old) (M.faults m.new) result }
+    ensures follows { M.follows m.old m.new }
+{
+    let mut cell = at;
+    for shape in shapes {
+        cell = write_variable(alloc, m, cell, shape)?;
+    }
+    Ok(())
+}
+
+// Answers the cell behind it.
+fn write_variable<M: Memory>(
+    alloc: Global,
+    m: &mut M,
+    at: usize,
+    shape: &Shape,
+) -> Result<usize, MemFault>
+    requires { at + length (cell_kinds shape.now) ≤ CELLS }
+    ensures end { IfOk result (λ end. end ≡ at + length (cell_kinds shape.now)) }
+    ensures written { OnOk result ((cells : Cells) → M.holds m.old cells → AreBare at (length (cell_kinds shape.now)) cells →
+        M.holds m.new (written_from at (map (λ k. held_of (blank_of k)) (cell_kinds shape.now)) cells)) }
+    ensures cause { HasFaultCause (M.faults m.old) (M.faults m.new) result }
+    ensures follows { M.follows m.old m.new }
+{
+    match shape {
+        Shape::Cell(kind) => {
+            write_blank(m, at, *kind)?;
+            Ok(at + 1)
+        }
+        Shape::Row(_, _) | Shape::Struct(_) => write_cells(alloc, m, at, shape),
+    }
+}
+
+// Writes a row or structure. It stands outside the loop of a run, which is quicker so.
+#[inline(never)]
+fn write_cells<M: Memory>(
+    alloc: Global,
+    m: &mut M,
+    at: usize,
+    shape: &Shape,
+) -> Result<usize, MemFault>
+    requires { at + length (cell_kinds shape.now) ≤ CELLS }
+    ensures end { IfOk result (λ end. end ≡ at + length (cell_kinds shape.now)) }
+    ensures written { OnOk result ((cells : Cells) → M.holds m.old cells → AreBare at (length (cell_kinds shape.now)) cells →
+        M.holds m.new (written_from at (map (λ k. held_of (blank_of k)) (cell_kinds shape.now)) cells)) }
+    ensures cause { HasFaultCause (M.faults m.old) (M.faults m.new) result }
+    ensures follows { M.follows m.old m.new }
+{
+    let kinds = shape.kinds(alloc, usize::from(CELLS) - at)?;
+    write_blanks(m, at, kinds.as_slice())?;
+    Ok(at + kinds.as_slice().len())
+}
+
+fn write_blanks<M: Memory>(m: &mut M, at: usize, variables: &[Kind]) -> Result<(), MemFault>
     requires { at + length variables.now ≤ CELLS }
     ensures written { OnOk result ((cells : Cells) → M.holds m.old cells → AreBare at (length variables.now) cells →
         M.holds m.new (written_from at (map (λ k. held_of (blank_of k)) variables.now) cells)) }

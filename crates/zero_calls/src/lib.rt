@@ -6,4 +6,4 @@ mod frames;
 mod release;
 mod texts;
 
-pub use frames::write_blanks;
+pub use frames::write_variables;

@@ -4,6 +4,7 @@ ghost use Rattle.eu_base.specs.declared.address.TheConstants.{CELLS};
 ghost use Rattle.eu_base.specs.Cells.{Cells, freed, HasFaultCause};
 ghost use Rattle.code_form.specs.Machine.{is_framed};
 ghost use Rattle.eu_base.specs.Shapes.{cell_kinds};
+ghost use Rattle.cell_kinds.specs.Kinds.{all_kinds};
 ghost use Rattle.code_form.specs.Program.{HoldsValue, cell_uses, cells_of};
 ghost use Rattle.zero_calls.specs.Frames.{is_text_kind, FreesTo};
 
@@ -56,7 +57,7 @@ fn free_layout<M: Memory>(
             variables,
         } => {
             let cell = free_parameters(alloc, parameters.as_slice(), m, at, until)?;
-            free_kinds(variables.as_slice(), m, cell, until)?;
+            free_variables(alloc, variables.shapes(), m, cell, until)?;
             Ok(())
         }
         Layout::Of(_) | Layout::Level => Ok(()),
@@ -85,6 +86,27 @@ fn free_parameters<M: Memory>(
     Ok(cell)
 }
 
+fn free_variables<M: Memory>(
+    alloc: Global,
+    shapes: &[Shape],
+    m: &mut M,
+    at: usize,
+    until: usize,
+) -> Result<usize, MemFault>
+    requires within { at ≤ until }
+    requires cells { until ≤ CELLS }
+    ensures end { IfOk result (λ end. end ≡ min until (at + length (all_kinds shapes.now))) }
+    ensures freed { IfOk result (λ end. FreesTo (M.holds m.old) (M.holds m.new) (map HoldsValue (all_kinds shapes.now)) at end until) }
+    ensures cause { HasFaultCause (M.faults m.old) (M.faults m.new) result }
+    ensures follows { M.follows m.old m.new }
+{
+    let mut cell = at;
+    for shape in shapes {
+        cell = free_variable(alloc, shape, m, cell, until)?;
+    }
+    Ok(cell)
+}
+
 fn free_parameter<M: Memory>(
     alloc: Global,
     parameter: &OperandKind,
@@ -100,9 +122,28 @@ fn free_parameter<M: Memory>(
     ensures follows { M.follows m.old m.new }
 {
     match parameter {
-        OperandKind::Value(Shape::Cell(kind)) => free_kind(*kind, m, at, until),
-        OperandKind::Value(shape) => free_shape(alloc, shape, m, at, until),
+        OperandKind::Value(shape) => free_variable(alloc, shape, m, at, until),
         OperandKind::Place(_) => Ok(until.min(at + 1)),
+    }
+}
+
+fn free_variable<M: Memory>(
+    alloc: Global,
+    shape: &Shape,
+    m: &mut M,
+    at: usize,
+    until: usize,
+) -> Result<usize, MemFault>
+    requires within { at ≤ until }
+    requires cells { until ≤ CELLS }
+    ensures end { IfOk result (λ end. end ≡ min until (at + length (cell_kinds shape.now))) }
+    ensures freed { IfOk result (λ end. FreesTo (M.holds m.old) (M.holds m.new) (map HoldsValue (cell_kinds shape.now)) at end until) }
+    ensures cause { HasFaultCause (M.faults m.old) (M.faults m.new) result }
+    ensures follows { M.follows m.old m.new }
+{
+    match shape {
+        Shape::Cell(kind) => free_kind(*kind, m, at, until),
+        Shape::Row(_, _) | Shape::Struct(_) => free_shape(alloc, shape, m, at, until),
     }
 }
 

@@ -15,10 +15,11 @@ ghost use Rattle.zero_state.specs.Stepping.{position_of, control_of, scene_of, h
 ghost use Rattle.zero_machine.specs.Running.{Spends, RestsSo};
 
 use crate::instruction::execute;
+use cell_kinds::CellKinds;
 use code_form::{Code, Halt, Instr, Waits};
-use eu_base::{CELLS, Kind, MemFault, Memory, Reply, Stop};
+use eu_base::{CELLS, MemFault, Memory, Reply, Stop};
 use std::alloc::Global;
-use zero_calls::write_blanks;
+use zero_calls::write_variables;
 use zero_state::{Next, Stack, State};
 use zero_steps::reply::take_reply;
 
@@ -99,7 +100,7 @@ pub fn start<M: Memory>(alloc: Global, code: &Code, m: &mut M) -> Result<State, 
     ensures follows { M.follows m.old m.new }
 {
     let _size = code.len();
-    let waits = make_variables(m, code.variables())?;
+    let waits = make_variables(alloc, m, code.variables())?;
     Ok(State {
         alloc,
         pc: 0,
@@ -110,7 +111,11 @@ pub fn start<M: Memory>(alloc: Global, code: &Code, m: &mut M) -> Result<State, 
 }
 
 // Makes the variables. Where they have no room, the command stops at its start.
-fn make_variables<M: Memory>(m: &mut M, variables: &[Kind]) -> Result<Waits, MemFault>
+fn make_variables<M: Memory>(
+    alloc: Global,
+    m: &mut M,
+    variables: &CellKinds,
+) -> Result<Waits, MemFault>
     ensures waits { IfOk result (λ waiting. waiting ≡ cond (cells_fit (length variables.now)) waits.Nothing (waits.Refused stop.CellRoom)) }
     ensures written { OnOk result (cells_fit (length variables.now) ≡ true → (cells : Cells) → M.holds m.old cells → AreBare 0 (length variables.now) cells →
         M.holds m.new (written_from 0 (map (λ k. held_of (blank_of k)) variables.now) cells)) }
@@ -121,7 +126,7 @@ fn make_variables<M: Memory>(m: &mut M, variables: &[Kind]) -> Result<Waits, Mem
     if variables.len() > usize::from(CELLS) {
         return Ok(Waits::Refused(Stop::CellRoom));
     }
-    write_blanks(m, 0, variables)?;
+    write_variables(alloc, m, 0, variables.shapes())?;
     Ok(Waits::Nothing)
 }
 

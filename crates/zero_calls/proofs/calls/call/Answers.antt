@@ -1,4 +1,5 @@
 use Rattle.std.proofs.Common.{arith}
+use Rattle.cell_kinds.specs.Kinds.{all_kinds}
 use Rattle.zero_state.specs.Stepping.{position_of, control_of}
 use Rattle.zero_calls.proofs.Calling.{call_marked, call_enters}
 use Rattle.zero_calls.proofs.calls.call.Goals as goal
@@ -14,4 +15,4 @@ pub returns-clause-goes : goal.returns-clause-goes
 returns-clause-goes g c =
     call_enters (g.M.Memory.holds c.args.m.now) (g.M.Memory.holds c.enter.new.m) (position_of c.args.s.now) c.args.body c.args.entry.now.first
     c.args.entry.now.layout c.in-Own.parameters c.in-Own.variables c.in-Own.is c.requires.finds c.enter.result (control_of c.enter.new.s) c.args.marks.now
-    c.len.result c.as_slice.result.now c.len.ensures c.as_slice.ensures (omega (arith, c.if-marks-eq0.false)) c.enter.ensures.goes
+    c.len.result (all_kinds c.shapes.result.now) c.len.ensures c.shapes.ensures (omega (arith, c.if-marks-eq0.false)) c.enter.ensures.goes
