@@ -1,8 +1,10 @@
-//! The kinds of many cells, kept as the shapes that the cells are of.
+//! The kinds of many cells, kept as the shapes that the cells are of; and the variables of packets.
 #![tactic(auto)]
 
 mod kinds;
+mod packet;
 mod shape;
 
 pub use kinds::CellKinds;
+pub use packet::Packet;
 pub use shape::count;

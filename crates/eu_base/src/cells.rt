@@ -3,9 +3,10 @@ ghost use Rattle.std.specs.Prelude.{◌≡◌, ◌≢◌, ◌+◌, ◌≤◌, �
 ghost use Rattle.eu_base.specs.declared.cells.MemFault.TheVariants as fault;
 ghost use Rattle.eu_base.specs.declared.address.Addr.{Addr};
 ghost use Rattle.eu_base.specs.Room.{most_blocks};
-ghost use Rattle.eu_base.specs.Cells.{Word, Letters, Cells, IsCell, written, cell_blocks, blocks_in, HasText, Within, Puts, HasFaultCause};
+ghost use Rattle.eu_base.specs.declared.address.Area.{Area as Areas};
+ghost use Rattle.eu_base.specs.Cells.{Word, Letters, Cells, IsCell, written, cell_blocks, area_blocks, HasText, Within, Puts, HasFaultCause};
 
-use crate::address::Addr;
+use crate::address::{Addr, Area};
 use crate::set::Set;
 use crate::{Bytes, NoMemory};
 
@@ -28,7 +29,7 @@ impl From<NoMemory> for MemFault {
     }
 }
 
-/// A memory of cells, each of which holds a number or a text. Which of them a cell holds cannot be seen from its bytes, so contracts
+/// A memory of the cells of each area, each of which holds a number or a text. Which of them a cell holds cannot be seen from its bytes, so contracts
 /// say what a memory is known to hold: each call speaks of all that may be known.
 pub trait Memory {
     /// It holds these numbers and texts; of other cells nothing is known.
@@ -64,16 +65,16 @@ pub trait Memory {
         ensures cause { HasFaultCause (faults self.old) (faults self.new) result }
         ensures follows { follows self.old self.new };
 
-    /// Puts a text into a cell in the place of the one that it holds, where all texts then have room. Else nothing changes.
+    /// Puts a text into a cell in the place of the one that it holds, where all texts of its area then have room. Else nothing changes.
     fn set_text(&mut self, at: Addr, t: &[u8]) -> Result<Set, MemFault>
         requires { IsCell at }
         ensures puts { IfOk result (λ set. (cells : Cells) → holds self.old cells → HasText (cells at) → Puts (holds self.new) cells at t.now set) }
         ensures cause { HasFaultCause (faults self.old) (faults self.new) result }
         ensures follows { follows self.old self.new };
 
-    /// How many blocks no text has. It takes no memory.
-    fn rooms(&mut self) -> Result<u32, MemFault>
-        ensures rooms { IfOk result (λ rooms. (cells : Cells) → holds self.old cells → rooms + blocks_in cells ≡ most_blocks) }
+    /// How many blocks of an area no text has. It takes no memory.
+    fn rooms(&mut self, area: Area) -> Result<u32, MemFault>
+        ensures rooms { IfOk result (λ rooms. (cells : Cells) → holds self.old cells → rooms + area_blocks area cells ≡ most_blocks) }
         ensures kept { OnOk result ((cells : Cells) → holds self.old cells → holds self.new cells) }
         ensures memory { result ≢ Err fault.NoMemory }
         ensures cause { HasFaultCause (faults self.old) (faults self.new) result }
@@ -86,8 +87,8 @@ pub trait Memory {
     ghost empty: { (memory : Self) (cells : Cells) (at : Addr) → IsCell at → holds memory cells → cells at ≡ Word 0 →
         holds memory (written cells at (Letters [])) };
 
-    /// All known texts together have room.
-    ghost room: { (memory : Self) (cells : Cells) → holds memory cells → blocks_in cells ≤ most_blocks };
+    /// All known texts of an area together have room.
+    ghost room: { (memory : Self) (area : Areas) (cells : Cells) → holds memory cells → area_blocks area cells ≤ most_blocks };
 
     ghost reflexive: { (memory : Self) → follows memory memory };
 

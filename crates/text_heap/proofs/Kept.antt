@@ -1,16 +1,17 @@
--- What is known of the cells of a space, as they change.
+-- What is known of the cells of an area, as its space changes.
 use Rattle.std.proofs.Common.{◌≡◌, ◌≢◌, ◌⊎◌, ℕ, ◌+◌, ◌*◌, ◌/◌, ◌%◌, min, ◌<◌, ◌≤◌, Bool, true, false, cond, ◌==◌, List, [], length, Option, Some, None, inl, inr}
 use Rattle.std.proofs.Common.{refl, sym, ap, ◌∙◌, subst, arith, ⊎_elim}
 use Rattle.std.proofs.lemmas.Bool.Decides.{eqb_tells}
 use Rattle.std.specs.Option.{IsSome}
+use Rattle.std.specs.Prelude.{◌&&◌}
 use Rattle.eu_base.specs.declared.address.Area.{Area}
-use Rattle.eu_base.specs.declared.address.Area.TheVariants.{Run}
+use Rattle.eu_base.specs.declared.address.Area.TheVariants.{Run, Packets}
 use Rattle.eu_base.specs.declared.address.Addr.{Addr}
 use Rattle.eu_base.specs.declared.set.Set.{Set}
 use Rattle.eu_base.specs.declared.set.Set.TheVariants.{Done, HeapFull}
 use Rattle.eu_base.specs.Spaces.{Content, IsKept}
 use Rattle.eu_base.specs.Room.{most_blocks}
-use Rattle.eu_base.specs.Cells.{Cell, Free, Word, Letters, Cells, IsCell, run_cell, written, cell_blocks, blocks_in, HasText, Puts, Within}
+use Rattle.eu_base.specs.Cells.{Cell, Free, Word, Letters, Cells, IsCell, area_cell, same_area, written, cell_blocks, area_blocks, HasText, Puts, Within}
 use Rattle.cell_layout.specs.Layout.{cell_in, HoldsIn, IsKeptBut}
 use Rattle.cell_layout.proofs.Numbers.{same_cell}
 use Rattle.text_blocks.specs.Blocks.{block_at, blocks_of, text_in, chain_in, chain, gather, length_in, first_in, times}
@@ -25,31 +26,35 @@ use Rattle.text_heap.proofs.Zeros.{zeros_hold}
 some_is : {A : Type 0} (a b : A) → Some a ≡ Some b → a ≡ b
 some_is a b e = cc
 
--- an area has one kind of cells
-the_cell : (at : Addr) → run_cell at.cell ≡ at
-the_cell at = by at.area refl
-  where
-    by : (area : Area) → at.area ≡ area → run_cell at.cell ≡ at
-    by Run e = ap (λ (area : Area). record { area = area; cell = at.cell }) (sym e)
-
 -- the blocks of a known text are those of the map of texts
 blocks_same : (x : Cell) → size_of (text_of x) ≡ cell_blocks x
 blocks_same Free = refl
 blocks_same (Word n) = refl
 blocks_same (Letters t) = refl
 
-all_blocks : (cells : Cells) → heap.blocks_in (texts_of cells) ≡ blocks_in cells
-all_blocks cells =
-    total_same (λ c. size_of (texts_of cells c)) (λ c. cell_blocks (cells (run_cell c))) 16384 (λ c low. blocks_same (cells (run_cell c)))
+all_blocks : (area : Area) (cells : Cells) → heap.blocks_in (texts_of area cells) ≡ area_blocks area cells
+all_blocks area cells =
+    total_same (λ c. size_of (texts_of area cells c)) (λ c. cell_blocks (cells (area_cell area c))) 16384 (λ c low. blocks_same (cells (area_cell area c)))
 
 -- a space that did not change holds what it held
-pub kept_held : (before now : Content) (cells : Cells) → IsKept before now → HoldsCells before cells → HoldsCells now cells
-kept_held before now cells same h = let content : before ≡ now = λ i n. sym (same n) i in subst (λ c. HoldsCells c cells) content h
+pub kept_held : (area : Area) (before now : Content) (cells : Cells) → IsKept before now → HoldsCells area before cells → HoldsCells area now cells
+kept_held area before now cells same h = let content : before ≡ now = λ i n. sym (same n) i in subst (λ c. HoldsCells area c cells) content h
+
+-- nothing is known of a cell of another area that was written
+pub other_held : (area : Area) (content : Content) (cells : Cells) (at : Addr) (x : Cell) → same_area area at.area ≡ false → HoldsCells area content cells
+    → HoldsCells area content (written cells at x)
+other_held area content cells at x other h = record {
+  words = λ c n low is. h.words c n low (sym (same c) ∙ is);
+  texts = subst (Holds content) (λ i c. ap text_of (sym (same c)) i) h.texts;
+}
+  where
+    same : (c : ℕ) → written cells at x (area_cell area c) ≡ cells (area_cell area c)
+    same c = ap (λ b. cond (b && c == at.cell) x (cells (area_cell area c))) other
 
 -- of a space of zeros nothing need be known
-pub zeros_held : (content : Content) → ((n : ℕ) → content n ≡ 0) → HoldsCells content (λ _. Free)
-zeros_held content zero = record {
-  words = λ a n low is. let f : ⊥ = cc in absurd f;
+pub zeros_held : (area : Area) (content : Content) → ((n : ℕ) → content n ≡ 0) → HoldsCells area content (λ _. Free)
+zeros_held area content zero = record {
+  words = λ c n low is. let f : ⊥ = cc in absurd f;
   texts = zeros_hold content zero (λ _. None) (λ c t is. let f : ⊥ = cc in absurd f);
 }
 
@@ -68,92 +73,97 @@ unpart content texts h c k (Some t) low is none =
     none_there content c k (length_is content texts h c t low is c t low is ∙ no_blocks (length t) none)
 
 -- cells without blocks may be forgotten
-pub fewer_held : (content : Content) (cells fewer : Cells) → HoldsCells content cells → Within fewer cells → HoldsCells content fewer
-fewer_held content cells fewer h within = record {
-  words = λ a n low is. ⊎_elim (λ e. h.words a n low (sym e ∙ is)) (λ e. let f : Word n ≡ Free = sym is ∙ e.0 in let g : ⊥ = cc in absurd g) (within a);
+abbrev Less : Cell → Cell → Type 0
+Less fewer known = (fewer ≡ known) ⊎ ((fewer ≡ Free) × (cell_blocks known ≡ 0))
+
+fewer_there : (area : Area) (content : Content) (cells fewer : Cells) → HoldsCells area content cells
+    → ((c : ℕ) → Less (fewer (area_cell area c)) (cells (area_cell area c))) → HoldsCells area content fewer
+fewer_there area content cells fewer h within = record {
+  words = λ c n low is. ⊎_elim (λ e. h.words c n low (sym e ∙ is)) (λ e. let f : Word n ≡ Free = sym is ∙ e.0 in let g : ⊥ = cc in absurd g) (within c);
   texts = record {
     each = λ c t low is. ⊎_elim (λ e. h.texts.each c t low (ap text_of (sym e) ∙ is))
-        (λ e. let f : Some t ≡ None = sym is ∙ ap text_of e.0 in let g : ⊥ = cc in absurd g) (within (run_cell c));
+        (λ e. let f : Some t ≡ None = sym is ∙ ap text_of e.0 in let g : ⊥ = cc in absurd g) (within c);
     sound = λ k under.
-        total_same (λ c. part content k c (texts_of fewer c)) (λ c. part content k c (texts_of cells c)) 16384 (λ c low. ⊎_elim
+        total_same (λ c. part content k c (texts_of area fewer c)) (λ c. part content k c (texts_of area cells c)) 16384 (λ c low. ⊎_elim
         (λ e. ap (λ x. part content k c (text_of x)) e)
         (λ e. ap (λ x. part content k c (text_of x)) e.0
-        ∙ sym (unpart content (texts_of cells) h.texts c k (texts_of cells c) low refl (blocks_same (cells (run_cell c)) ∙ e.1)))
-        (within (run_cell c)))
+        ∙ sym (unpart content (texts_of area cells) h.texts c k (texts_of area cells c) low refl (blocks_same (cells (area_cell area c)) ∙ e.1)))
+        (within c))
         ∙ h.texts.sound k under;
   };
 }
 
+pub fewer_held : (area : Area) (content : Content) (cells fewer : Cells) → HoldsCells area content cells → Within fewer cells → HoldsCells area content fewer
+fewer_held area content cells fewer h within = fewer_there area content cells fewer h (λ c. within (area_cell area c))
+
 -- what is known of a cell that was written, and of another
-there : (cells : Cells) (at : ℕ) (x : Cell) (c : ℕ) → c ≡ at → written cells (run_cell at) x (run_cell c) ≡ x
-there cells at x c e = ap (λ b. cond b x (cells (run_cell c))) (⊎_elim (λ t. t.0) (λ t. absurd (t.1 e)) (eqb_tells c at))
+written_at : (area : Area) (cells : Cells) (at : ℕ) (x : Cell) (c : ℕ)
+    → written cells (area_cell area at) x (area_cell area c) ≡ cond (c == at) x (cells (area_cell area c))
+written_at Run cells at x c = refl
+written_at Packets cells at x c = refl
 
-else : (cells : Cells) (at : ℕ) (x : Cell) (c : ℕ) → c ≢ at → written cells (run_cell at) x (run_cell c) ≡ cells (run_cell c)
-else cells at x c ne = ap (λ b. cond b x (cells (run_cell c))) (⊎_elim (λ t. absurd (ne t.1)) (λ t. t.0) (eqb_tells c at))
+there : (area : Area) (cells : Cells) (at : ℕ) (x : Cell) (c : ℕ) → c ≡ at → written cells (area_cell area at) x (area_cell area c) ≡ x
+there area cells at x c e =
+    written_at area cells at x c ∙ ap (λ b. cond b x (cells (area_cell area c))) (⊎_elim (λ t. t.0) (λ t. absurd (t.1 e)) (eqb_tells c at))
 
--- it is enough to look at the cells of the command
-by_number : (content : Content) (cells : Cells) → ((c n : ℕ) → c < 16384 → cells (run_cell c) ≡ Word n → cell_in content c ≡ n)
-    → (a : Addr) (n : ℕ) → IsCell a → cells a ≡ Word n → cell_in content a.cell ≡ n
-by_number content cells h a n low is = h a.cell n low (ap cells (the_cell a) ∙ is)
+else : (area : Area) (cells : Cells) (at : ℕ) (x : Cell) (c : ℕ) → c ≢ at → written cells (area_cell area at) x (area_cell area c) ≡ cells (area_cell area c)
+else area cells at x c ne =
+    written_at area cells at x c ∙ ap (λ b. cond b x (cells (area_cell area c))) (⊎_elim (λ t. absurd (ne t.1)) (λ t. t.0) (eqb_tells c at))
 
-module _ (content : Content) (cells : Cells) (at : ℕ) (low : at < 16384) (h : HoldsCells content cells) (is : cells (run_cell at) ≡ Word 0) where
+module _ (area : Area) (content : Content) (cells : Cells) (at : ℕ) (low : at < 16384) (h : HoldsCells area content cells)
+    (is : cells (area_cell area at) ≡ Word 0) where
   abbrev with_empty : Cells
-  with_empty = written cells (run_cell at) (Letters [])
+  with_empty = written cells (area_cell area at) (Letters [])
 
   nothing : length_in content at ≡ 0
-  nothing = let zero = h.words (run_cell at) 0 low is in omega (arith, zero)
+  nothing = let zero = h.words at 0 low is in omega (arith, zero)
 
-  empty_there : HoldsCells content with_empty
+  empty_there : HoldsCells area content with_empty
   empty_there = record {
-    words =
-        by_number content with_empty (λ c n lt e. ⊎_elim
-        (λ t. let f : Letters [] ≡ Word n = sym (there cells at (Letters []) c t.1) ∙ e in let g : ⊥ = cc in absurd g)
-        (λ t. h.words (run_cell c) n lt (sym (else cells at (Letters []) c t.1) ∙ e)) (eqb_tells c at));
+    words = λ c n lt e. ⊎_elim
+        (λ t. let f : Letters [] ≡ Word n = sym (there area cells at (Letters []) c t.1) ∙ e in let g : ⊥ = cc in absurd g)
+        (λ t. h.words c n lt (sym (else area cells at (Letters []) c t.1) ∙ e)) (eqb_tells c at);
     texts = record {
       each = λ c t lt e. ⊎_elim
           (λ y.
-          let same : [] ≡ t = some_is [] t (ap text_of (sym (there cells at (Letters []) c y.1)) ∙ e) in
+          let same : [] ≡ t = some_is [] t (ap text_of (sym (there area cells at (Letters []) c y.1)) ∙ e) in
           ap (text_in content) y.1 ∙ ap (λ n. gather content (first_in content at) n (blocks_of n)) nothing
           ∙ gather_none content (first_in content at) 0 ∙ same)
-          (λ y. h.texts.each c t lt (ap text_of (sym (else cells at (Letters []) c y.1)) ∙ e)) (eqb_tells c at);
+          (λ y. h.texts.each c t lt (ap text_of (sym (else area cells at (Letters []) c y.1)) ∙ e)) (eqb_tells c at);
       sound = λ k under.
-          total_same (λ c. part content k c (texts_of with_empty c)) (λ c. part content k c (texts_of cells c)) 16384 (λ c lt. ⊎_elim
+          total_same (λ c. part content k c (texts_of area with_empty c)) (λ c. part content k c (texts_of area cells c)) 16384 (λ c lt. ⊎_elim
           (λ y.
-          let a : part content k c (texts_of with_empty c) ≡ times k (chain_in content c) =
-          ap (λ x. part content k c (text_of x)) (there cells at (Letters []) c y.1) in
+          let a : part content k c (texts_of area with_empty c) ≡ times k (chain_in content c) =
+          ap (λ x. part content k c (text_of x)) (there area cells at (Letters []) c y.1) in
           let b : times k (chain_in content c) ≡ 0 = ap (λ d. times k (chain_in content d)) y.1 ∙ none_there content at k nothing in
-          let d : part content k c (texts_of cells c) ≡ 0 =
-          ap (λ x. part content k c (text_of x)) (ap (λ c. cells (run_cell c)) y.1 ∙ is) in
+          let d : part content k c (texts_of area cells c) ≡ 0 =
+          ap (λ x. part content k c (text_of x)) (ap (λ c. cells (area_cell area c)) y.1 ∙ is) in
           a ∙ b ∙ sym d)
-          (λ y. ap (λ x. part content k c (text_of x)) (else cells at (Letters []) c y.1)) (eqb_tells c at))
+          (λ y. ap (λ x. part content k c (text_of x)) (else area cells at (Letters []) c y.1)) (eqb_tells c at))
           ∙ h.texts.sound k under;
     };
   }
 
 -- the number 0 is the text ""
-pub empty_held : (content : Content) (cells : Cells) (at : Addr) → IsCell at → HoldsCells content cells → cells at ≡ Word 0
-    → HoldsCells content (written cells at (Letters []))
-empty_held content cells at low h is =
-    subst (λ a. HoldsCells content (written cells a (Letters []))) (the_cell at)
-    (empty_there content cells at.cell low h (ap cells (the_cell at) ∙ is))
+pub empty_held : (content : Content) (cells : Cells) (at : Addr) → IsCell at → HoldsCells at.area content cells → cells at ≡ Word 0
+    → HoldsCells at.area content (written cells at (Letters []))
+empty_held content cells at low h is = empty_there at.area content cells at.cell low h is
 
-module _ (before now : Content) (cells : Cells) (at n : ℕ) (low : at < 16384) (h : HoldsCells before cells) (none : cell_blocks (cells (run_cell at)) ≡ 0)
+module _ (area : Area) (before now : Content) (cells : Cells) (at n : ℕ) (low : at < 16384) (h : HoldsCells area before cells)
+    (none : cell_blocks (cells (area_cell area at)) ≡ 0)
     (put : HoldsIn before now at n) (kept : IsKeptBut before now at 1) where
   abbrev fewer : Cells
-  fewer = written cells (run_cell at) Free
+  fewer = written cells (area_cell area at) Free
 
   abbrev with_word : Cells
-  with_word = written cells (run_cell at) (Word n)
+  with_word = written cells (area_cell area at) (Word n)
 
-  abbrev Less : Addr → Type 0
-  Less a = (fewer a ≡ cells a) ⊎ ((fewer a ≡ Free) × (cell_blocks (cells a) ≡ 0))
+  within : (c : ℕ) → Less (fewer (area_cell area c)) (cells (area_cell area c))
+  within c = ⊎_elim (λ t. inr (there area cells at Free c t.1, ap (λ c. cell_blocks (cells (area_cell area c))) t.1 ∙ none))
+      (λ t. inl (else area cells at Free c t.1)) (eqb_tells c at)
 
-  within : (c : ℕ) → Less (run_cell c)
-  within c = ⊎_elim (λ t. inr (there cells at Free c t.1, ap (λ c. cell_blocks (cells (run_cell c))) t.1 ∙ none))
-      (λ t. inl (else cells at Free c t.1)) (eqb_tells c at)
-
-  less : HoldsCells before fewer
-  less = fewer_held before cells fewer h (λ a. subst Less (the_cell a) (within a.cell))
+  less : HoldsCells area before fewer
+  less = fewer_there area before cells fewer h within
 
   same_block : (j off : ℕ) → off < 32 → now (block_at j + off) ≡ before (block_at j + off)
   same_block j off in_it = kept (block_at j + off) (inr (omega (arith, low)))
@@ -175,104 +185,101 @@ module _ (before now : Content) (cells : Cells) (at n : ℕ) (low : at < 16384) 
   part_same k c None ne = refl
   part_same k c (Some t) ne = ap (times k) (chain_kept c ne)
 
-  here : (c : ℕ) → c ≡ at → text_of (with_word (run_cell c)) ≡ None
-  here c e = ap text_of (there cells at (Word n) c e)
+  here : (c : ℕ) → c ≡ at → text_of (with_word (area_cell area c)) ≡ None
+  here c e = ap text_of (there area cells at (Word n) c e)
 
-  gone : (c : ℕ) → c ≡ at → text_of (fewer (run_cell c)) ≡ None
-  gone c e = ap text_of (there cells at Free c e)
+  gone : (c : ℕ) → c ≡ at → text_of (fewer (area_cell area c)) ≡ None
+  gone c e = ap text_of (there area cells at Free c e)
 
-  other : (c : ℕ) → c ≢ at → text_of (with_word (run_cell c)) ≡ text_of (fewer (run_cell c))
-  other c ne = ap text_of (else cells at (Word n) c ne ∙ sym (else cells at Free c ne))
+  other : (c : ℕ) → c ≢ at → text_of (with_word (area_cell area c)) ≡ text_of (fewer (area_cell area c))
+  other c ne = ap text_of (else area cells at (Word n) c ne ∙ sym (else area cells at Free c ne))
 
   word_is : (m : ℕ) → Word n ≡ Word m → n ≡ m
   word_is m e = cc
 
-  word_there : HoldsCells now with_word
+  word_there : HoldsCells area now with_word
   word_there = record {
-    words =
-        by_number now with_word (λ c m lt e. ⊎_elim
+    words = λ c m lt e. ⊎_elim
         (λ t.
-        let same : n ≡ m = word_is m (sym (there cells at (Word n) c t.1) ∙ e) in
+        let same : n ≡ m = word_is m (sym (there area cells at (Word n) c t.1) ∙ e) in
         put c ∙ ap (λ b. cond b n (cell_in before c)) t.0 ∙ same)
-        (λ t. number c t.1 ∙ h.words (run_cell c) m lt (sym (else cells at (Word n) c t.1) ∙ e)) (eqb_tells c at));
+        (λ t. number c t.1 ∙ h.words c m lt (sym (else area cells at (Word n) c t.1) ∙ e)) (eqb_tells c at);
     texts = record {
       each = λ c t lt e. ⊎_elim (λ y. let f : None ≡ Some t = sym (here c y.1) ∙ e in let g : ⊥ = cc in absurd g)
           (λ y. text_same c y.1 ∙ less.texts.each c t lt (sym (other c y.1) ∙ e)) (eqb_tells c at);
       sound = λ k under.
-          total_same (λ c. part now k c (texts_of with_word c)) (λ c. part before k c (texts_of fewer c)) 16384 (λ c lt. ⊎_elim
+          total_same (λ c. part now k c (texts_of area with_word c)) (λ c. part before k c (texts_of area fewer c)) 16384 (λ c lt. ⊎_elim
           (λ y. ap (part now k c) (here c y.1) ∙ sym (ap (part before k c) (gone c y.1)))
-          (λ y. ap (part now k c) (other c y.1) ∙ part_same k c (text_of (fewer (run_cell c))) y.1) (eqb_tells c at))
+          (λ y. ap (part now k c) (other c y.1) ∙ part_same k c (text_of (fewer (area_cell area c))) y.1) (eqb_tells c at))
           ∙ less.texts.sound k under ∙ sym (same_used before now k (λ off in_it read. same_block k off in_it));
     };
   }
 
 -- a number was put into a cell without blocks
-pub word_held : (before now : Content) (cells : Cells) (at : Addr) (n : ℕ) → IsCell at → HoldsCells before cells → cell_blocks (cells at) ≡ 0
-    → HoldsIn before now at.cell n → IsKeptBut before now at.cell 1 → HoldsCells now (written cells at (Word n))
-word_held before now cells at n low h none put kept =
-    subst (λ a. HoldsCells now (written cells a (Word n))) (the_cell at)
-    (word_there before now cells at.cell n low h (ap (λ a. cell_blocks (cells a)) (the_cell at) ∙ none) put kept)
+pub word_held : (before now : Content) (cells : Cells) (at : Addr) (n : ℕ) → IsCell at → HoldsCells at.area before cells → cell_blocks (cells at) ≡ 0
+    → HoldsIn before now at.cell n → IsKeptBut before now at.cell 1 → HoldsCells at.area now (written cells at (Word n))
+word_held before now cells at n low h none put kept = word_there at.area before now cells at.cell n low h none put kept
 
 -- the text that was read is the one that is known
 pub text_read : (content : Content) (cells : Cells) (at : Addr) (text t : List ℕ)
-    → ((texts : Texts) → Holds content texts → IsSome (texts at.cell) → texts at.cell ≡ Some text) → HoldsCells content cells → cells at ≡ Letters t → text ≡ t
+    → ((texts : Texts) → Holds content texts → IsSome (texts at.cell) → texts at.cell ≡ Some text) → HoldsCells at.area content cells → cells at ≡ Letters t
+    → text ≡ t
 text_read content cells at text t found h is =
-    let known : texts_of cells at.cell ≡ Some t = ap (λ a. text_of (cells a)) (the_cell at) ∙ ap text_of is in
-    some_is text t (sym (found (texts_of cells) h.texts (subst (λ o. IsSome o) (sym known) refl)) ∙ known)
+    let known : texts_of at.area cells at.cell ≡ Some t = ap text_of is in
+    some_is text t (sym (found (texts_of at.area cells) h.texts (subst (λ o. IsSome o) (sym known) refl)) ∙ known)
 
 -- a text was put in the place of another
-texts_written : (cells : Cells) (at : ℕ) (t : List ℕ) → stored (texts_of cells) at t ≡ texts_of (written cells (run_cell at) (Letters t))
-texts_written cells at t i c = pointwise c i
+texts_written : (area : Area) (cells : Cells) (at : ℕ) (t : List ℕ)
+    → stored (texts_of area cells) at t ≡ texts_of area (written cells (area_cell area at) (Letters t))
+texts_written area cells at t i c = pointwise c i
   where
     by : (b : Bool) (x : Cell) → cond b (Some t) (text_of x) ≡ text_of (cond b (Letters t) x)
     by true x = refl
     by false x = refl
 
-    pointwise : (c : ℕ) → stored (texts_of cells) at t c ≡ texts_of (written cells (run_cell at) (Letters t)) c
-    pointwise c = by (c == at) (cells (run_cell c))
+    pointwise : (c : ℕ) → stored (texts_of area cells) at t c ≡ texts_of area (written cells (area_cell area at) (Letters t)) c
+    pointwise c = by (c == at) (cells (area_cell area c)) ∙ ap text_of (sym (written_at area cells at (Letters t) c))
 
-module _ (before now : Content) (cells : Cells) (at : ℕ) (t : List ℕ) (low : at < 16384) (h : HoldsCells before cells)
-    (has : HasText (cells (run_cell at))) (kept : KeepsCells before now at) where
+module _ (area : Area) (before now : Content) (cells : Cells) (at : ℕ) (t : List ℕ) (low : at < 16384) (h : HoldsCells area before cells)
+    (has : HasText (cells (area_cell area at))) (kept : KeepsCells before now at) where
   abbrev with_text : Cells
-  with_text = written cells (run_cell at) (Letters t)
+  with_text = written cells (area_cell area at) (Letters t)
 
-  all_then : heap.blocks_in (stored (texts_of cells) at t) ≡ blocks_in with_text
-  all_then = ap heap.blocks_in (texts_written cells at t) ∙ all_blocks with_text
+  all_then : heap.blocks_in (stored (texts_of area cells) at t) ≡ area_blocks area with_text
+  all_then = ap heap.blocks_in (texts_written area cells at t) ∙ all_blocks area with_text
 
   apart : (c k : ℕ) → c ≢ at → k < 8 → (8 * c + k < 8 * at) ⊎ (8 * at + 8 ≤ 8 * c + k)
   apart c k ne in_it = grind (arith, ne)
 
   put_there : (set : Set) → ((texts : Texts) → Holds before texts → IsSome (texts at) → Sets before now texts at t set)
-      → Puts (HoldsCells now) cells (run_cell at) t set
+      → Puts (HoldsCells area now) cells (area_cell area at) t set
   put_there Done sets =
-      let x = sets (texts_of cells) h.texts (subst (λ c. IsSome (text_of c)) (sym has.is) refl) in (
+      let x = sets (texts_of area cells) h.texts (subst (λ c. IsSome (text_of c)) (sym has.is) refl) in (
         subst (λ n. n ≤ most_blocks) all_then x.0,
         record {
-          words =
-              by_number now with_text (λ c n lt e. ⊎_elim
-              (λ y. let f : Letters t ≡ Word n = sym (there cells at (Letters t) c y.1) ∙ e in let g : ⊥ = cc in absurd g)
+          words = λ c n lt e. ⊎_elim
+              (λ y. let f : Letters t ≡ Word n = sym (there area cells at (Letters t) c y.1) ∙ e in let g : ⊥ = cc in absurd g)
               (λ y.
               same_cell before now c (λ k in_it. kept (8 * c + k) (omega (arith, lt, in_it)) (apart c k y.1 in_it))
-              ∙ h.words (run_cell c) n lt (sym (else cells at (Letters t) c y.1) ∙ e)) (eqb_tells c at));
-          texts = subst (Holds now) (texts_written cells at t) x.1;
+              ∙ h.words c n lt (sym (else area cells at (Letters t) c y.1) ∙ e)) (eqb_tells c at);
+          texts = subst (Holds now) (texts_written area cells at t) x.1;
         },
       )
   put_there HeapFull sets =
-      let x = sets (texts_of cells) h.texts (subst (λ c. IsSome (text_of c)) (sym has.is) refl) in
-      (subst (λ n. most_blocks < n) all_then x.0, kept_held before now cells x.1 h)
+      let x = sets (texts_of area cells) h.texts (subst (λ c. IsSome (text_of c)) (sym has.is) refl) in
+      (subst (λ n. most_blocks < n) all_then x.0, kept_held area before now cells x.1 h)
 
-pub text_held : (before now : Content) (cells : Cells) (at : Addr) (t : List ℕ) (set : Set) → IsCell at → HoldsCells before cells → HasText (cells at)
-    → ((texts : Texts) → Holds before texts → IsSome (texts at.cell) → Sets before now texts at.cell t set) → KeepsCells before now at.cell
-    → Puts (HoldsCells now) cells at t set
-text_held before now cells at t set low h has sets kept =
-    subst (λ a. Puts (HoldsCells now) cells a t set) (the_cell at)
-    (put_there before now cells at.cell t low h (subst (λ a. HasText (cells a)) (sym (the_cell at)) has) kept set sets)
+pub text_held : (before now : Content) (cells : Cells) (at : Addr) (t : List ℕ) (set : Set) → IsCell at → HoldsCells at.area before cells
+    → HasText (cells at) → ((texts : Texts) → Holds before texts → IsSome (texts at.cell) → Sets before now texts at.cell t set)
+    → KeepsCells before now at.cell → Puts (HoldsCells at.area now) cells at t set
+text_held before now cells at t set low h has sets kept = put_there at.area before now cells at.cell t low h has kept set sets
 
 -- all texts together have room
-pub room_held : (content : Content) (cells : Cells) → HoldsCells content cells → blocks_in cells ≤ most_blocks
-room_held content cells h = let a = room content (texts_of cells) h.texts in let b = all_blocks cells in omega (arith, a, b)
+pub room_held : (area : Area) (content : Content) (cells : Cells) → HoldsCells area content cells → area_blocks area cells ≤ most_blocks
+room_held area content cells h = let a = room content (texts_of area cells) h.texts in let b = all_blocks area cells in omega (arith, a, b)
 
 -- the blocks that are free are those that no known text has
-pub rooms_left : (content : Content) (cells : Cells) (rooms : ℕ) → ((texts : Texts) → Holds content texts → rooms + heap.blocks_in texts ≡ most_blocks)
-    → HoldsCells content cells → rooms + blocks_in cells ≡ most_blocks
-rooms_left content cells rooms left h = let a = left (texts_of cells) h.texts in let b = all_blocks cells in omega (arith, a, b)
+pub rooms_left : (area : Area) (content : Content) (cells : Cells) (rooms : ℕ)
+    → ((texts : Texts) → Holds content texts → rooms + heap.blocks_in texts ≡ most_blocks) → HoldsCells area content cells
+    → rooms + area_blocks area cells ≡ most_blocks
+rooms_left area content cells rooms left h = let a = left (texts_of area cells) h.texts in let b = all_blocks area cells in omega (arith, a, b)

@@ -9,6 +9,7 @@ use Rattle.eu_base.specs.declared.set.Set.TheVariants.{Done, HeapFull}
 use Rattle.eu_base.specs.declared.value.Kind.{Kind}
 use Rattle.eu_base.specs.declared.value.Value.{Value}
 use Rattle.eu_base.specs.Values.{blank_of}
+use Rattle.eu_base.specs.declared.address.Area.TheVariants.{Run}
 use Rattle.eu_base.specs.Cells.{Cell, Free, Cells, held_of, run_cell, freed, blocks_in, AreBare}
 use Rattle.code_form.specs.declared.operand.Operand.{Operand}
 use Rattle.code_form.specs.Machine.{held_cells, link_contents, frame_contents, written_from}
@@ -27,13 +28,13 @@ PutsOne before after k x set = (cells : Cells) → before cells → cells (run_c
 -- the next cell is free
 pub free_here : (at k n : ℕ) (ns : List Cell) (cells : Cells) → k < n → AreFree at n cells → written_from at (take k ns) cells (run_cell (at + k)) ≡ Free
 free_here at k n ns cells lt free =
-    behind (take k ns) at (at + k) cells (let short = length-take k ns in omega (arith, short)) ∙ free (at + k) (omega arith) (omega (arith, lt))
+    behind Run (take k ns) at (at + k) cells (let short = length-take k ns in omega (arith, short)) ∙ free (at + k) (omega arith) (omega (arith, lt))
 
 -- a part of it takes no more blocks than all
 part_blocks : (at : ℕ) (xs ys : List Cell) (cells : Cells) → AreFree at (length (xs ++ ys)) cells
     → blocks_in (written_from at xs cells) ≤ blocks_in (written_from at (xs ++ ys) cells)
 part_blocks at xs ys cells free =
-    let whole = ap blocks_in (written_append at xs ys cells) in
+    let whole = ap blocks_in (written_append Run at xs ys cells) in
     let size = length-append xs ys in
     let more = more_blocks ys (at + length xs) (written_from at xs cells)
     (free_behind at at (length (xs ++ ys)) (at + length xs) (length ys) xs cells (omega arith) (omega arith) (omega (arith, size)) free) in
@@ -46,7 +47,7 @@ all_full : (between after : Cells → Type 0) → Forgets after → (at : ℕ) (
     → PutsFrom between (at + length xs) ys (written_from at xs cells) HeapFull → PutsFrom after at (xs ++ (ys ++ zs)) cells HeapFull
 all_full between after forgets at xs ys zs cells free clears full =
     let size = length-append xs (ys ++ zs) in
-    let first = ap blocks_in (written_append at xs ys cells) in
+    let first = ap blocks_in (written_append Run at xs ys cells) in
     let same : (xs ++ ys) ++ zs ≡ xs ++ (ys ++ zs) = append_assoc xs ys zs in
     let least : blocks_in (written_from at (xs ++ ys) cells) ≤ blocks_in (written_from at (xs ++ (ys ++ zs)) cells) =
     subst (λ l. blocks_in (written_from at (xs ++ ys) cells) ≤ blocks_in (written_from at l cells)) same
@@ -90,12 +91,12 @@ values_full between after forgets forgets' at k values first v d lt v_is is clea
 pub value_done : (after : Cells → Type 0) (at k : ℕ) (values : List Value) (v d : Value) (cells : Cells) → k < length values → v ≡ get_or values k d
     → PutsFrom after (at + k) (held_of v ∷ []) (written_from at (take k (map held_of values)) cells) Done
     → after (written_from at (take (k + 1) (map held_of values)) cells)
-value_done after at k values v d cells lt is = subst after (written_more held_of at k values d (held_of v) cells lt (ap held_of is))
+value_done after at k values v d cells lt is = subst after (written_more Run held_of at k values d (held_of v) cells lt (ap held_of is))
 
 -- all of them are written
 pub values_done : (holds : Cells → Type 0) (at k : ℕ) (values : List Value) (cells : Cells) → length values ≤ k → k ≤ length values
     → holds (written_from at (take k (map held_of values)) cells) → PutsFrom holds at (map held_of values) cells Done
-values_done holds at k values cells le within = subst holds (written_all held_of at k values cells le within)
+values_done holds at k values cells le within = subst holds (written_all Run held_of at k values cells le within)
 
 -- operands, each of which stands in some cells
 module _ (at k : ℕ) (operands : List Operand) (o d : Operand) (lt : k < length operands) (is : o ≡ get_or operands k d) where
@@ -143,7 +144,7 @@ module _ (at k : ℕ) (operands : List Operand) (o d : Operand) (lt : k < length
       → PutsFrom after cell (held_cells o) (written_from at before_it cells) Done → after (written_from at (flat_map held_cells (take (k + 1) operands)) cells)
   operand_done after cell cells here put =
       subst (λ l. after (written_from at l cells)) (sym with_it)
-      (subst after (sym (written_append at before_it (held_cells o) cells))
+      (subst after (sym (written_append Run at before_it (held_cells o) cells))
       (subst (λ n. after (written_from n (held_cells o) (written_from at before_it cells))) here put))
 
   pub operands_full : (between after : Cells → Type 0) → Forgets after → (cell : ℕ) (cells : Cells) → cell ≡ at + length before_it
@@ -168,7 +169,7 @@ all_taken k operands le = ap (flat_map held_cells) (take_all k operands le)
 
 -- so it holds a frame when all of it was written
 module _ (before linked written : Cells → Type 0) (at : ℕ) (args : List Operand) (variables : List Kind)
-    (link : (cells : Cells) → before cells → AreBare at 2 cells → linked (written_from at link_contents cells)) where
+    (link : (cells : Cells) → before cells → AreBare Run at 2 cells → linked (written_from at link_contents cells)) where
   abbrev params : List Cell
   params = flat_map held_cells args
 
@@ -198,7 +199,7 @@ module _ (before linked written : Cells → Type 0) (at : ℕ) (args : List Oper
 
   pub frame_done : (after : Cells → Type 0)
       → ((cells : Cells) → linked cells → AreFree (at + 2) (length (flat_map held_cells args)) cells → PutsFrom written (at + 2) params cells Done)
-      → ((cells : Cells) → written cells → AreBare (at + 2 + length (flat_map held_cells args)) (length variables) cells
+      → ((cells : Cells) → written cells → AreBare Run (at + 2 + length (flat_map held_cells args)) (length variables) cells
       → after (written_from (at + 2 + length (flat_map held_cells args)) blanks cells))
       → (cells : Cells) → before cells → Frees cells → PutsFrom after at (frame_contents args variables) cells Done
   frame_done after puts made cells h free =

@@ -1,17 +1,19 @@
 -- Cells of frames that are left, and of frames that have no room.
 use Rattle.std.proofs.Common.{◌≡◌, ℕ, zero, suc, ◌+◌, ◌-◌, ◌<◌, ◌≤◌, Bool, true, false, min, cond, List, [], ◌∷◌, ◌++◌, map, length, Option, Some, None, refl, sym}
 use Rattle.std.proofs.Common.{ap, ◌∙◌, subst, arith, append_assoc, append-nil, ◌⊎◌, ⊎_elim, inl, inr}
-use Rattle.std.specs.Prelude.{nat_le, nat_lt, ◌&&◌, flat_map, take, drop, slice_get, get_or, option_map, Result, Ok, Err, OnOk}
+use Rattle.std.specs.Prelude.{nat_le, nat_lt, ◌&&◌, ◌==◌, flat_map, take, drop, slice_get, get_or, option_map, Result, Ok, Err, OnOk}
 use Rattle.std.proofs.lemmas.Option.{slice_get-map, slice_get-get_or}
 use Rattle.std.proofs.lemmas.List.{length-append, length-map, map_more, take_more, take-append-drop, map-append}
 use Rattle.std.proofs.lemmas.Grind.{flat_map-append}
 use Rattle.std.proofs.lemmas.Bool.{leb-true, leb-false, ltb-true, ltb-false, eq-eqb, cases_lt}
+use Rattle.eu_base.specs.declared.address.Area.TheVariants.{Run}
 use Rattle.eu_base.specs.declared.address.Addr.{Addr}
 use Rattle.eu_base.specs.declared.value.Kind.{Kind}
 use Rattle.eu_base.specs.declared.value.Kind.TheVariants as kinds
 use Rattle.eu_base.specs.declared.value.Value.{Value}
 use Rattle.eu_base.specs.declared.value.Value.TheVariants as item
-use Rattle.eu_base.specs.Cells.{Cell, Free, Word, Letters, Cells, held_of, run_cell, same_cell, written, freed, cell_blocks, HasText, Within}
+use Rattle.eu_base.specs.Cells.{Cell, Free, Word, Letters, Cells, held_of, run_cell, same_area, same_cell, is_between, written, freed, cell_blocks}
+use Rattle.eu_base.specs.Cells.{HasText, Within}
 use Rattle.code_form.specs.declared.code.Entry.{Entry}
 use Rattle.code_form.specs.declared.code.Layout.{Layout}
 use Rattle.code_form.specs.declared.code.Layout.TheVariants.{Own}
@@ -24,7 +26,15 @@ use Rattle.zero_calls.specs.Frames.{AreFree, Stand, HoldsText, is_text_kind, Fre
 use Rattle.zero_calls.proofs.Written.{at_other, behind}
 use Rattle.zero_calls.proofs.Contents.{Forgets, same_known}
 
--- a cell lies among others, or does not
+first : (b d : Bool) → b && d ≡ true → b ≡ true
+first true d e = refl
+first false d e = absurd (cc e)
+
+second : (b d : Bool) → b && d ≡ true → d ≡ true
+second true d e = e
+second false d e = absurd (cc e)
+
+-- a number lies among others, or does not
 abbrev lies : ℕ → ℕ → ℕ → Bool
 lies from until k = nat_le from k && nat_lt k until
 
@@ -42,34 +52,44 @@ beside from until k e = by (nat_le from k) refl e
     by true f e = let g = ltb-false k until e in inr (omega (arith, g))
     by false f e = let g = leb-false from k f in inl (omega (arith, g))
 
+-- so does a cell of the command, and no cell of another area
+is_own : (from until : ℕ) (a : Addr) → is_between from until a ≡ true → same_area a.area Run ≡ true
+is_own from until a e = first (same_area a.area Run) (lies from until a.cell) e
+
+among_own : (from until : ℕ) (a : Addr) → is_between from until a ≡ true → (from ≤ a.cell) × (a.cell < until)
+among_own from until a e = among from until a.cell (second (same_area a.area Run) (lies from until a.cell) e)
+
+beside_own : (from until : ℕ) (a : Addr) → same_area a.area Run ≡ true → is_between from until a ≡ false → (a.cell < from) ⊎ (until ≤ a.cell)
+beside_own from until a own e = beside from until a.cell (ap (λ b. b && lies from until a.cell) (sym own) ∙ e)
+
 -- nothing was freed yet
 pub freed_none : (holds : Cells → Type 0) → Forgets holds → (from : ℕ) (cells : Cells) → holds cells → holds (freed from from cells)
-freed_none holds forgets from cells h = same_known holds forgets cells (freed from from cells) h (λ a. by a (lies from from a.cell) refl)
+freed_none holds forgets from cells h = same_known holds forgets cells (freed from from cells) h (λ a. by a (is_between from from a) refl)
   where
-    by : (a : Addr) (b : Bool) → lies from from a.cell ≡ b → cond b Free (cells a) ≡ cells a
-    by a true e = let f = among from from a.cell e in let low = f.0 in let high = f.1 in absurd (omega (arith, low, high))
+    by : (a : Addr) (b : Bool) → is_between from from a ≡ b → cond b Free (cells a) ≡ cells a
+    by a true e = let f = among_own from from a e in let low = f.0 in let high = f.1 in absurd (omega (arith, low, high))
     by a false e = refl
 
 -- one more cell is free, where it has no blocks, or "" was put into it
 module _ (from k : ℕ) (low : from ≤ k) (cells : Cells) where
-  grows : (a : Addr) → lies from (suc k) a.cell ≡ true → lies from k a.cell ≡ false → a ≡ run_cell k
-  grows a e f = by (among from (suc k) a.cell e) (beside from k a.cell f)
+  grows : (a : Addr) → is_between from (suc k) a ≡ true → is_between from k a ≡ false → a ≡ run_cell k
+  grows a e f = by (among_own from (suc k) a e) (beside_own from k a (is_own from (suc k) a e) f)
     where
       by : (from ≤ a.cell) × (a.cell < suc k) → (a.cell < from) ⊎ (k ≤ a.cell) → a ≡ run_cell k
       by x (inl y) = let z = x.0 in absurd (omega (arith, z, y))
-      by x (inr y) = let z = x.1 in let is : a.cell ≡ k = omega (arith, z, y) in is_run a ∙ ap run_cell is
+      by x (inr y) = let z = x.1 in let is : a.cell ≡ k = omega (arith, z, y) in is_run a (is_own from (suc k) a e) ∙ ap run_cell is
 
-  stays : (a : Addr) → lies from (suc k) a.cell ≡ false → lies from k a.cell ≡ true → ⊥
-  stays a e f = by (among from k a.cell f) (beside from (suc k) a.cell e)
+  stays : (a : Addr) → is_between from (suc k) a ≡ false → is_between from k a ≡ true → ⊥
+  stays a e f = by (among_own from k a f) (beside_own from (suc k) a (is_own from k a f) e)
     where
       by : (from ≤ a.cell) × (a.cell < k) → (a.cell < from) ⊎ (suc k ≤ a.cell) → ⊥
       by x (inl y) = let z = x.0 in omega (arith, z, y)
       by x (inr y) = let z = x.1 in omega (arith, z, y)
 
   pub freed_number : cell_blocks (cells (run_cell k)) ≡ 0 → Within (freed from (suc k) cells) (freed from k cells)
-  freed_number bare a = by (lies from (suc k) a.cell) (lies from k a.cell) refl refl
+  freed_number bare a = by (is_between from (suc k) a) (is_between from k a) refl refl
     where
-      by : (b d : Bool) → lies from (suc k) a.cell ≡ b → lies from k a.cell ≡ d
+      by : (b d : Bool) → is_between from (suc k) a ≡ b → is_between from k a ≡ d
           → (cond b Free (cells a) ≡ cond d Free (cells a)) ⊎ ((cond b Free (cells a) ≡ Free) × (cell_blocks (cond d Free (cells a)) ≡ 0))
       by true true e f = inl refl
       by true false e f = inr (refl, ap (λ a. cell_blocks (cells a)) (grows a e f) ∙ bare)
@@ -77,7 +97,7 @@ module _ (from k : ℕ) (low : from ≤ k) (cells : Cells) where
       by false false e f = inl refl
 
   pub freed_text : Within (freed from (suc k) cells) (written (freed from k cells) (run_cell k) (Letters []))
-  freed_text a = by (same_cell a (run_cell k)) (lies from (suc k) a.cell) (lies from k a.cell) refl refl refl
+  freed_text a = by (same_cell a (run_cell k)) (is_between from (suc k) a) (is_between from k a) refl refl refl
     where
       outside : a.cell ≡ k → (a.cell < from) ⊎ (suc k ≤ a.cell) → ⊥
       outside is (inl y) = omega (arith, low, is, y)
@@ -86,13 +106,15 @@ module _ (from k : ℕ) (low : from ≤ k) (cells : Cells) where
       differs : same_cell a (run_cell k) ≡ false → same_cell a (run_cell k) ≡ true → ⊥
       differs e f = let g : false ≡ true = sym e ∙ f in absurd (cc g)
 
-      by : (s b d : Bool) → same_cell a (run_cell k) ≡ s → lies from (suc k) a.cell ≡ b → lies from k a.cell ≡ d
+      by : (s b d : Bool) → same_cell a (run_cell k) ≡ s → is_between from (suc k) a ≡ b → is_between from k a ≡ d
           → (cond b Free (cells a) ≡ cond s (Letters []) (cond d Free (cells a)))
           ⊎ ((cond b Free (cells a) ≡ Free) × (cell_blocks (cond s (Letters []) (cond d Free (cells a))) ≡ 0))
       by true true d g e f = inr (refl, refl)
       by true false d g e f =
-          let is = ap (λ (a : Addr). a.cell) (same_place a (run_cell k) g) in
-          absurd (outside is (beside from (suc k) a.cell e))
+          let here = same_place a (run_cell k) g in
+          let is = ap (λ (a : Addr). a.cell) here in
+          let own = ap (λ (a : Addr). same_area a.area Run) here in
+          absurd (outside is (beside_own from (suc k) a own e))
       by false true true g e f = inl refl
       by false true false g e f = let is = grows a e f in absurd (differs g (ap (λ a. same_cell a (run_cell k)) is ∙ eq-eqb k k refl))
       by false false true g e f = absurd (stays a e f)
@@ -110,21 +132,33 @@ module _ (from k : ℕ) (low : from ≤ k) (cells : Cells) where
 before_them : (ns : List Cell) (at x : ℕ) (cells : Cells) → x < at → written_from at ns cells (run_cell x) ≡ cells (run_cell x)
 before_them [] at x cells lt = refl
 before_them (n ∷ ns) at x cells lt =
-    before_them ns (suc at) x (written cells (run_cell at) n) (omega (arith, lt)) ∙ at_other cells at x n (λ e. omega (arith, lt, e))
+    before_them ns (suc at) x (written cells (run_cell at) n) (omega (arith, lt)) ∙ at_other Run cells at x n (λ e. omega (arith, lt, e))
+
+-- nor of those of another area
+other_area : (ns : List Cell) (at : ℕ) (cells : Cells) (a : Addr) → same_area a.area Run ≡ false → written_from at ns cells a ≡ cells a
+other_area [] at cells a else = refl
+other_area (n ∷ ns) at cells a else =
+    other_area ns (suc at) (written cells (run_cell at) n) a else ∙ ap (λ b. cond (b && a.cell == at) n (cells a)) else
 
 -- cells that were free are as before where all that was put there is freed
 pub unwritten_freed : (at n : ℕ) (ns : List Cell) (cells : Cells) → length ns ≤ n → AreFree at n cells → (a : Addr)
     → cells a ≡ freed at (at + n) (written_from at ns cells) a
-unwritten_freed at n ns cells short free a =
-    ap cells (is_run a) ∙ by (lies at (at + n) a.cell) refl ∙ ap (λ b. cond (lies at (at + n) a.cell) Free (written_from at ns cells b)) (sym (is_run a))
+unwritten_freed at n ns cells short free a = by (same_area a.area Run) refl
   where
-    apart : (a.cell < at) ⊎ (at + n ≤ a.cell) → cells (run_cell a.cell) ≡ written_from at ns cells (run_cell a.cell)
-    apart (inl lt) = sym (before_them ns at a.cell cells lt)
-    apart (inr le) = sym (behind ns at a.cell cells (omega (arith, le, short)))
+    now : Cells
+    now = written_from at ns cells
 
-    by : (b : Bool) → lies at (at + n) a.cell ≡ b → cells (run_cell a.cell) ≡ cond b Free (written_from at ns cells (run_cell a.cell))
-    by true e = let f = among at (at + n) a.cell e in free a.cell f.0 f.1
-    by false e = apart (beside at (at + n) a.cell e)
+    apart : (a.cell < at) ⊎ (at + n ≤ a.cell) → cells (run_cell a.cell) ≡ now (run_cell a.cell)
+    apart (inl lt) = sym (before_them ns at a.cell cells lt)
+    apart (inr le) = sym (behind Run ns at a.cell cells (omega (arith, le, short)))
+
+    own : (b : Bool) → lies at (at + n) a.cell ≡ b → cells (run_cell a.cell) ≡ cond b Free (now (run_cell a.cell))
+    own true e = let f = among at (at + n) a.cell e in free a.cell f.0 f.1
+    own false e = apart (beside at (at + n) a.cell e)
+
+    by : (b : Bool) → same_area a.area Run ≡ b → cells a ≡ freed at (at + n) now a
+    by true e = let is = is_run a e in ap cells is ∙ own (lies at (at + n) a.cell) refl ∙ ap (freed at (at + n) now) (sym is)
+    by false e = sym (ap (λ b. cond (b && lies at (at + n) a.cell) Free (now a)) e ∙ other_area ns at cells a e)
 
 -- what was put into cells stands there
 pub written_stand : (ns : List Cell) (at : ℕ) (cells : Cells) → Stand at ns (written_from at ns cells)
@@ -137,14 +171,6 @@ written_stand (n ∷ ns) at cells zero x e =
 written_stand (n ∷ ns) at cells (suc k) x e =
     let here : at + suc k ≡ suc at + k = omega arith in
     ap (λ j. written_from (suc at) ns (written cells (run_cell at) n) (run_cell j)) here ∙ written_stand ns (suc at) (written cells (run_cell at) n) k x e
-
-first : (b d : Bool) → b && d ≡ true → b ≡ true
-first true d e = refl
-first false d e = absurd (cc e)
-
-second : (b d : Bool) → b && d ≡ true → d ≡ true
-second true d e = e
-second false d e = absurd (cc e)
 
 word_bare : (x : Cell) → is_word x ≡ true → cell_blocks x ≡ 0
 word_bare Free e = absurd (cc e)
@@ -331,10 +357,10 @@ own_freed before between after ps qs vs ws layout at cell end until le same_ps s
 -- nothing lies there
 pub freed_past : (holds : Cells → Type 0) → Forgets holds → (from until : ℕ) (cells : Cells) → until ≤ from → holds cells → holds (freed from until cells)
 freed_past holds forgets from until cells past h =
-    same_known holds forgets cells (freed from until cells) h (λ a. by a (lies from until a.cell) refl)
+    same_known holds forgets cells (freed from until cells) h (λ a. by a (is_between from until a) refl)
   where
-    by : (a : Addr) (b : Bool) → lies from until a.cell ≡ b → cond b Free (cells a) ≡ cells a
-    by a true e = let f = among from until a.cell e in let low = f.0 in let high = f.1 in absurd (omega (arith, low, high, past))
+    by : (a : Addr) (b : Bool) → is_between from until a ≡ b → cond b Free (cells a) ≡ cells a
+    by a true e = let f = among_own from until a e in let low = f.0 in let high = f.1 in absurd (omega (arith, low, high, past))
     by a false e = refl
 
 -- a frame: the two cells of the call, those that the tables name, and numbers

@@ -6,11 +6,12 @@ use Rattle.eu_base.specs.declared.value.Kind.{Kind}
 use Rattle.eu_base.specs.declared.shape.Shape.{Shape}
 use Rattle.eu_base.specs.Values.{blank_of}
 use Rattle.eu_base.specs.Shapes.{cell_kinds}
+use Rattle.eu_base.specs.declared.address.Area.{Area}
 use Rattle.eu_base.specs.Cells.{Cell, Cells, held_of, AreBare}
 use Rattle.cell_kinds.specs.Kinds.{all_kinds}
 use Rattle.cell_kinds.proofs.Parts.{kinds_more, kinds_around}
 use Rattle.code_form.specs.Program.{HoldsValue}
-use Rattle.code_form.specs.Machine.{written_from}
+use Rattle.code_form.specs.Machine.{written_in}
 use Rattle.zero_calls.specs.Frames.{FreesTo}
 use Rattle.zero_calls.proofs.Written.{written_append, bare_behind}
 use Rattle.zero_calls.proofs.Freeing.{frees_on}
@@ -19,7 +20,7 @@ use Rattle.zero_calls.proofs.Freeing.{frees_on}
 abbrev blanks : List Kind → List Cell
 blanks ks = map (λ k. held_of (blank_of k)) ks
 
-module _ (at i : ℕ) (shapes : List Shape) (s d : Shape) (lt : i < length shapes) (is : s ≡ get_or shapes i d) where
+module _ (area : Area) (at i : ℕ) (shapes : List Shape) (s d : Shape) (lt : i < length shapes) (is : s ≡ get_or shapes i d) where
   abbrev before_it : List Kind
   before_it = all_kinds (take i shapes)
 
@@ -41,24 +42,24 @@ module _ (at i : ℕ) (shapes : List Shape) (s d : Shape) (lt : i < length shape
   pub shape_fits : (cell end : ℕ) → cell ≡ at + length before_it → at + length (all_kinds shapes) ≤ end → cell + length (cell_kinds s) ≤ end
   shape_fits cell end here le = omega (arith, here, le, sizes)
 
-  pub bare_there : (cell : ℕ) (cells : Cells) → cell ≡ at + length before_it → AreBare at (length (all_kinds shapes)) cells
-      → AreBare cell (length (cell_kinds s)) (written_from at (blanks before_it) cells)
+  pub bare_there : (cell : ℕ) (cells : Cells) → cell ≡ at + length before_it → AreBare area at (length (all_kinds shapes)) cells
+      → AreBare area cell (length (cell_kinds s)) (written_in area at (blanks before_it) cells)
   bare_there cell cells here bare =
       let many = length-map before_it (λ k. held_of (blank_of k)) in
-      bare_behind at at (length (all_kinds shapes)) cell (length (cell_kinds s)) (blanks before_it) cells (omega (arith, here, many)) (omega (arith, here))
+      bare_behind area at at (length (all_kinds shapes)) cell (length (cell_kinds s)) (blanks before_it) cells (omega (arith, here, many)) (omega (arith, here))
       (omega (arith, here, sizes)) bare
 
   pub shape_done : (after : Cells → Type 0) (cell : ℕ) (cells : Cells) → cell ≡ at + length before_it
-      → after (written_from cell (blanks (cell_kinds s)) (written_from at (blanks before_it) cells))
-      → after (written_from at (blanks (all_kinds (take (i + 1) shapes))) cells)
+      → after (written_in area cell (blanks (cell_kinds s)) (written_in area at (blanks before_it) cells))
+      → after (written_in area at (blanks (all_kinds (take (i + 1) shapes))) cells)
   shape_done after cell cells here put =
       let parts : blanks (all_kinds (take (i + 1) shapes)) ≡ blanks before_it ++ blanks (cell_kinds s) =
       ap blanks (kinds_more shapes i s d lt is) ∙ map-append (λ k. held_of (blank_of k)) before_it (cell_kinds s) in
       let many = length-map before_it (λ k. held_of (blank_of k)) in
       let there : cell ≡ at + length (blanks before_it) = omega (arith, here, many) in
-      subst (λ l. after (written_from at l cells)) (sym parts)
-      (subst after (sym (written_append at (blanks before_it) (blanks (cell_kinds s)) cells))
-      (subst (λ n. after (written_from n (blanks (cell_kinds s)) (written_from at (blanks before_it) cells))) there put))
+      subst (λ l. after (written_in area at l cells)) (sym parts)
+      (subst after (sym (written_append area at (blanks before_it) (blanks (cell_kinds s)) cells))
+      (subst (λ n. after (written_in area n (blanks (cell_kinds s)) (written_in area at (blanks before_it) cells))) there put))
 
   pub shape_freed : (before between after : Cells → Type 0) (middle end until : ℕ) → at ≤ until → middle ≡ min until (at + length before_it)
       → FreesTo before between (map HoldsValue before_it) at middle until → FreesTo between after (map HoldsValue (cell_kinds s)) middle end until

@@ -2,17 +2,18 @@
 ghost use Rattle.std.specs.Prelude.{◌≡◌, ◌+◌, ◌-◌, ◌^◌, ◌≤◌, ◌<◌, [], ◌∷◌, map, flat_map, min, length, OnOk, IfOk};
 ghost use Rattle.eu_base.specs.declared.address.TheConstants.{CELLS};
 ghost use Rattle.eu_base.specs.Values.{blank_of};
-ghost use Rattle.eu_base.specs.Cells.{Free, Word, Cells, held_of, run_cell, written, cell_blocks, AreBare, HasFaultCause};
+ghost use Rattle.eu_base.specs.Cells.{Free, Word, Cells, held_of, area_cell, run_cell, written, cell_blocks, AreBare, HasFaultCause};
+ghost use Rattle.eu_base.specs.declared.address.Area.TheVariants as areas;
 ghost use Rattle.eu_base.specs.Shapes.{cell_kinds};
 ghost use Rattle.cell_kinds.specs.Kinds.{all_kinds};
-ghost use Rattle.code_form.specs.Machine.{held_cells, link_contents, frame_contents, written_from};
+ghost use Rattle.code_form.specs.Machine.{held_cells, link_contents, frame_contents, written_in, written_from};
 ghost use Rattle.zero_calls.specs.Frames.{AreFree, PutsFrom};
 
 use crate::texts::{clear_operands, clear_values, put_new};
 use code_form::Operand;
-use eu_base::{CELLS, Kind, MemFault, Memory, Set, Shape, Value};
+use eu_base::{Area, CELLS, Kind, MemFault, Memory, Set, Shape, Value};
 use std::alloc::Global;
-use zero_state::run_cell;
+use zero_state::{area_cell, run_cell};
 
 /// Writes the cells of a new frame: two for the call, what its parameters hold, and its variables. Where its texts have no room,
 /// nothing is known of these cells, as before.
@@ -33,7 +34,13 @@ pub fn write_frame<M: Memory>(
     write_link(m, at)?;
     match write_operands(m, at + 2, operands)? {
         Set::Done => {
-            write_variables(alloc, m, at + 2 + cells_of_all(operands), variables)?;
+            write_variables(
+                alloc,
+                m,
+                Area::Run,
+                at + 2 + cells_of_all(operands),
+                variables,
+            )?;
             Ok(Set::Done)
         }
         Set::HeapFull => Ok(Set::HeapFull),
@@ -64,7 +71,7 @@ pub fn cells_of(operand: &Operand) -> usize
 // The cells of the call.
 fn write_link<M: Memory>(m: &mut M, at: usize) -> Result<(), MemFault>
     requires { at + 2 ≤ CELLS }
-    ensures written { OnOk result ((cells : Cells) → M.holds m.old cells → AreBare at 2 cells → M.holds m.new (written_from at link_contents cells)) }
+    ensures written { OnOk result ((cells : Cells) → M.holds m.old cells → AreBare areas.Run at 2 cells → M.holds m.new (written_from at link_contents cells)) }
     ensures cause { HasFaultCause (M.faults m.old) (M.faults m.new) result }
     ensures follows { M.follows m.old m.new }
 {
@@ -101,7 +108,7 @@ fn write_operand<M: Memory>(m: &mut M, cell: usize, operand: &Operand) -> Result
     match operand {
         Operand::Value(value) => write_value(m, cell, value),
         Operand::Place(place) => {
-            write_number(m, cell, u64::from(place.cell))?;
+            write_number(m, cell, place.number())?;
             Ok(Set::Done)
         }
         Operand::Aggregate(values) => write_values(m, cell, values.as_slice()),
@@ -142,22 +149,23 @@ fn write_value<M: Memory>(m: &mut M, cell: usize, value: &Value) -> Result<Set, 
     }
 }
 
-/// Writes what variables hold before anything was stored.
+/// Writes what variables hold before anything was stored, in cells of an area.
 pub fn write_variables<M: Memory>(
     alloc: Global,
     m: &mut M,
+    area: Area,
     at: usize,
     shapes: &[Shape],
 ) -> Result<(), MemFault>
     requires { at + length (all_kinds shapes.now) ≤ CELLS }
-    ensures written { OnOk result ((cells : Cells) → M.holds m.old cells → AreBare at (length (all_kinds shapes.now)) cells →
-        M.holds m.new (written_from at (map (λ k. held_of (blank_of k)) (all_kinds shapes.now)) cells)) }
+    ensures written { OnOk result ((cells : Cells) → M.holds m.old cells → AreBare area at (length (all_kinds shapes.now)) cells →
+        M.holds m.new (written_in area at (map (λ k. held_of (blank_of k)) (all_kinds shapes.now)) cells)) }
     ensures cause { HasFaultCause (M.faults m.old) (M.faults m.new) result }
     ensures follows { M.follows m.old m.new }
 {
     let mut cell = at;
     for shape in shapes {
-        cell = write_variable(alloc, m, cell, shape)?;
+        cell = write_variable(alloc, m, area, cell, shape)?;
     }
     Ok(())
 }
@@ -166,22 +174,23 @@ pub fn write_variables<M: Memory>(
 fn write_variable<M: Memory>(
     alloc: Global,
     m: &mut M,
+    area: Area,
     at: usize,
     shape: &Shape,
 ) -> Result<usize, MemFault>
     requires { at + length (cell_kinds shape.now) ≤ CELLS }
     ensures end { IfOk result (λ end. end ≡ at + length (cell_kinds shape.now)) }
-    ensures written { OnOk result ((cells : Cells) → M.holds m.old cells → AreBare at (length (cell_kinds shape.now)) cells →
-        M.holds m.new (written_from at (map (λ k. held_of (blank_of k)) (cell_kinds shape.now)) cells)) }
+    ensures written { OnOk result ((cells : Cells) → M.holds m.old cells → AreBare area at (length (cell_kinds shape.now)) cells →
+        M.holds m.new (written_in area at (map (λ k. held_of (blank_of k)) (cell_kinds shape.now)) cells)) }
     ensures cause { HasFaultCause (M.faults m.old) (M.faults m.new) result }
     ensures follows { M.follows m.old m.new }
 {
     match shape {
         Shape::Cell(kind) => {
-            write_blank(m, at, *kind)?;
+            write_blank(m, area, at, *kind)?;
             Ok(at + 1)
         }
-        Shape::Row(_, _) | Shape::Struct(_) => write_cells(alloc, m, at, shape),
+        Shape::Row(_, _) | Shape::Struct(_) => write_cells(alloc, m, area, at, shape),
     }
 }
 
@@ -190,42 +199,48 @@ fn write_variable<M: Memory>(
 fn write_cells<M: Memory>(
     alloc: Global,
     m: &mut M,
+    area: Area,
     at: usize,
     shape: &Shape,
 ) -> Result<usize, MemFault>
     requires { at + length (cell_kinds shape.now) ≤ CELLS }
     ensures end { IfOk result (λ end. end ≡ at + length (cell_kinds shape.now)) }
-    ensures written { OnOk result ((cells : Cells) → M.holds m.old cells → AreBare at (length (cell_kinds shape.now)) cells →
-        M.holds m.new (written_from at (map (λ k. held_of (blank_of k)) (cell_kinds shape.now)) cells)) }
+    ensures written { OnOk result ((cells : Cells) → M.holds m.old cells → AreBare area at (length (cell_kinds shape.now)) cells →
+        M.holds m.new (written_in area at (map (λ k. held_of (blank_of k)) (cell_kinds shape.now)) cells)) }
     ensures cause { HasFaultCause (M.faults m.old) (M.faults m.new) result }
     ensures follows { M.follows m.old m.new }
 {
     let kinds = shape.kinds(alloc, usize::from(CELLS) - at)?;
-    write_blanks(m, at, kinds.as_slice())?;
+    write_blanks(m, area, at, kinds.as_slice())?;
     Ok(at + kinds.as_slice().len())
 }
 
-fn write_blanks<M: Memory>(m: &mut M, at: usize, variables: &[Kind]) -> Result<(), MemFault>
+fn write_blanks<M: Memory>(
+    m: &mut M,
+    area: Area,
+    at: usize,
+    variables: &[Kind],
+) -> Result<(), MemFault>
     requires { at + length variables.now ≤ CELLS }
-    ensures written { OnOk result ((cells : Cells) → M.holds m.old cells → AreBare at (length variables.now) cells →
-        M.holds m.new (written_from at (map (λ k. held_of (blank_of k)) variables.now) cells)) }
+    ensures written { OnOk result ((cells : Cells) → M.holds m.old cells → AreBare area at (length variables.now) cells →
+        M.holds m.new (written_in area at (map (λ k. held_of (blank_of k)) variables.now) cells)) }
     ensures cause { HasFaultCause (M.faults m.old) (M.faults m.new) result }
     ensures follows { M.follows m.old m.new }
 {
     for (index, kind) in variables.iter().enumerate() {
-        write_blank(m, at + index, *kind)?;
+        write_blank(m, area, at + index, *kind)?;
     }
     Ok(())
 }
 
-fn write_blank<M: Memory>(m: &mut M, cell: usize, kind: Kind) -> Result<(), MemFault>
+fn write_blank<M: Memory>(m: &mut M, area: Area, cell: usize, kind: Kind) -> Result<(), MemFault>
     requires { cell < CELLS }
-    ensures written { OnOk result ((cells : Cells) → M.holds m.old cells → cell_blocks (cells (run_cell cell)) ≡ 0 →
-        M.holds m.new (written cells (run_cell cell) (held_of (blank_of kind)))) }
+    ensures written { OnOk result ((cells : Cells) → M.holds m.old cells → cell_blocks (cells (area_cell area cell)) ≡ 0 →
+        M.holds m.new (written cells (area_cell area cell) (held_of (blank_of kind)))) }
     ensures cause { HasFaultCause (M.faults m.old) (M.faults m.new) result }
     ensures follows { M.follows m.old m.new }
 {
-    write_number(m, cell, kind.blank_cell())?;
+    m.set_cell(area_cell(area, cell), kind.blank_cell())?;
     Ok(())
 }
 

@@ -1,13 +1,13 @@
 -- The blocks of the texts that cells hold.
-use Rattle.std.proofs.Common.{◌≡◌, ℕ, zero, suc, ◌+◌, ◌<◌, ◌≤◌, Bool, true, false, cond, refl, sym, ap, ◌∙◌, arith, ⊎_elim}
+use Rattle.std.proofs.Common.{◌≡◌, ℕ, zero, suc, ◌+◌, ◌<◌, ◌≤◌, Bool, true, false, cond, refl, ap, arith, ⊎_elim}
 use Rattle.std.specs.Prelude.{◌&&◌, ◌==◌}
 use Rattle.std.proofs.lemmas.Bool.{le-leb, lt-leb, eqb-true, eq-eqb, cases_eq}
 use Rattle.eu_base.specs.declared.address.Addr.{Addr}
 use Rattle.eu_base.specs.declared.address.Area.{Area}
-use Rattle.eu_base.specs.declared.address.Area.TheVariants.{Run}
+use Rattle.eu_base.specs.declared.address.Area.TheVariants.{Run, Packets}
 use Rattle.eu_base.specs.declared.address.TheConstants.{CELLS}
 use Rattle.eu_base.specs.Room.{most_blocks, texts_fit, total}
-use Rattle.eu_base.specs.Cells.{Cell, Free, Word, Letters, Cells, same_area, same_cell, run_cell, written, cell_blocks, blocks_in, IsCell, HasText}
+use Rattle.eu_base.specs.Cells.{Cell, Free, Word, Letters, Cells, same_area, same_cell, area_cell, run_cell, written, cell_blocks, area_blocks, IsCell, HasText}
 use Rattle.code_form.specs.Machine.{takes_number, is_text}
 
 total_most : (f g : ℕ → ℕ) (n : ℕ) → ((k : ℕ) → f k ≤ g k) → total f n ≤ total g n
@@ -16,12 +16,14 @@ total_most f g zero le = omega arith
 total_most f g (suc n) le = let rest = total_most f g n le in let last = le n in omega (arith, rest, last)
 
 -- cells with no more blocks in each have no more in all
-pub fewer_blocks : (cells more : Cells) → ((a : Addr) → cell_blocks (cells a) ≤ cell_blocks (more a)) → blocks_in cells ≤ blocks_in more
-fewer_blocks cells more le = total_most (λ k. cell_blocks (cells (run_cell k))) (λ k. cell_blocks (more (run_cell k))) CELLS (λ k. le (run_cell k))
+pub fewer_blocks : (area : Area) (cells more : Cells) → ((a : Addr) → cell_blocks (cells a) ≤ cell_blocks (more a))
+    → area_blocks area cells ≤ area_blocks area more
+fewer_blocks area cells more le =
+    total_most (λ k. cell_blocks (cells (area_cell area k))) (λ k. cell_blocks (more (area_cell area k))) CELLS (λ k. le (area_cell area k))
 
 -- a cell that has no blocks adds none
-pub blocks_without : (cells : Cells) (at : Addr) (x : Cell) → cell_blocks x ≡ 0 → blocks_in (written cells at x) ≤ blocks_in cells
-blocks_without cells at x none = fewer_blocks (written cells at x) cells (λ a. by a (same_cell a at))
+pub blocks_without : (area : Area) (cells : Cells) (at : Addr) (x : Cell) → cell_blocks x ≡ 0 → area_blocks area (written cells at x) ≤ area_blocks area cells
+blocks_without area cells at x none = fewer_blocks area (written cells at x) cells (λ a. by a (same_cell a at))
   where
     by : (a : Addr) (b : Bool) → cell_blocks (cond b x (cells a)) ≤ cell_blocks (cells a)
     by a true = omega (arith, none)
@@ -31,15 +33,16 @@ blocks_without cells at x none = fewer_blocks (written cells at x) cells (λ a. 
 pub same_place : (a b : Addr) → same_cell a b ≡ true → a ≡ b
 same_place a b e = by a.area b.area a.cell b.cell e
   where
-    place : Area → ℕ → Addr
-    place x k = record { area = x; cell = k }
-
-    by : (x y : Area) (j k : ℕ) → same_area x y && j == k ≡ true → place x j ≡ place y k
-    by Run Run j k e = ap run_cell (eqb-true j k e)
+    by : (x y : Area) (j k : ℕ) → same_area x y && j == k ≡ true → area_cell x j ≡ area_cell y k
+    by Run Run j k e = ap (area_cell Run) (eqb-true j k e)
+    by Packets Packets j k e = ap (area_cell Packets) (eqb-true j k e)
+    by Run Packets j k e = absurd (cc e)
+    by Packets Run j k e = absurd (cc e)
 
 -- one that had none takes none away
-pub blocks_with : (cells : Cells) (at : Addr) (x : Cell) → cell_blocks (cells at) ≡ 0 → blocks_in cells ≤ blocks_in (written cells at x)
-blocks_with cells at x none = fewer_blocks cells (written cells at x) (λ a. by a (same_cell a at) refl)
+pub blocks_with : (area : Area) (cells : Cells) (at : Addr) (x : Cell) → cell_blocks (cells at) ≡ 0
+    → area_blocks area cells ≤ area_blocks area (written cells at x)
+blocks_with area cells at x none = fewer_blocks area cells (written cells at x) (λ a. by a (same_cell a at) refl)
   where
     by : (a : Addr) (b : Bool) → same_cell a at ≡ b → cell_blocks (cells a) ≤ cell_blocks (cond b x (cells a))
     by a true e = let f = ap (λ a. cell_blocks (cells a)) (same_place a at e) in omega (arith, f, none)
@@ -64,35 +67,38 @@ total_at f g (suc n) k lt same = ⊎_elim
     omega (arith, rest, a, b))
     (λ ne. let rest = total_at f g n k (grind (arith, lt, ne)) same in let last = same n ne in omega (arith, rest, last)) (cases_eq n k)
 
--- a cell is one of the command
-pub is_run : (a : Addr) → a ≡ run_cell a.cell
-is_run a = by a.area a.cell
+-- a cell of the command is the one of its number
+pub is_run : (a : Addr) → same_area a.area Run ≡ true → a ≡ run_cell a.cell
+is_run a e = by a.area a.cell e
   where
-    place : Area → ℕ → Addr
-    place x k = record { area = x; cell = k }
-
-    by : (x : Area) (k : ℕ) → place x k ≡ run_cell k
-    by Run k = refl
+    by : (x : Area) (k : ℕ) → same_area x Run ≡ true → area_cell x k ≡ run_cell k
+    by Run k e = refl
+    by Packets k e = absurd (cc e)
 
 pub same_self : (a : Addr) → same_cell a a ≡ true
-same_self a = ap (λ b. same_cell b b) (is_run a) ∙ eq-eqb a.cell a.cell refl
+same_self a = by a.area a.cell
+  where
+    by : (x : Area) (k : ℕ) → same_cell (area_cell x k) (area_cell x k) ≡ true
+    by Run k = eq-eqb k k refl
+    by Packets k = eq-eqb k k refl
 
 -- what is put into a cell stands there
 pub written_here : (cells : Cells) (at : Addr) (x : Cell) → written cells at x at ≡ x
 written_here cells at x = ap (λ b. cond b x (cells at)) (same_self at)
 
--- so the blocks of a cell count as those of what is put into it
-pub blocks_put : (cells : Cells) (at : Addr) (x : Cell) → IsCell at → blocks_in (written cells at x) + cell_blocks (cells at) ≡ blocks_in cells + cell_blocks x
+-- so the blocks of a cell count in its area as those of what is put into it
+pub blocks_put : (cells : Cells) (at : Addr) (x : Cell) → IsCell at
+    → area_blocks at.area (written cells at x) + cell_blocks (cells at) ≡ area_blocks at.area cells + cell_blocks x
 blocks_put cells at x low =
-    let f : ℕ → ℕ = λ k. cell_blocks (cells (run_cell k)) in
-    let g : ℕ → ℕ = λ k. cell_blocks (written cells at x (run_cell k)) in
-    let e = total_at f g CELLS at.cell low (λ j ne. by j (same_cell (run_cell j) at) refl ne) in
-    let here : f at.cell ≡ cell_blocks (cells at) = ap (λ a. cell_blocks (cells a)) (sym (is_run at)) in
-    let there : g at.cell ≡ cell_blocks x = ap (λ a. cell_blocks (written cells at x a)) (sym (is_run at)) ∙ ap cell_blocks (written_here cells at x) in
-    omega (arith, e, here, there)
+    let f : ℕ → ℕ = λ k. cell_blocks (cells (area_cell at.area k)) in
+    let g : ℕ → ℕ = λ k. cell_blocks (written cells at x (area_cell at.area k)) in
+    let e = total_at f g CELLS at.cell low (λ j ne. by j (same_cell (area_cell at.area j) at) refl ne) in
+    let there : g at.cell ≡ cell_blocks x = ap cell_blocks (written_here cells at x) in
+    omega (arith, e, there)
   where
-    by : (j : ℕ) (b : Bool) → same_cell (run_cell j) at ≡ b → (j ≡ at.cell → ⊥) → cell_blocks (cond b x (cells (run_cell j))) ≡ cell_blocks (cells (run_cell j))
-    by j true e ne = absurd (ne (ap (λ (a : Addr). a.cell) (same_place (run_cell j) at e)))
+    by : (j : ℕ) (b : Bool) → same_cell (area_cell at.area j) at ≡ b → (j ≡ at.cell → ⊥)
+        → cell_blocks (cond b x (cells (area_cell at.area j))) ≡ cell_blocks (cells (area_cell at.area j))
+    by j true e ne = absurd (ne (ap (λ (a : Addr). a.cell) (same_place (area_cell at.area j) at e)))
     by j false e ne = refl
 
 -- texts have room where all of them have few enough blocks, and what takes none has room

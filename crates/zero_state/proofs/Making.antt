@@ -1,7 +1,6 @@
 -- Steps of the machine are made of what its functions do.
 use Rattle.std.proofs.Common.{◌≡◌, ℕ, zero, suc, ◌-◌, ◌<◌, Bool, true, false, cond, List, length, Option, Some, None, refl, ap, subst, arith, ◌⊎◌, inl, inr}
-use Rattle.std.specs.Prelude.{nat_le, nat_lt, ◌&&◌}
-use Rattle.eu_base.specs.Cells.{Cell, Free, Word, Letters, Cells, cell_blocks, forgotten, without, Within}
+use Rattle.eu_base.specs.Cells.{Cell, Free, Word, Letters, Cells, cell_blocks, forgotten, is_between, without, Within}
 use Rattle.code_form.specs.declared.halt.Halt.{Halt}
 use Rattle.code_form.specs.declared.instr.Instr.{Instr}
 use Rattle.code_form.specs.declared.operand.Operand.{Operand}
@@ -62,7 +61,7 @@ plain before after i c c' next to so kept p marks = plain_steps before after (st
 
 -- what is forgotten are numbers
 pub fewer_known : (from until : ℕ) (cells : Cells) → Within (without from until cells) cells
-fewer_known from until cells a = by (nat_le from a.cell && nat_lt a.cell until) (cells a)
+fewer_known from until cells a = by (is_between from until a) (cells a)
   where
     by : (b : Bool) (x : Cell) → (cond b (forgotten x) x ≡ x) ⊎ ((cond b (forgotten x) x ≡ Free) × (cell_blocks x ≡ 0))
     by true Free = inr (refl, refl)

@@ -6,7 +6,7 @@ mod next;
 mod stack;
 mod state;
 
-pub use cells::{have_room, place_in, run_cell};
+pub use cells::{area_cell, have_room, place_in, run_cell};
 pub use next::Next;
 pub use stack::{Link, Stack};
 pub use state::State;

@@ -20,7 +20,7 @@ use Rattle.eu_base.specs.Values.{number_of, cell_of, IsOf, number_in}
 use Rattle.eu_base.specs.Room.{cells_fit, texts_fit}
 use Rattle.eu_base.specs.Operations.{Given, change_kind, changed, is_past, has_reached, next_number}
 use Rattle.eu_base.proofs.Results.{changed_gives}
-use Rattle.eu_base.specs.Cells.{Cell, Free, Word, Letters, Cells, held_of, IsCell, run_cell, place_in, written, cell_blocks, blocks_in}
+use Rattle.eu_base.specs.Cells.{Cell, Free, Word, Letters, Cells, held_of, IsCell, run_cell, place_in, written, cell_blocks, area_blocks}
 use Rattle.code_form.specs.declared.operand.Operand.{Operand}
 use Rattle.code_form.specs.declared.operand.Operand.TheVariants.{Value as Of, Place as At}
 use Rattle.code_form.specs.declared.halt.Halt.{Halt}
@@ -221,7 +221,7 @@ module _ (before after : Cells → Type 0) where
   -- a value that was put into a cell has room there, or none
   module _ (marks : ℕ) (c : Position) (d : Control) (a : Addr) (v : Value) (ops : List Operand) where
     abbrev fitting : Cells → Bool
-    fitting cells = texts_fit (cell_blocks (held_of v)) (blocks_in (written cells a (held_of v)))
+    fitting cells = texts_fit (cell_blocks (held_of v)) (area_blocks a.area (written cells a (held_of v)))
 
     abbrev put_if : Cells → Bool → Move
     put_if cells fits = cond fits (goes c ops (written cells a (held_of v))) (Halts stops.TextRoom)

@@ -18,7 +18,7 @@ use Rattle.eu_base.specs.declared.stop.Stop.TheVariants.{OperandRoom as NoRoom, 
 use Rattle.eu_base.specs.Shapes.{cell_kinds}
 use Rattle.eu_base.specs.Values.{number_of}
 use Rattle.eu_base.specs.Room.{values_bytes, values_blocks, bytes_fit, texts_fit}
-use Rattle.eu_base.specs.Cells.{Cell, Free, Cells, IsCell, blocks_in}
+use Rattle.eu_base.specs.Cells.{Cell, Free, Cells, IsCell, area_blocks}
 use Rattle.eu_base.proofs.Rooms.{least_all}
 use Rattle.eu_base.proofs.Shapes.{kinds_of_cell}
 use Rattle.code_form.specs.declared.operand.Operand.{Operand}
@@ -156,7 +156,7 @@ module _ (before after : Cells → Type 0) (shape : Shape) (o : Operand) (value 
   put_if cells fits = cond fits (goes (storing o) t.ops (written_all cells a vs)) (Halts NoTextRoom)
 
   abbrev fitting : Cells → Bool
-  fitting cells = texts_fit (values_blocks vs) (blocks_in (written_all cells a vs))
+  fitting cells = texts_fit (values_blocks vs) (area_blocks a.area (written_all cells a vs))
 
   put_so : (how : Next) (c' : Control) (p : Program) (marks : ℕ)
       → ((cells : Cells) → before cells → takes_all vs a cells ≡ true
@@ -198,10 +198,10 @@ module _ (before after : Cells → Type 0) (shape : Shape) (o : Operand) (value 
   goes_emptied : (p : Program) → instruction p (Some (Store shape)) (storing other) holding' ≡ goes (storing other) t.ops (written_all holding' a ws)
   goes_emptied p =
       stores_it other (other_value o value) p holding' ∙ ap (λ l. puts_all (storing other) a l t.ops holding') (other_all o)
-      ∙ ap (λ b. cond b (cond (texts_fit (values_blocks ws) (blocks_in (written_all holding' a ws))) (goes (storing other) t.ops (written_all holding' a ws))
-      (Halts NoTextRoom)) Unknown) (emptied_taken vs a (λ _. Free) low few)
-      ∙ ap (λ n. cond (texts_fit n (blocks_in (written_all holding' a ws))) (goes (storing other) t.ops (written_all holding' a ws)) (Halts NoTextRoom))
-      (emptied_blocks vs)
+      ∙ ap (λ b. cond b (cond (texts_fit (values_blocks ws) (area_blocks a.area (written_all holding' a ws)))
+      (goes (storing other) t.ops (written_all holding' a ws)) (Halts NoTextRoom)) Unknown) (emptied_taken vs a (λ _. Free) low few)
+      ∙ ap (λ n. cond (texts_fit n (area_blocks a.area (written_all holding' a ws))) (goes (storing other) t.ops (written_all holding' a ws))
+      (Halts NoTextRoom)) (emptied_blocks vs)
 
   like : AreLike (o ∷ At a ∷ t.ops) (other ∷ At a ∷ t.ops)
   like = (emptied_operand_like o, ((λ cell. cell), same_like t.ops))

@@ -5,7 +5,7 @@ use Rattle.eu_base.specs.declared.address.Addr.{Addr}
 use Rattle.eu_base.specs.declared.address.TheConstants.{CELLS}
 use Rattle.eu_base.specs.declared.value.Value.{Value}
 use Rattle.eu_base.specs.Room.{values_blocks}
-use Rattle.eu_base.specs.Cells.{Cell, Cells, held_of, IsCell, same_cell, written, cell_blocks, blocks_in}
+use Rattle.eu_base.specs.Cells.{Cell, Cells, held_of, IsCell, same_cell, written, cell_blocks, area_blocks}
 use Rattle.eu_base.proofs.Rooms.{held_blocks}
 use Rattle.code_form.specs.Machine.{next, takes, takes_all, written_all}
 use Rattle.zero_state.proofs.Blocks.{same_place, same_self, written_here, blocks_put}
@@ -29,6 +29,11 @@ pub step_on : (n : ℕ) (a p q : Addr) → p ≡ steps_on n a → q ≡ next p �
 step_on n a p q is on =
     let e : suc n ≡ n + 1 = omega arith in
     on ∙ ap next is ∙ step_more n a ∙ ap (λ n. steps_on n a) e
+
+-- it lies in the same area
+pub area_on : (n : ℕ) (a : Addr) → (steps_on n a).area ≡ a.area
+area_on zero a = refl
+area_on (suc n) a = area_on n (next a)
 
 number_on : (n : ℕ) (a : Addr) → IsCell a → (steps_on n a).cell ≡ (a.cell + n) % 16384
 number_on zero a low = omega (arith, low)
@@ -74,9 +79,9 @@ blocks_other (v ∷ vs) n a cells x low lt =
     ∙ ap (λ b. blocks_from cells b vs) (sym (step_more n (next a))) in
     omega (arith, here, rest)
 
--- the blocks of all texts after values were put there
+-- the blocks of all texts of the area after values were put there
 pub blocks_all : (vs : List Value) (a : Addr) (cells : Cells) → IsCell a → length vs ≤ CELLS
-    → blocks_in (written_all cells a vs) + blocks_from cells a vs ≡ blocks_in cells + values_blocks vs
+    → area_blocks a.area (written_all cells a vs) + blocks_from cells a vs ≡ area_blocks a.area cells + values_blocks vs
 blocks_all [] a cells low few = omega arith
 blocks_all (v ∷ vs) a cells low few =
     let one = blocks_put cells a (held_of v) low in

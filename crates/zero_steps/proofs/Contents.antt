@@ -12,7 +12,7 @@ use Rattle.eu_base.specs.declared.operation.Change.TheVariants.{Append}
 use Rattle.eu_base.specs.Values.{text_of, cell_of, number_in, truth_in}
 use Rattle.eu_base.specs.Operations.{change_kind, changed, fitting}
 use Rattle.eu_base.specs.Room.{most_blocks}
-use Rattle.eu_base.specs.Cells.{Cell, Free, Word, Letters, Cells, held_of, written, cell_blocks, blocks_in, HasText, Puts}
+use Rattle.eu_base.specs.Cells.{Cell, Free, Word, Letters, Cells, held_of, written, cell_blocks, area_blocks, HasText, Puts}
 use Rattle.code_form.specs.Machine.{Move, Unknown, on_word}
 use Rattle.zero_state.proofs.Blocks.{blocks_without, has_room, has_none, has_text, number_bare}
 use Rattle.zero_ops.specs.declared.error.Fault.{Fault}
@@ -56,21 +56,21 @@ text_read before a t answers = record {
 
 text_put : (before after : Cells → Type 0) (a : Addr) (t : List ℕ) (set : Set)
     → ((cells : Cells) → before cells → HasText (cells a) → Puts after cells a t set)
-    → ((cells : Cells) → after cells → blocks_in cells ≤ most_blocks) → PutsTaken before after a (Letters t) set
+    → ((cells : Cells) → after cells → area_blocks a.area cells ≤ most_blocks) → PutsTaken before after a (Letters t) set
 text_put before after a t Done put room cells h e =
     let done = put cells h (has_text (cells a) e) in
-    (has_room (cell_blocks (Letters t)) (blocks_in (written cells a (Letters t))) done.0, done.1)
+    (has_room (cell_blocks (Letters t)) (area_blocks a.area (written cells a (Letters t))) done.0, done.1)
 text_put before after a t HeapFull put room cells h e =
     let full = put cells h (has_text (cells a) e) in (
-      has_none (cell_blocks (Letters t)) (blocks_in (written cells a (Letters t))) full.0
-          (λ none. let le = blocks_without cells a (Letters t) none in let few = room cells full.1 in omega (arith, le, few)),
+      has_none (cell_blocks (Letters t)) (area_blocks a.area (written cells a (Letters t))) full.0
+          (λ none. let le = blocks_without a.area cells a (Letters t) none in let few = room cells full.1 in omega (arith, le, few)),
       full.1,
     )
 
 -- the same of what may want memory
 pub text_puts : {E : Type 0} (result : Result Set E) (before after : Cells → Type 0) (a : Addr) (v : Value) (t shown : List ℕ) → v ≡ item.Text t → shown ≡ t
     → IfOk result (λ set. (cells : Cells) → before cells → HasText (cells a) → Puts after cells a shown set)
-    → ((cells : Cells) → after cells → blocks_in cells ≤ most_blocks) → IfOk result (PutsTaken before after a (held_of v))
+    → ((cells : Cells) → after cells → area_blocks a.area cells ≤ most_blocks) → IfOk result (PutsTaken before after a (held_of v))
 text_puts (Ok set) before after a v t shown is same put room =
     subst (λ v. PutsTaken before after a (held_of v) set) (ap item.Text same ∙ sym is) (text_put before after a shown set put room)
 text_puts (Err e) before after a v t shown is same put room = tt
@@ -101,7 +101,7 @@ module _ (before between after : Cells → Type 0) (a : Addr) (operand : Value) 
     (is : more ≡ text_of operand) where
   pub appended : (new shown : List ℕ) (set : Set) → fitting (text ++ more) ≡ Ok (item.Text new) → shown ≡ new
       → ((cells : Cells) → between cells → HasText (cells a) → Puts after cells a shown set)
-      → ((cells : Cells) → after cells → blocks_in cells ≤ most_blocks) → Changes before after a Append operand (Ok set)
+      → ((cells : Cells) → after cells → area_blocks a.area cells ≤ most_blocks) → Changes before after a Append operand (Ok set)
   appended new shown set gives same put room = record {
     old = item.Text text;
     reads = text_read before a text answers;

@@ -14,7 +14,7 @@ use Rattle.eu_base.specs.declared.value.Kind.{Kind}
 use Rattle.eu_base.specs.declared.value.Value.{Value}
 use Rattle.eu_base.specs.declared.value.Value.TheVariants as item
 use Rattle.eu_base.specs.Room.{most_blocks, values_bytes, values_blocks, texts_fit}
-use Rattle.eu_base.specs.Cells.{Cell, Letters, Cells, held_of, IsCell, written, cell_blocks, blocks_in, HasText, Puts}
+use Rattle.eu_base.specs.Cells.{Cell, Letters, Cells, held_of, IsCell, written, cell_blocks, area_blocks, HasText, Puts}
 use Rattle.code_form.specs.declared.operand.Operand.{Operand}
 use Rattle.code_form.specs.declared.operand.Operand.TheVariants.{Value as Of}
 use Rattle.zero_state.specs.Finds.{all_of}
@@ -24,7 +24,7 @@ use Rattle.zero_state.specs.Emptied.{emptied}
 use Rattle.zero_state.proofs.Emptied.{emptied_blocks, emptied_bare}
 use Rattle.zero_state.proofs.Blocks.{has_room, has_text}
 use Rattle.zero_steps.specs.Reading.{Reads, AllRead, PutsTaken, PutsCell, PutsEach, PutsAll, blocks_from, shown, FitsSoFar}
-use Rattle.zero_steps.proofs.Along.{steps_on, blocks_all, written_put, put_there, put_behind, written_again, written_next, blocks_none}
+use Rattle.zero_steps.proofs.Along.{steps_on, area_on, blocks_all, written_put, put_there, put_behind, written_again, written_next, blocks_none}
 use Rattle.zero_steps.proofs.Along.{takes_each, takes_at}
 use Rattle.zero_steps.proofs.Accessing.{Keeps}
 
@@ -107,7 +107,8 @@ at_item xs i x d lt is = slice_get-get_or xs i d lt ∙ ap (λ x. Some x) (sym i
 pub put_step : (now after : Cells → Type 0) (vs : List Value) (texts : Bool) (a : Addr) (k : ℕ) (v : Value) (cells : Cells) → IsCell a → length vs ≤ CELLS
     → slice_get vs k ≡ Some v → takes_all vs a cells ≡ true → FitsSoFar cells a (map (shown texts) vs)
     → ((cells : Cells) → now cells → takes (held_of v) (cells (steps_on k a)) ≡ true
-    → blocks_in (written cells (steps_on k a) (held_of (shown texts v))) ≤ most_blocks → after (written cells (steps_on k a) (held_of (shown texts v))))
+    → area_blocks (steps_on k a).area (written cells (steps_on k a) (held_of (shown texts v))) ≤ most_blocks
+    → after (written cells (steps_on k a) (held_of (shown texts v))))
     → now (written_all cells a (take k (map (shown texts) vs))) → after (written_all cells a (take (k + 1) (map (shown texts) vs)))
 put_step now after vs texts a k v cells low few there all fits put h =
     let ws = map (shown texts) vs in
@@ -123,22 +124,24 @@ put_step now after vs texts a k v cells low few there all fits put h =
     let one = written_next ws a cells k (shown texts v) item in
     subst (λ n. after (written_all cells a (take n ws))) next
     (subst after one
-    (put so_far h (ap (takes (held_of v)) kept ∙ takes_at vs a cells k v all there) (subst (λ c. blocks_in c ≤ most_blocks) (sym one) (fits (suc k)))))
+    (put so_far h (ap (takes (held_of v)) kept ∙ takes_at vs a cells k v all there)
+    (subst (λ x. area_blocks x (written so_far (steps_on k a) (held_of (shown texts v))) ≤ most_blocks) (sym (area_on k a))
+    (subst (λ c. area_blocks a.area c ≤ most_blocks) (sym one) (fits (suc k))))))
 
 -- where no text has blocks, where "" comes in the place of each text, and where none stood before, each has room where all have
 no_more : (vs : List Value) (a : Addr) (cells : Cells) → IsCell a → length vs ≤ CELLS
-    → (n : ℕ) → blocks_in (written_all cells a (take n vs)) ≤ blocks_in cells + values_blocks (take n vs)
+    → (n : ℕ) → area_blocks a.area (written_all cells a (take n vs)) ≤ area_blocks a.area cells + values_blocks (take n vs)
 no_more vs a cells low few n =
     let short = length-take n vs in
     let all = blocks_all (take n vs) a cells low (omega (arith, short, few)) in
     omega (arith, all)
 
-pub fits_none : (vs : List Value) (a : Addr) (cells : Cells) → IsCell a → length vs ≤ CELLS → values_blocks vs ≡ 0 → blocks_in cells ≤ most_blocks
+pub fits_none : (vs : List Value) (a : Addr) (cells : Cells) → IsCell a → length vs ≤ CELLS → values_blocks vs ≡ 0 → area_blocks a.area cells ≤ most_blocks
     → FitsSoFar cells a vs
 fits_none vs a cells low few none room n = let all = no_more vs a cells low few n in let first = blocks_first vs n in omega (arith, all, first, none, room)
 
 pub fits_bare : (vs : List Value) (a : Addr) (cells : Cells) → IsCell a → length vs ≤ CELLS → blocks_from cells a vs ≡ 0
-    → blocks_in (written_all cells a vs) ≤ most_blocks → FitsSoFar cells a vs
+    → area_blocks a.area (written_all cells a vs) ≤ most_blocks → FitsSoFar cells a vs
 fits_bare vs a cells low few none room n =
     let part = no_more vs a cells low few n in
     let all = blocks_all vs a cells low few in
@@ -198,33 +201,33 @@ module _ (vs : List Value) (a : Addr) (low : IsCell a) (few : length vs ≤ CELL
       → after (written_all cells a (map (shown texts) vs))
 
   abbrev pub Rooms : (Cells → Type 0) → Type 0
-  Rooms holds = (cells : Cells) → holds cells → blocks_in cells ≤ most_blocks
+  Rooms holds = (cells : Cells) → holds cells → area_blocks a.area cells ≤ most_blocks
 
   pub put_small : (before after : Cells → Type 0) → Rooms before → values_blocks vs ≡ 0 → PutsShown before after true → PutsAll before after a vs Done
   put_small before after room none put cells h taken = (
-    ap (λ n. texts_fit n (blocks_in (written_all cells a vs))) none,
+    ap (λ n. texts_fit n (area_blocks a.area (written_all cells a vs))) none,
     subst (λ l. after (written_all cells a l)) (all_shown vs)
         (put cells h taken (subst (FitsSoFar cells a) (sym (all_shown vs)) (fits_none vs a cells low few none (room cells h)))),
   )
 
   -- where they have room is known
   abbrev pub Tells : (before : Cells → Type 0) → Bool → Type 0
-  Tells before fits = (cells : Cells) → before cells → takes_all vs a cells ≡ true → fits ≡ nat_le (blocks_in (written_all cells a vs)) most_blocks
+  Tells before fits = (cells : Cells) → before cells → takes_all vs a cells ≡ true → fits ≡ nat_le (area_blocks a.area (written_all cells a vs)) most_blocks
 
   pub put_none : (before after : Cells → Type 0) (fits : Bool) → Tells before fits → fits ≡ false → (values_blocks vs ≡ 0 → ⊥) → Keeps before after
       → PutsAll before after a vs HeapFull
   put_none before after fits tells full some kept cells h taken =
       (by (values_blocks vs) some (sym (tells cells h taken) ∙ full), kept cells h)
     where
-      by : (n : ℕ) → (n ≡ 0 → ⊥) → nat_le (blocks_in (written_all cells a vs)) most_blocks ≡ false
-          → texts_fit n (blocks_in (written_all cells a vs)) ≡ false
+      by : (n : ℕ) → (n ≡ 0 → ⊥) → nat_le (area_blocks a.area (written_all cells a vs)) most_blocks ≡ false
+          → texts_fit n (area_blocks a.area (written_all cells a vs)) ≡ false
       by zero some e = absurd (some refl)
       by (suc n) some e = e
 
   pub put_both : (before between middle after : Cells → Type 0) (fits : Bool) → Tells before fits → fits ≡ true → Keeps before between → Rooms between
       → PutsShown between middle false → PutsShown middle after true → PutsAll before after a vs Done
   put_both before between middle after fits tells fitting kept room first second cells h taken =
-      let le = leb-true (blocks_in (written_all cells a vs)) most_blocks (sym (tells cells h taken) ∙ fitting) in
+      let le = leb-true (area_blocks a.area (written_all cells a vs)) most_blocks (sym (tells cells h taken) ∙ fitting) in
       let none : values_blocks (map emptied vs) ≡ 0 = emptied_blocks vs in
       let many = length-map vs emptied in
       let emptied_fit : FitsSoFar cells a (map emptied vs) =
@@ -232,9 +235,9 @@ module _ (vs : List Value) (a : Addr) (low : IsCell a) (few : length vs ≤ CELL
       let gone : middle (without vs a cells low few) = first cells (kept cells h) taken emptied_fit in
       let same = again vs a cells low few in
       let fit : FitsSoFar (without vs a cells low few) a vs =
-      fits_bare vs a (without vs a cells low few) low few (bare_again vs a cells low few) (subst (λ c. blocks_in c ≤ most_blocks) (sym same) le) in
+      fits_bare vs a (without vs a cells low few) low few (bare_again vs a cells low few) (subst (λ c. area_blocks a.area c ≤ most_blocks) (sym same) le) in
       let put = second (without vs a cells low few) gone (takes_again vs a cells low few) (subst (FitsSoFar (without vs a cells low few) a) (sym (all_shown vs)) fit) in (
-        has_room (values_blocks vs) (blocks_in (written_all cells a vs)) le,
+        has_room (values_blocks vs) (area_blocks a.area (written_all cells a vs)) le,
         subst after same (subst (λ l. after (written_all (without vs a cells low few) a l)) (all_shown vs) put),
       )
 
@@ -245,21 +248,22 @@ module _ (vs : List Value) (a : Addr) (low : IsCell a) (few : length vs ≤ CELL
       let all = blocks_all vs a cells low few in
       let old = had_is cells h taken in
       let few_blocks = room cells h in
-      sym (le-leb (blocks_in (written_all cells a vs)) most_blocks (omega (arith, all, old, le, is, few_blocks)))
+      sym (le-leb (area_blocks a.area (written_all cells a vs)) most_blocks (omega (arith, all, old, le, is, few_blocks)))
 
   pub tells_rooms : (before : Cells → Type 0) (needed had rooms : ℕ) (fits : Bool) → needed ≡ values_blocks vs → values_bytes vs ≤ OPERAND_BYTES
       → ((cells : Cells) → before cells → takes_all vs a cells ≡ true → had ≡ min (blocks_from cells a vs) (2 ^ 64 - 1))
-      → ((cells : Cells) → before cells → rooms + blocks_in cells ≡ most_blocks) → had < needed → fits ≡ nat_le (needed - had) rooms → Tells before fits
+      → ((cells : Cells) → before cells → rooms + area_blocks a.area cells ≡ most_blocks) → had < needed → fits ≡ nat_le (needed - had) rooms
+      → Tells before fits
   tells_rooms before needed had rooms fits is small had_is left lt fits_is cells h taken =
       let all = blocks_all vs a cells low few in
       let old = had_is cells h taken in
       let free = left cells h in
       let least = blocks_small vs in
       fits_is ∙ ⊎_elim
-      (λ more. let over : most_blocks < blocks_in (written_all cells a vs) = omega (arith, all, old, free, is, lt, more, least, small) in
-      lt-leb (needed - had) rooms more ∙ sym (lt-leb (blocks_in (written_all cells a vs)) most_blocks over))
-      (λ le. let under : blocks_in (written_all cells a vs) ≤ most_blocks = omega (arith, all, old, free, is, lt, le, least, small) in
-      le-leb (needed - had) rooms le ∙ sym (le-leb (blocks_in (written_all cells a vs)) most_blocks under))
+      (λ more. let over : most_blocks < area_blocks a.area (written_all cells a vs) = omega (arith, all, old, free, is, lt, more, least, small) in
+      lt-leb (needed - had) rooms more ∙ sym (lt-leb (area_blocks a.area (written_all cells a vs)) most_blocks over))
+      (λ le. let under : area_blocks a.area (written_all cells a vs) ≤ most_blocks = omega (arith, all, old, free, is, lt, le, least, small) in
+      le-leb (needed - had) rooms le ∙ sym (le-leb (area_blocks a.area (written_all cells a vs)) most_blocks under))
       (cases_lt rooms (needed - had))
 
 -- a value of one cell
@@ -274,8 +278,8 @@ one_put before after a v set put cells h taken = by set (put cells h (only (take
     blocks = let held = held_blocks v in omega (arith, held)
 
     by : (set : Set) → PutsCell after cells a (held_of v) set → PutsEach after cells a (v ∷ []) set
-    by Done x = (ap (λ n. texts_fit n (blocks_in (written cells a (held_of v)))) (sym blocks) ∙ x.0, x.1)
-    by HeapFull x = (ap (λ n. texts_fit n (blocks_in (written cells a (held_of v)))) (sym blocks) ∙ x.0, x.1)
+    by Done x = (ap (λ n. texts_fit n (area_blocks a.area (written cells a (held_of v)))) (sym blocks) ∙ x.0, x.1)
+    by HeapFull x = (ap (λ n. texts_fit n (area_blocks a.area (written cells a (held_of v)))) (sym blocks) ∙ x.0, x.1)
 
 pub one_puts : {E : Type 0} (result : Result Set E) (before after : Cells → Type 0) (a : Addr) (v : Value) (o : Operand) → o ≡ Of v
     → IfOk result (PutsTaken before after a (held_of v)) → IfOk result (PutsAll before after a (all_of o))
@@ -285,14 +289,14 @@ one_puts (Err e) before after a v o is put = tt
 -- a text that has room, or "" in its place
 pub text_shown : (before after : Cells → Type 0) (a : Addr) (t new : List ℕ) (v : Value) (texts : Bool) (set : Set) → v ≡ item.Text t
     → item.Text new ≡ shown texts (item.Text t) → ((cells : Cells) → before cells → HasText (cells a) → Puts after cells a new set)
-    → (cells : Cells) → before cells → takes (held_of v) (cells a) ≡ true → blocks_in (written cells a (held_of (shown texts v))) ≤ most_blocks
+    → (cells : Cells) → before cells → takes (held_of v) (cells a) ≡ true → area_blocks a.area (written cells a (held_of (shown texts v))) ≤ most_blocks
     → after (written cells a (held_of (shown texts v)))
 text_shown before after a t new v texts set is same put cells h taken room =
     let all : item.Text new ≡ shown texts v = same ∙ ap (shown texts) (sym is) in
     let taken' : is_text (cells a) ≡ true = ap (λ v. takes (held_of v) (cells a)) (sym is) ∙ taken in
     subst (λ v. after (written cells a (held_of v))) all
-    (by set (put cells h (has_text (cells a) taken')) (subst (λ v. blocks_in (written cells a (held_of v)) ≤ most_blocks) (sym all) room))
+    (by set (put cells h (has_text (cells a) taken')) (subst (λ v. area_blocks a.area (written cells a (held_of v)) ≤ most_blocks) (sym all) room))
   where
-    by : (set : Set) → Puts after cells a new set → blocks_in (written cells a (Letters new)) ≤ most_blocks → after (written cells a (Letters new))
+    by : (set : Set) → Puts after cells a new set → area_blocks a.area (written cells a (Letters new)) ≤ most_blocks → after (written cells a (Letters new))
     by Done x le = x.1
     by HeapFull x le = let full = x.0 in absurd (omega (arith, full, le))

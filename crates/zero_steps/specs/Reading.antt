@@ -7,7 +7,7 @@ use Rattle.eu_base.specs.declared.value.Kind.{Kind}
 use Rattle.eu_base.specs.declared.value.Value.{Value}
 use Rattle.eu_base.specs.declared.operation.Change.{Change}
 use Rattle.eu_base.specs.Room.{values_blocks, most_blocks, texts_fit}
-use Rattle.eu_base.specs.Cells.{Cell, Cells, held_of, written, cell_blocks, blocks_in}
+use Rattle.eu_base.specs.Cells.{Cell, Cells, held_of, written, cell_blocks, area_blocks}
 use Rattle.eu_base.specs.Operations.{change_kind, changed}
 use Rattle.code_form.specs.Machine.{Move, Unknown, on_cell, next, takes, takes_all, written_all}
 use Rattle.zero_state.specs.Emptied.{emptied}
@@ -30,19 +30,19 @@ AllRead holds at [] [] = Unit {0}
 AllRead holds at (k ∷ ks) (v ∷ vs) = Reads holds at k v × AllRead holds (next at) ks vs
 AllRead holds at _ _ = ⊥
 
--- this was put into a cell, since all texts have room then; or they would have none, and nothing changed
+-- this was put into a cell, since all texts of its area have room then; or they would have none, and nothing changed
 abbrev pub PutsCell : (Cells → Type 0) → Cells → Addr → Cell → Set → Type 0
-PutsCell holds cells at x Done = (texts_fit (cell_blocks x) (blocks_in (written cells at x)) ≡ true) × holds (written cells at x)
-PutsCell holds cells at x HeapFull = (texts_fit (cell_blocks x) (blocks_in (written cells at x)) ≡ false) × holds cells
+PutsCell holds cells at x Done = (texts_fit (cell_blocks x) (area_blocks at.area (written cells at x)) ≡ true) × holds (written cells at x)
+PutsCell holds cells at x HeapFull = (texts_fit (cell_blocks x) (area_blocks at.area (written cells at x)) ≡ false) × holds cells
 
 -- the same where the cell takes it
 abbrev pub PutsTaken : (before after : Cells → Type 0) → Addr → Cell → Set → Type 0
 PutsTaken before after at x set = (cells : Cells) → before cells → takes x (cells at) ≡ true → PutsCell after cells at x set
 
--- values were put from a place on, since all texts have room then; or they would have none, and nothing changed
+-- values were put from a place on, since all texts of its area have room then; or they would have none, and nothing changed
 abbrev pub PutsEach : (Cells → Type 0) → Cells → Addr → List Value → Set → Type 0
-PutsEach holds cells at vs Done = (texts_fit (values_blocks vs) (blocks_in (written_all cells at vs)) ≡ true) × holds (written_all cells at vs)
-PutsEach holds cells at vs HeapFull = (texts_fit (values_blocks vs) (blocks_in (written_all cells at vs)) ≡ false) × holds cells
+PutsEach holds cells at vs Done = (texts_fit (values_blocks vs) (area_blocks at.area (written_all cells at vs)) ≡ true) × holds (written_all cells at vs)
+PutsEach holds cells at vs HeapFull = (texts_fit (values_blocks vs) (area_blocks at.area (written_all cells at vs)) ≡ false) × holds cells
 
 abbrev pub PutsAll : (before after : Cells → Type 0) → Addr → List Value → Set → Type 0
 PutsAll before after at vs set = (cells : Cells) → before cells → takes_all vs at cells ≡ true → PutsEach after cells at vs set
@@ -57,9 +57,9 @@ abbrev pub shown : Bool → Value → Value
 shown true v = v
 shown false v = emptied v
 
--- all texts have room however many of the values were put from a place on
+-- all texts of the area have room however many of the values were put from a place on
 abbrev pub FitsSoFar : Cells → Addr → List Value → Type 0
-FitsSoFar cells at vs = (n : ℕ) → blocks_in (written_all cells at (take n vs)) ≤ most_blocks
+FitsSoFar cells at vs = (n : ℕ) → area_blocks at.area (written_all cells at (take n vs)) ≤ most_blocks
 
 -- what came of a change: the new value was put into the cell, or has no room there; or there is none, and nothing changed
 abbrev pub ChangesTo : (before after : Cells → Type 0) → Addr → Change → (old operand : Value) → Result Set Fault → Type 0

@@ -3,7 +3,7 @@ ghost use Rattle.std.specs.Prelude.{◌≡◌, ◌-◌, ◌^◌, ◌≤◌, min,
 ghost use Rattle.eu_base.specs.declared.value.TheConstants.{OPERAND_BYTES};
 ghost use Rattle.eu_base.specs.declared.value.Value.TheVariants as item;
 ghost use Rattle.eu_base.specs.Room.{blocks_of, most_blocks, value_blocks, values_bytes, values_blocks};
-ghost use Rattle.eu_base.specs.Cells.{Cells, IsCell, held_of, written, cell_blocks, blocks_in, HasFaultCause};
+ghost use Rattle.eu_base.specs.Cells.{Cells, IsCell, held_of, written, cell_blocks, area_blocks, HasFaultCause};
 ghost use Rattle.code_form.specs.Machine.{operand_bytes, takes, takes_all, written_all};
 ghost use Rattle.zero_state.specs.Finds.{is_value, all_of};
 ghost use Rattle.zero_steps.specs.Reading.{AllRead, PutsAll, blocks_from, shown, FitsSoFar};
@@ -88,7 +88,7 @@ fn has_room<M: Memory>(
     requires few { values_bytes values.now ≤ OPERAND_BYTES }
     requires needed { needed ≡ values_blocks values.now }
     ensures fits { IfOk result (λ fits. (cells : Cells) → M.holds m.old cells → takes_all values.now at cells ≡ true →
-        fits ≡ nat_le (blocks_in (written_all cells at values.now)) most_blocks) }
+        fits ≡ nat_le (area_blocks at.area (written_all cells at values.now)) most_blocks) }
     ensures kept { OnOk result ((cells : Cells) → M.holds m.old cells → M.holds m.new cells) }
     ensures cause { HasFaultCause (M.faults m.old) (M.faults m.new) result }
     ensures follows { M.follows m.old m.new }
@@ -97,7 +97,7 @@ fn has_room<M: Memory>(
     if needed <= had {
         return Ok(true);
     }
-    let rooms = m.rooms()?;
+    let rooms = m.rooms(at.area)?;
     Ok(needed - had <= rooms as usize)
 }
 
@@ -186,7 +186,7 @@ fn put_each<M: Memory>(m: &mut M, at: Addr, values: &[Value], texts: bool) -> Re
 fn put_one<M: Memory>(m: &mut M, at: Addr, value: &Value, text: bool) -> Result<(), MemFault>
     requires { IsCell at }
     ensures put { OnOk result ((cells : Cells) → M.holds m.old cells → takes (held_of value.now) (cells at) ≡ true →
-        blocks_in (written cells at (held_of (shown text value.now))) ≤ most_blocks → M.holds m.new (written cells at (held_of (shown text value.now)))) }
+        area_blocks at.area (written cells at (held_of (shown text value.now))) ≤ most_blocks → M.holds m.new (written cells at (held_of (shown text value.now)))) }
     ensures cause { HasFaultCause (M.faults m.old) (M.faults m.new) result }
     ensures follows { M.follows m.old m.new }
 {

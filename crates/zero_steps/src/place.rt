@@ -8,8 +8,8 @@ ghost use Rattle.zero_state.specs.Finds.{TopPlace, TopBoth};
 ghost use Rattle.zero_state.specs.Stepping.{position_of, control_of, IsReady, GoesOn, StepsSo};
 
 use code_form::Operand;
-use eu_base::Addr;
-use zero_state::{Next, State, place_in};
+use eu_base::{Addr, CELLS};
+use zero_state::{Next, State};
 
 /// INDEX. A stop leaves the operands pending.
 pub fn index(s: &mut State, count: u16, cells: u16) -> Next
@@ -62,9 +62,13 @@ pub(crate) fn in_row(count: u16, number: i16) -> Option<u16>
     }
 }
 
-/// The place so many cells further on.
+/// The place so many cells further on in its area.
 pub(crate) fn further(at: Addr, cells: u32) -> Addr
     ensures { result ≡ further at cells }
 {
-    place_in(u64::from(at.cell) + u64::from(cells))
+    let cell = u64::from(at.cell) + u64::from(cells);
+    Addr {
+        area: at.area,
+        cell: (cell % u64::from(CELLS)) as u16,
+    }
 }

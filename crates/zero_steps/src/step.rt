@@ -14,8 +14,8 @@ use crate::counter::{has_reached, is_past};
 use crate::push::push_on;
 use crate::reading::{put, value_at};
 use code_form::Operand;
-use eu_base::{Kind, MemFault, Memory, NoMemory, Set, Shape, Value, Way, number_in};
-use zero_state::{Next, State, have_room, place_in, run_cell};
+use eu_base::{Area, CELLS, Kind, MemFault, Memory, NoMemory, Set, Shape, Value, Way, number_in};
+use zero_state::{Next, State, area_cell, have_room, place_in, run_cell};
 
 /// OUTER
 pub fn outer(s: &mut State, cell: usize) -> Result<Next, NoMemory>
@@ -24,6 +24,16 @@ pub fn outer(s: &mut State, cell: usize) -> Result<Next, NoMemory>
     ensures { IfOk result (λ next. (cells : Cells) → StepsSo (instrs.Outer cell) (position_of s.old) cells (control_of s.new) cells next) }
 {
     push_on(s, Operand::Place(run_cell(cell)))
+}
+
+/// PACK
+pub fn packet(s: &mut State, cell: usize) -> Result<Next, NoMemory>
+    requires ready { IsReady s.old }
+    ensures { IfOk result (λ next. (cells : Cells) → StepsSo (instrs.Packet cell) (position_of s.old) cells (control_of s.new) cells next) }
+{
+    // A command whose packets have no room does not come here.
+    let place = area_cell(Area::Packets, cell % usize::from(CELLS));
+    push_on(s, Operand::Place(place))
 }
 
 /// LOCAL

@@ -1,6 +1,7 @@
 use Rattle.std.proofs.Common.{◌+◌, length, subst, arith}
 use Rattle.std.specs.Prelude.{flat_map}
 use Rattle.cell_kinds.specs.Kinds.{all_kinds}
+use Rattle.eu_base.specs.declared.address.Area.TheVariants.{Run}
 use Rattle.code_form.specs.Machine.{held_cells, frame_contents}
 use Rattle.zero_calls.proofs.Framing.{PutsFree}
 use Rattle.zero_calls.proofs.Calling.{entered_full, entered_so, entered_texts}
@@ -20,7 +21,7 @@ returns-clause-goes g c =
     let after = g.M.Memory.holds c.write_frame.new.m in
     entered_so before after s.pc s.used c.args.first c.args.base c.args.refines c.args.body c.args.count c.frame_size-more.result s.stack
     (all_kinds c.args.variables.now) c.requires.many c.top-operands.result.now c.top-operands.ensures (omega (arith, c.frame_size-more.ensures, c.requires.counted)) c.if-not-have_room.ensures
-    (g.met.M.Memory.room c.write_frame.new.m) c.enter.new.self s.waits c.requires.ready.free c.in_ok-enter.ensures
+    (g.met.M.Memory.room c.write_frame.new.m Run) c.enter.new.self s.waits c.requires.ready.free c.in_ok-enter.ensures
     (subst (PutsFree before after s.used (2 + length (flat_map held_cells c.top-operands.result.now) + length (all_kinds c.args.variables.now)) (frame_contents c.top-operands.result.now (all_kinds c.args.variables.now)))
     c.in_default.is c.in_ok-write_frame.ensures.puts)
 
@@ -31,6 +32,6 @@ returns-in-HeapFull-clause-goes g c =
     let after = g.M.Memory.holds c.write_frame.new.m in
     entered_texts before after s.pc s.used c.args.first c.args.base c.args.refines c.args.body c.args.count c.frame_size-more.result s.stack
     (all_kinds c.args.variables.now) c.requires.many c.top-operands.result.now c.top-operands.ensures (omega (arith, c.frame_size-more.ensures, c.requires.counted)) c.if-not-have_room.ensures
-    (g.met.M.Memory.room c.write_frame.new.m) s.waits c.requires.ready.free
+    (g.met.M.Memory.room c.write_frame.new.m Run) s.waits c.requires.ready.free
     (subst (PutsFree before after s.used (2 + length (flat_map held_cells c.top-operands.result.now) + length (all_kinds c.args.variables.now)) (frame_contents c.top-operands.result.now (all_kinds c.args.variables.now)))
     c.in-HeapFull.is c.in_ok-write_frame.ensures.puts)

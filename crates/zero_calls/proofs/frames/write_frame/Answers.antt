@@ -1,6 +1,7 @@
 use Rattle.std.proofs.Common.{◌≡◌, ◌+◌, length, map, subst, arith}
 use Rattle.std.specs.Prelude.{flat_map}
 use Rattle.eu_base.specs.Values.{blank_of}
+use Rattle.eu_base.specs.declared.address.Area.TheVariants.{Run}
 use Rattle.eu_base.specs.Cells.{Cells, held_of, AreBare}
 use Rattle.cell_kinds.specs.Kinds.{all_kinds}
 use Rattle.code_form.specs.Machine.{held_cells, written_from}
@@ -16,7 +17,7 @@ returns-in_ok-write_variables-in-Done-clause-puts g c =
     (g.M.Memory.holds c.write_variables.new.m)
     (subst (PutsFree linked written (c.args.at + 2) (length (flat_map held_cells c.args.operands.now)) (flat_map held_cells c.args.operands.now)) c.in-Done.is
     c.in_ok-write_operands.ensures.puts)
-    (subst (λ n. (cells : Cells) → written cells → AreBare (c.args.at + 2 + n) (length (all_kinds c.args.variables.now)) cells
+    (subst (λ n. (cells : Cells) → written cells → AreBare Run (c.args.at + 2 + n) (length (all_kinds c.args.variables.now)) cells
     → g.M.Memory.holds c.write_variables.new.m (written_from (c.args.at + 2 + n) (map (λ k. held_of (blank_of k)) (all_kinds c.args.variables.now)) cells)) many
     c.in_ok-write_variables-in-Done.ensures.written)
 

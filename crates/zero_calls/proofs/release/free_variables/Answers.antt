@@ -1,4 +1,5 @@
 use Rattle.std.proofs.Common.{refl, arith}
+use Rattle.eu_base.specs.declared.address.Area.TheVariants.{Run}
 use Rattle.zero_calls.proofs.Freeing.{frees_none}
 use Rattle.zero_calls.proofs.Shaped.{next_shape, shape_freed}
 use Rattle.zero_calls.proofs.release.free_variables.Goals as goal
@@ -20,10 +21,10 @@ loop-shape-preserved g c =
     let is = c.shape-item.is in
     record {
       cell =
-          let next = next_shape c.args.at i shapes s s lt is _ refl in
+          let next = next_shape Run c.args.at i shapes s s lt is _ refl in
           omega (arith, next, c.loop-shape.invariant.cell, c.in_ok-cell.ensures.end);
       freed =
-          shape_freed c.args.at i shapes s s lt is (g.M.Memory.holds c.args.m.now) (g.M.Memory.holds c.loop-shape.m) (g.M.Memory.holds c.free_variable.new.m)
+          shape_freed Run c.args.at i shapes s s lt is (g.M.Memory.holds c.args.m.now) (g.M.Memory.holds c.loop-shape.m) (g.M.Memory.holds c.free_variable.new.m)
           c.loop-shape.cell c.in_ok-cell.cell c.args.until c.requires.within c.loop-shape.invariant.cell c.loop-shape.invariant.freed c.in_ok-cell.ensures.freed;
       later = omega (arith, c.loop-shape.invariant.later, c.free_variable.ensures.cause.later);
       follows = g.met.M.Memory.transitive _ _ _ c.loop-shape.invariant.follows c.free_variable.ensures.follows;

@@ -5,7 +5,7 @@ use Rattle.zero_steps.proofs.cells.has_room.Goals as goal
 pub returns-then-needed-had-clause-fits : goal.returns-then-needed-had-clause-fits
 returns-then-needed-had-clause-fits g c =
     tells_less c.args.values.now c.args.at c.requires.cell (few_values c.args.values.now c.requires.few) (g.M.Memory.holds c.args.m.now) c.args.needed
-    c.in_ok-had.had (g.met.M.Memory.room c.args.m.now) c.requires.needed c.in_ok-had.ensures.had c.if-needed-had.true
+    c.in_ok-had.had (g.met.M.Memory.room c.args.m.now c.args.at.area) c.requires.needed c.in_ok-had.ensures.had c.if-needed-had.true
 
 pub returns-clause-fits : goal.returns-clause-fits
 returns-clause-fits g c =

@@ -5,7 +5,7 @@ use Rattle.zero_steps.proofs.cells.put_all.Goals as goal
 pub returns-then-needed-eq0-clause-puts : goal.returns-then-needed-eq0-clause-puts
 returns-then-needed-eq0-clause-puts g c =
     put_small c.args.values.now c.args.at c.requires.cell (few_values c.args.values.now c.requires.few) (g.M.Memory.holds c.args.m.now)
-    (g.M.Memory.holds c.put_each.new.m) (g.met.M.Memory.room c.args.m.now) (sym c.blocks_of-needed.ensures ∙ c.if-needed-eq0.true)
+    (g.M.Memory.holds c.put_each.new.m) (g.met.M.Memory.room c.args.m.now c.args.at.area) (sym c.blocks_of-needed.ensures ∙ c.if-needed-eq0.true)
     c.in_ok-put_each.ensures.put
 
 pub returns-then-not-branch-clause-puts : goal.returns-then-not-branch-clause-puts
@@ -18,5 +18,5 @@ pub returns-clause-puts : goal.returns-clause-puts
 returns-clause-puts g c =
     put_both c.args.values.now c.args.at c.requires.cell (few_values c.args.values.now c.requires.few) (g.M.Memory.holds c.args.m.now)
     (g.M.Memory.holds c.has_room.new.m) (g.M.Memory.holds c.put_each-2.new.m) (g.M.Memory.holds c.put_each-3.new.m) c.in_ok-has_room.field-0
-    c.in_ok-has_room.ensures.fits c.if-not-branch.false c.in_ok-has_room.ensures.kept (g.met.M.Memory.room c.has_room.new.m)
+    c.in_ok-has_room.ensures.fits c.if-not-branch.false c.in_ok-has_room.ensures.kept (g.met.M.Memory.room c.has_room.new.m c.args.at.area)
     c.in_ok-put_each-2.ensures.put c.in_ok-put_each-3.ensures.put

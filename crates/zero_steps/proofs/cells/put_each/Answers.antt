@@ -1,7 +1,7 @@
 use Rattle.std.proofs.Common.{◌≡◌, ◌≤◌, true, sym, subst, arith, map}
 use Rattle.std.proofs.lemmas.List.{length-map, take_all}
 use Rattle.eu_base.specs.Room.{most_blocks}
-use Rattle.eu_base.specs.Cells.{Cells, IsCell, held_of, written, blocks_in}
+use Rattle.eu_base.specs.Cells.{Cells, IsCell, held_of, written, area_blocks}
 use Rattle.code_form.specs.Machine.{takes, written_all}
 use Rattle.zero_steps.specs.Reading.{shown}
 use Rattle.zero_steps.proofs.Along.{steps_cell, step_on}
@@ -21,7 +21,7 @@ loop-value-preserved g c = record {
       put_step now after c.args.values.now c.args.texts c.args.at c.loop-value.value-index v cells c.requires.cell
       (few_values c.args.values.now c.requires.few) (at_item c.args.values.now c.loop-value.value-index v v c.loop-value-test.true c.value-item.is) taken fits
       (subst (λ p. (cells : Cells) → now cells → takes (held_of v) (cells p) ≡ true
-      → blocks_in (written cells p (held_of (shown c.args.texts v))) ≤ most_blocks → after (written cells p (held_of (shown c.args.texts v))))
+      → area_blocks p.area (written cells p (held_of (shown c.args.texts v))) ≤ most_blocks → after (written cells p (held_of (shown c.args.texts v))))
       c.loop-value.invariant.place c.in_ok-put_one.ensures.put)
       (c.loop-value.invariant.put cells h taken fits);
   later = omega (arith, c.loop-value.invariant.later, c.put_one.ensures.cause.later);

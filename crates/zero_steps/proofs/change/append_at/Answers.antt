@@ -5,7 +5,8 @@ pub returns-in-Ok-clause-changes : goal.returns-in-Ok-clause-changes
 returns-in-Ok-clause-changes g c =
     appended (g.M.Memory.holds c.args.m.now) (g.M.Memory.holds c.text.new.self) (g.M.Memory.holds c.set_text.new.self) c.args.at c.args.operand.now
     c.in_ok-text.text c.text-2.result.now c.in_ok-text.ensures.text c.in_ok-text.ensures.kept c.text-2.ensures c.append.new.s c.as_slice.result.now
-    c.in_ok-set_text-in-Ok.field-0 c.in-Ok.ensures.ok c.as_slice.ensures c.in_ok-set_text-in-Ok.ensures.puts (g.met.M.Memory.room c.set_text.new.self)
+    c.in_ok-set_text-in-Ok.field-0 c.in-Ok.ensures.ok c.as_slice.ensures c.in_ok-set_text-in-Ok.ensures.puts
+    (g.met.M.Memory.room c.set_text.new.self c.args.at.area)
 
 pub returns-in-Err-Stop-clause-changes : goal.returns-in-Err-Stop-clause-changes
 returns-in-Err-Stop-clause-changes g c =
