@@ -1,2 +1,3 @@
 mod Spaces
 mod Threes
+mod Tasks

@@ -14,6 +14,16 @@ fn run_cell(cell: u16) -> Addr
     }
 }
 
+fn packet_cell(cell: u16) -> Addr
+    requires { cell < 16384 }
+    ensures { result.cell < 16384 }
+{
+    Addr {
+        area: Area::Packets,
+        cell,
+    }
+}
+
 /// A text is told by its first byte and its length.
 #[derive(Clone, Copy)]
 struct Content {
@@ -86,7 +96,7 @@ fn is_number<M: Memory>(memory: &mut M, cell: u16, number: u64) -> bool
 }
 
 fn has_rooms<M: Memory>(memory: &mut M, free: u32) -> bool {
-    match memory.rooms() {
+    match memory.rooms(Area::Run) {
         Ok(found) => found == free,
         Err(_) => false,
     }
@@ -115,4 +125,23 @@ pub fn all_blocks<M: Memory>(alloc: Global, memory: &mut M) -> bool {
     let freed = comes_back(alloc, memory, 0, EMPTY);
     let again = comes_back(alloc, memory, 2, two);
     almost && no_room && last && full && still && freed && again
+}
+
+/// A cell of the packets and the command's of the same number hold what each was given, and the packets have blocks of their own,
+/// where the command has one text of 4,095 blocks.
+pub fn areas_are_apart<M: Memory>(alloc: Global, memory: &mut M) -> bool {
+    let long = comes_back(alloc, memory, 0, told(b'c', 114_660));
+    let (number, other) = (
+        memory.set_cell(run_cell(5), 1),
+        memory.set_cell(packet_cell(5), 2),
+    );
+    let put = memory.set_text(packet_cell(0), &[b'p'; 29]) == Ok(Set::Done);
+    let rooms = memory.rooms(Area::Packets) == Ok(4094) && has_rooms(memory, 1);
+    let text = match memory.text(packet_cell(0)) {
+        Ok(found) => found.as_slice() == [b'p'; 29].as_slice(),
+        Err(_) => false,
+    };
+    let numbers = is_number(memory, 5, 1) && memory.cell(packet_cell(5)) == Ok(2);
+    let written = number.is_ok() && other.is_ok() && put;
+    long && written && rooms && text && numbers && has(alloc, memory, 0, told(b'c', 114_660))
 }

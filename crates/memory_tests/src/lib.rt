@@ -6,7 +6,13 @@ mod cells;
 #[cfg(test)]
 mod data_spaces;
 #[cfg(test)]
+mod family;
+#[cfg(test)]
+mod memories;
+#[cfg(test)]
 mod numbers;
+#[cfg(test)]
+mod task;
 #[cfg(test)]
 mod tests;
 #[cfg(test)]

@@ -5,13 +5,14 @@ use Rattle.std.proofs.lemmas.List.{get_or-replicate, get_or_past, length-replica
 use Rattle.page_pool.specs.Pool.{Pages}
 use Rattle.page_table.specs.Frames.{content_at, Stands}
 use Rattle.page_table.proofs.Framing.{nil_agree, stands_of}
+use Rattle.eu_base.specs.declared.address.Area.{Area}
 use Rattle.eu_base.specs.Cells.{Free}
 use Rattle.text_heap.specs.Held.{HoldsCells}
 use Rattle.text_heap.proofs.Kept.{zeros_held}
-use Rattle.space_memory.specs.Memories.{no_space, roots}
+use Rattle.space_memory.specs.Memories.{new_memory, roots}
 
-pub new_stands : Stands [] (roots (record { run = no_space })) 0
-new_stands = stands_of [] (None ∷ []) [] 0 (omega arith) ∣ nil_agree (None ∷ []) (λ p. omega arith) (omega arith) ∣₁
+pub new_stands : Stands [] (roots new_memory) 0
+new_stands = stands_of [] (None ∷ None ∷ []) [] 0 (omega arith) ∣ nil_agree (None ∷ None ∷ []) (λ p. omega arith) (omega arith) ∣₁
 
 -- a space without pages is one of zeros
 zeros : (n i : ℕ) → let zero_byte : ℕ = 0 in get_or (replicate n zero_byte) i zero_byte ≡ zero_byte
@@ -20,5 +21,5 @@ zeros n i = elim (cases_lt i n) [
   | inr past ↦ get_or_past (replicate n 0) i 0 (simp length-replicate past)
 ]
 
-pub nothing_held : (pages : Pages) → HoldsCells (content_at pages None) (λ _. Free)
-nothing_held pages = zeros_held (content_at pages None) (λ n. zeros 512 (n % 512))
+pub nothing_held : (area : Area) (pages : Pages) → HoldsCells area (content_at pages None) (λ _. Free)
+nothing_held area pages = zeros_held area (content_at pages None) (λ n. zeros 512 (n % 512))

@@ -1,1 +1,4 @@
 pub mod Fresh
+pub mod Framed
+pub mod Led
+pub mod Held

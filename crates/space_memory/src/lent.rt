@@ -4,10 +4,10 @@ ghost use Rattle.page_table.specs.Frames.{Stands};
 ghost use Rattle.space_memory.specs.Memories.{roots};
 
 use crate::space_memory::SpaceMemory;
-use eu_base::{Addr, Bytes, MemFault, Memory, Set};
+use eu_base::{Addr, Area, Bytes, MemFault, Memory, Set};
 use page_pool::Pool;
 
-/// The cells of a memory, over its pool.
+/// The cells of a memory, over its pool: each area's in its space.
 #[derive(Drop)]
 pub struct Lent<'a> {
     pub memory: &'a mut SpaceMemory,
@@ -29,22 +29,21 @@ impl SpaceMemory {
 }
 
 impl<'a> Memory for Lent<'a> {
-    ghost use Rattle.page_table.specs.Frames.{content_at};
-    ghost use Rattle.text_heap.specs.Held.{HoldsCells};
-    ghost use Rattle.text_heap.proofs.Kept.{fewer_held, empty_held, room_held};
+    ghost use Rattle.space_memory.specs.Memories.{HoldsAll};
     ghost use Rattle.space_memory.specs.Lent.{LentFollows, lent_reflexive, lent_transitive};
+    ghost use Rattle.space_memory.specs.Laws.{all_fewer, all_empty, all_room};
 
-    ghost holds = { λ lent cells. HoldsCells (content_at lent.pool.now lent.memory.now.run.root) cells };
+    ghost holds = { λ lent cells. HoldsAll lent.pool.now lent.memory.now cells };
 
     ghost faults = { λ _. 0 };
 
     ghost follows = { LentFollows };
 
-    ghost forgets = { λ lent cells fewer. fewer_held (content_at lent.pool.now lent.memory.now.run.root) cells fewer };
+    ghost forgets = { λ lent cells fewer. all_fewer lent.pool.now lent.memory.now cells fewer };
 
-    ghost empty = { λ lent cells at. empty_held (content_at lent.pool.now lent.memory.now.run.root) cells at };
+    ghost empty = { λ lent cells at. all_empty lent.pool.now lent.memory.now cells at };
 
-    ghost room = { λ lent cells. room_held (content_at lent.pool.now lent.memory.now.run.root) cells };
+    ghost room = { λ lent area cells. all_room lent.pool.now lent.memory.now area cells };
 
     ghost reflexive = { lent_reflexive };
 
@@ -52,28 +51,38 @@ impl<'a> Memory for Lent<'a> {
 
     #[inline(always)]
     fn cell(&mut self, at: Addr) -> Result<u64, MemFault> {
-        let number = self.memory.run_cell(self.pool, at.cell)?;
-        Ok(number)
+        match at.area {
+            Area::Run => self.memory.run_cell(self.pool, at.cell),
+            Area::Packets => self.memory.packet_cell(self.pool, at.cell),
+        }
     }
 
     #[inline(always)]
     fn set_cell(&mut self, at: Addr, number: u64) -> Result<(), MemFault> {
-        self.memory.set_run_cell(self.pool, at.cell, number)?;
-        Ok(())
+        match at.area {
+            Area::Run => self.memory.set_run_cell(self.pool, at.cell, number),
+            Area::Packets => self.memory.set_packet_cell(self.pool, at.cell, number),
+        }
     }
 
     fn text(&mut self, at: Addr) -> Result<Bytes, MemFault> {
-        let text = self.memory.run_text(self.pool, at.cell)?;
-        Ok(text)
+        match at.area {
+            Area::Run => self.memory.run_text(self.pool, at.cell),
+            Area::Packets => self.memory.packet_text(self.pool, at.cell),
+        }
     }
 
     fn set_text(&mut self, at: Addr, t: &[u8]) -> Result<Set, MemFault> {
-        let set = self.memory.set_run_text(self.pool, at.cell, t)?;
-        Ok(set)
+        match at.area {
+            Area::Run => self.memory.set_run_text(self.pool, at.cell, t),
+            Area::Packets => self.memory.set_packet_text(self.pool, at.cell, t),
+        }
     }
 
-    fn rooms(&mut self) -> Result<u32, MemFault> {
-        let rooms = self.memory.run_rooms(self.pool)?;
-        Ok(u32::from(rooms))
+    fn rooms(&mut self, area: Area) -> Result<u32, MemFault> {
+        match area {
+            Area::Run => Ok(u32::from(self.memory.run_rooms(self.pool)?)),
+            Area::Packets => Ok(u32::from(self.memory.packet_rooms(self.pool)?)),
+        }
     }
 }

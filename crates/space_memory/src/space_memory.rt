@@ -1,21 +1,21 @@
 //! What a task has in its memory.
-ghost use Rattle.std.specs.Prelude.{◌≡◌, ◌≢◌, ◌+◌, ◌<◌, ◌≤◌, [], Err, IfOk, OnOk, IsSome, Some};
-ghost use Rattle.eu_base.specs.declared.cells.MemFault.TheVariants.{NoMemory, Failed};
-ghost use Rattle.eu_base.specs.Spaces.{IsKept};
+ghost use Rattle.std.specs.Prelude.{◌≡◌, ◌+◌, ◌≤◌, ◌++◌, [], IfOk, OnErr};
 ghost use Rattle.eu_base.specs.Cells.{Free};
 ghost use Rattle.page_pool.specs.Pool.{Pages, used_of};
-ghost use Rattle.page_table.specs.Changes.{FreesOnly};
+ghost use Rattle.page_table.specs.Changes.{ChangesOnly, FreesOnly};
 ghost use Rattle.page_table.specs.Frames.{content_at, Frames, Stands};
 ghost use Rattle.page_table.specs.Sharing.{Agree};
-ghost use Rattle.cell_layout.specs.Layout.{cell_in, HoldsIn, IsKeptBut};
-ghost use Rattle.text_heap.specs.Texts.{Texts, Holds, Sets, KeepsCells, blocks_in};
 ghost use Rattle.text_heap.specs.Held.{HoldsCells};
-ghost use Rattle.space_memory.specs.Memories.{no_space, roots};
+ghost use Rattle.live_spaces.specs.Kept.{KeepsBytes};
+ghost use Rattle.live_spaces.specs.Live.{no_space};
+ghost use Rattle.space_memory.specs.Memories.{new_memory, heir, roots, HoldsAll};
+ghost use Rattle.eu_base.specs.declared.address.Area.TheVariants.{Run};
 
-use cell_layout::{get, put};
 use data_space::DataSpace;
-use eu_base::{Bytes, CELLS, MemFault, Set};
+use eu_base::NoMemory;
+use live_spaces::Spaces;
 use page_pool::Pool;
+use space_names::Names;
 use std::alloc::Global;
 use std::marker::Model;
 use std::mem;
@@ -24,12 +24,17 @@ use std::mem;
 #[derive(Drop)]
 pub struct SpaceMemory {
     // The variables of the command that runs.
-    run: DataSpace,
-    alloc: Global,
+    pub(crate) run: DataSpace,
+    // The variables of packets.
+    pub(crate) packets: DataSpace,
+    pub(crate) spaces: Spaces,
+    // The directory: names of live spaces.
+    pub(crate) names: Names,
+    pub(crate) alloc: Global,
 }
 
 impl Model for SpaceMemory {
-    ghost use Rattle.space_memory.specs.Memories.{MemoryData};
+    ghost use Rattle.space_memory.specs.Memories.{MemoryData, LeadToSpaces};
 
     ghost Value = { MemoryData };
 
@@ -38,17 +43,22 @@ impl Model for SpaceMemory {
 
     ghost coded = { Prim.hlevel (codes, shapes.the_row.coded) };
 
-    ghost view = { λ memory. record { run = memory.run } };
+    ghost view = { λ memory. record { run = memory.run; packets = memory.packets; spaces = memory.spaces.spaces; last = memory.spaces.last; names = memory.names } };
+
+    ghost invariant = { λ memory. LeadToSpaces memory.names memory.spaces.spaces };
 }
 
 impl SpaceMemory {
     /// A memory whose spaces are empty: over any pool no number and no text is known, and all blocks are free.
     pub fn new(alloc: Global) -> SpaceMemory
-        ensures empty { result ≡ record { run = no_space } }
-        ensures nothing { (pages : Pages) → HoldsCells (content_at pages result.run.root) (λ _. Free) }
+        ensures empty { result ≡ new_memory }
+        ensures nothing { (pages : Pages) → HoldsAll pages result (λ _. Free) }
     {
         SpaceMemory {
             run: DataSpace::nil(),
+            packets: DataSpace::nil(),
+            spaces: Spaces::new(alloc, 0),
+            names: Names::new(alloc),
             alloc,
         }
     }
@@ -60,18 +70,47 @@ impl SpaceMemory {
         &self.run
     }
 
+    /// The space of the packets' variables.
+    pub fn packet_space(&self) -> &DataSpace
+        ensures { result.now ≡ self.now.packets }
+    {
+        &self.packets
+    }
+
     /// Empties the space of the command that runs, so that nothing is known of it and all its blocks are free, and frees the
     /// pages that no other space has.
     pub fn clear_run(&mut self, pool: &mut Pool)
         requires agree { Stands pool.old (roots self.old) 0 }
         ensures cleared { self.new ≡ record self.old { run = no_space } }
-        ensures nothing { HoldsCells (content_at pool.new self.new.run.root) (λ _. Free) }
+        ensures nothing { HoldsCells Run (content_at pool.new self.new.run.root) (λ _. Free) }
         ensures frames { Frames pool.old pool.new (roots self.old) (roots self.new) }
+        ensures keeps { KeepsBytes pool.old pool.new (roots self.new) }
         ensures frees { FreesOnly pool.old pool.new }
         ensures used { used_of pool.new ≤ used_of pool.old }
     {
         let run = mem::replace(&mut self.run, DataSpace::nil());
         run.forget(pool);
+    }
+
+    /// The memory of a son: the variables of packets are equal, and all else is as in a new memory, but that no number of the
+    /// father is given again. Pages are shared, and no write of the one is seen by the other. A refusal changes nothing.
+    pub fn inherit(&self, pool: &mut Pool) -> Result<SpaceMemory, NoMemory>
+        requires agree { Stands pool.old (roots self.now) 2 }
+        ensures son { IfOk result (λ son. son ≡ heir self.now) }
+        ensures frames { IfOk result (λ son. Frames pool.old pool.new (roots self.now) (roots self.now ++ roots son)) }
+        ensures keeps { KeepsBytes pool.old pool.new (roots self.now) }
+        ensures changes { ChangesOnly pool.old pool.new [] }
+        ensures used { used_of pool.new ≤ used_of pool.old + 1 }
+        ensures err { OnErr result (pool.new ≡ pool.old) }
+    {
+        let packets = self.packets.copy(self.alloc, pool)?;
+        Ok(SpaceMemory {
+            run: DataSpace::nil(),
+            packets,
+            spaces: Spaces::new(self.alloc, self.spaces.last_number()),
+            names: Names::new(self.alloc),
+            alloc: self.alloc,
+        })
     }
 
     /// Lets all spaces go.
@@ -82,88 +121,14 @@ impl SpaceMemory {
         ensures used { used_of pool.new ≤ used_of pool.old }
         ensures last { Agree pool.old (roots self) → used_of pool.new ≡ 0 }
     {
-        let SpaceMemory { run, .. } = self;
+        let SpaceMemory {
+            run,
+            packets,
+            spaces,
+            ..
+        } = self;
+        spaces.end(pool);
+        packets.forget(pool);
         run.forget(pool);
-    }
-
-    // The number in a cell of the command that runs.
-    #[inline(always)]
-    pub(crate) fn run_cell(&mut self, pool: &mut Pool, cell: u16) -> Result<u64, MemFault>
-        requires cell { cell < CELLS }
-        requires agree { Stands pool.old (roots self.old) 0 }
-        ensures number { IfOk result (λ number. number ≡ cell_in (content_at pool.old self.old.run.root) cell) }
-        ensures same { OnOk result (IsKept (content_at pool.old self.old.run.root) (content_at pool.new self.new.run.root)) }
-        ensures frames { Frames pool.old pool.new (roots self.old) (roots self.new) }
-        ensures memory { result ≢ Err NoMemory }
-        ensures cause { result ≢ Err Failed }
-    {
-        let mut run = self.run.over(pool);
-        get(&mut run, cell)
-    }
-
-    // Puts a number into a cell of the command that runs.
-    #[inline(always)]
-    pub(crate) fn set_run_cell(
-        &mut self,
-        pool: &mut Pool,
-        cell: u16,
-        number: u64,
-    ) -> Result<(), MemFault>
-        requires cell { cell < CELLS }
-        requires agree { Stands pool.old (roots self.old) 0 }
-        ensures holds { OnOk result (HoldsIn (content_at pool.old self.old.run.root) (content_at pool.new self.new.run.root) cell number) }
-        ensures kept { OnOk result (IsKeptBut (content_at pool.old self.old.run.root) (content_at pool.new self.new.run.root) cell 1) }
-        ensures frames { Frames pool.old pool.new (roots self.old) (roots self.new) }
-        ensures cause { result ≢ Err Failed }
-    {
-        let mut run = self.run.over(pool);
-        put(&mut run, cell, number)
-    }
-
-    // The text in a cell of the command that runs.
-    pub(crate) fn run_text(&mut self, pool: &mut Pool, cell: u16) -> Result<Bytes, MemFault>
-        requires cell { cell < CELLS }
-        requires agree { Stands pool.old (roots self.old) 0 }
-        ensures text { IfOk result (λ text. (texts : Texts) → Holds (content_at pool.old self.old.run.root) texts → IsSome (texts cell) →
-            texts cell ≡ Some text) }
-        ensures same { OnOk result (IsKept (content_at pool.old self.old.run.root) (content_at pool.new self.new.run.root)) }
-        ensures frames { Frames pool.old pool.new (roots self.old) (roots self.new) }
-        ensures cause { result ≢ Err Failed }
-    {
-        let alloc = self.alloc;
-        let mut run = self.run.over(pool);
-        text_heap::get(alloc, &mut run, cell)
-    }
-
-    // Puts a text into a cell of the command that runs, where all its texts then have room.
-    pub(crate) fn set_run_text(
-        &mut self,
-        pool: &mut Pool,
-        cell: u16,
-        t: &[u8],
-    ) -> Result<Set, MemFault>
-        requires cell { cell < CELLS }
-        requires agree { Stands pool.old (roots self.old) 0 }
-        ensures sets { IfOk result (λ set. (texts : Texts) → Holds (content_at pool.old self.old.run.root) texts → IsSome (texts cell) →
-            Sets (content_at pool.old self.old.run.root) (content_at pool.new self.new.run.root) texts cell t.now set) }
-        ensures cells { OnOk result (KeepsCells (content_at pool.old self.old.run.root) (content_at pool.new self.new.run.root) cell) }
-        ensures frames { Frames pool.old pool.new (roots self.old) (roots self.new) }
-        ensures cause { result ≢ Err Failed }
-    {
-        let mut run = self.run.over(pool);
-        text_heap::set(&mut run, cell, t)
-    }
-
-    // How many blocks no text of the command that runs has.
-    pub(crate) fn run_rooms(&mut self, pool: &mut Pool) -> Result<u16, MemFault>
-        requires agree { Stands pool.old (roots self.old) 0 }
-        ensures rooms { IfOk result (λ rooms. (texts : Texts) → Holds (content_at pool.old self.old.run.root) texts → rooms + blocks_in texts ≡ 4096) }
-        ensures same { OnOk result (IsKept (content_at pool.old self.old.run.root) (content_at pool.new self.new.run.root)) }
-        ensures frames { Frames pool.old pool.new (roots self.old) (roots self.new) }
-        ensures memory { result ≢ Err NoMemory }
-        ensures cause { result ≢ Err Failed }
-    {
-        let mut run = self.run.over(pool);
-        text_heap::rooms(&mut run)
     }
 }

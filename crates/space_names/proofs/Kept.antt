@@ -1,5 +1,5 @@
 -- What the map's words say of the directory.
-use Rattle.std.proofs.Common.{◌≡◌, ℕ, Bool, true, false, cond, List, [], ◌∷◌, ◌++◌, None, Some, refl, ap, ◌∙◌}
+use Rattle.std.proofs.Common.{◌≡◌, ℕ, Bool, true, false, cond, List, [], ◌∷◌, ◌++◌, None, Some, refl, ap, ◌∙◌, not, nat_eq, filter}
 use Rattle.std.specs.Str.{bytes_eq}
 use Rattle.indexmap.specs.IndexMap.{IndexMap, insert_entry}
 use Rattle.indexmap.proofs.CallerLemmas.{insert_entry-new}
@@ -36,3 +36,14 @@ module _ {Z : Type 0} where
   pub put_new : {S : Type 0} (m : IndexMap (Vec ℕ Z) SpaceNo S) (k : Vec ℕ Z) (s : SpaceNo) → spec.get k.items (directory_of m.entries) ≡ None
       → directory_of (insert_entry same m.entries k s) ≡ spec.put k.items s (directory_of m.entries)
   put_new m k s free = ap directory_of (insert_entry-new same m k s (lookup_kept k.items m.entries ∙ free)) ∙ put_kept m.entries k s
+
+  kept_or_not : (b : Bool) (e : Vec ℕ Z × SpaceNo) (rest : List (Vec ℕ Z × SpaceNo))
+      → directory_of (cond b (e ∷ rest) rest) ≡ cond b ((e.0.items, e.1) ∷ directory_of rest) (directory_of rest)
+  kept_or_not true e rest = refl
+  kept_or_not false e rest = refl
+
+  pub forget_kept : (n : ℕ) (es : List (Vec ℕ Z × SpaceNo)) → directory_of (filter (λ e. not (nat_eq n e.1.0)) es) ≡ spec.without_space n (directory_of es)
+  forget_kept n [] = refl
+  forget_kept n (e ∷ es) =
+      kept_or_not (not (nat_eq n e.1.0)) e _
+      ∙ ap (λ rest. cond (not (nat_eq n e.1.0)) ((e.0.items, e.1) ∷ rest) rest) (forget_kept n es)

@@ -62,6 +62,13 @@ impl Names {
         self.spaces.shift_remove(name)
     }
 
+    /// Takes all names of a space out; the others keep their order. It takes no memory.
+    pub fn forget(&mut self, space: SpaceNo)
+        ensures { self.new ≡ spec.without_space space.0 self.old }
+    {
+        self.spaces.retain(|_, other| other.0 != space.0);
+    }
+
     /// The pair with this number in order of entry, from 0; `None` exactly past the last.
     pub fn entry(&self, k: u32) -> Option<(&[u8], SpaceNo)>
         ensures pair { option_map (λ entry. (entry.0.now, entry.1)) result ≡ slice_get self.now k }

@@ -1,7 +1,11 @@
-use Rattle.std.proofs.Common.{sym, subst}
-use Rattle.page_table.specs.Frames.{Stands}
-use Rattle.space_memory.specs.Memories.{MemoryData, roots}
+use Rattle.space_memory.proofs.Framed.{command_stands, command_frames, only_run}
 use Rattle.space_memory.proofs.space_memory.SpaceMemory.set_run_text.Goals as goal
 
-pub over-run-requires : goal.over-run-requires
-over-run-requires c = record { agree = subst (λ (memory : MemoryData). Stands c.args.pool.now (roots memory) 0) (sym c.self.view_is) c.requires.agree }
+pub set_text-requires-clause-agree : goal.set_text-requires-clause-agree
+set_text-requires-clause-agree c = command_stands _ _ c.self.view_is _ 0 c.requires.agree
+
+pub returns-clause-rest : goal.returns-clause-rest
+returns-clause-rest c = only_run _ _ c.self.view_is _ _ c.set_text.new.space c.set_text.ensures.kind c.set_text.ensures.frames c.requires.agree
+
+pub returns-clause-frames : goal.returns-clause-frames
+returns-clause-frames c = command_frames _ _ c.self.view_is _ _ c.set_text.new.space c.set_text.ensures.frames

@@ -1,0 +1,39 @@
+use Rattle.std.proofs.Common.{List, ℕ, ◌≤◌, length, sym, subst, arith}
+use Rattle.page_table.specs.Frames.{Stands, Frames}
+use Rattle.page_table.proofs.Framing.{frames_none, frames_then, stands_after}
+use Rattle.data_space.specs.Data.{SpaceData}
+use Rattle.live_spaces.specs.Live.{LiveData, space_roots}
+use Rattle.live_spaces.proofs.Roots.{last_stands, last_frames, last_fewer, frees_none, frees_then, none_left}
+use Rattle.live_spaces.proofs.live.Spaces.end.Goals as goal
+
+pub loop-space-init : goal.loop-space-init
+loop-space-init c = record {
+  stands = subst (λ (live : LiveData). Stands c.args.pool.now (space_roots live.spaces) 0) (sym c.self.view_is) c.requires.agree;
+  frames = subst (λ (live : LiveData). Frames c.args.pool.now c.args.pool.now (space_roots live.spaces) (space_roots c.self.inside.spaces.entries)) c.self.view_is
+      (frames_none _ _);
+  fewer = subst (λ (live : LiveData). length (space_roots c.self.inside.spaces.entries) ≤ length (space_roots live.spaces)) c.self.view_is (omega arith);
+  frees = frees_none _;
+  used = omega arith;
+}
+
+pub forget-requires : goal.forget-requires
+forget-requires c = record { agree = last_stands _ _ _ _ c.in-Some.ensures.entries _ c.loop-space.invariant.stands }
+
+pub loop-space-preserved : goal.loop-space-preserved
+loop-space-preserved c =
+    let frames = last_frames _ _ _ _ c.in-Some.ensures.entries _ _ c.forget.ensures.frames in
+    let inv = c.loop-space.invariant in
+    let fewer = last_fewer _ _ _ _ c.in-Some.ensures.entries in
+    record {
+      stands = stands_after _ _ _ _ 0 0 (omega (arith, fewer)) frames inv.stands;
+      frames = frames_then _ _ _ _ _ _ (omega (arith, inv.fewer)) inv.frames frames;
+      fewer = omega (arith, inv.fewer, fewer);
+      frees = frees_then _ _ _ inv.frees c.forget.ensures.frees;
+      used = omega (arith, inv.used, c.forget.ensures.used);
+    }
+
+pub returns-clause-frames : goal.returns-clause-frames
+returns-clause-frames c =
+    let none = none_left c.loop-space.spaces.entries c.in_default.ensures.found.1 in
+    subst (λ (es : List (ℕ × SpaceData)). Frames c.args.pool.now c.loop-space.pool (space_roots c.args.self.spaces) (space_roots es)) none
+    c.loop-space.invariant.frames
