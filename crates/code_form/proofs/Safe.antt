@@ -26,7 +26,7 @@ use Rattle.eu_base.specs.declared.request.Request.{Request}
 use Rattle.eu_base.specs.declared.request.Reply.{Reply}
 use Rattle.eu_base.specs.declared.request.Reply.TheVariants as replies
 use Rattle.eu_base.specs.Requests.{request_kinds, request_places, request_size, request_of, reply_text, read_as}
-use Rattle.eu_base.specs.Cells.{Cell, Free, Word, Letters, Cells, held_of, IsCell, run_cell, place_number, place_in, written, cell_blocks, blocks_in, freed}
+use Rattle.eu_base.specs.Cells.{Cell, Free, Word, Letters, Cells, held_of, IsCell, run_cell, packet_cell, place_in, written, cell_blocks, area_blocks, blocks_in, freed}
 use Rattle.code_form.specs.declared.operand.Operand.{Operand}
 use Rattle.code_form.specs.declared.operand.Operand.TheVariants.{Value as Of, Place as At, Aggregate}
 use Rattle.code_form.specs.declared.operand.OperandKind.{OperandKind}
@@ -34,7 +34,7 @@ use Rattle.code_form.specs.declared.operand.OperandKind.TheVariants.{Value as Of
 use Rattle.code_form.specs.declared.waits.Waits.{Waits}
 use Rattle.code_form.specs.declared.waits.Waits.TheVariants.{Nothing, Asked, Given, Refused}
 use Rattle.code_form.specs.declared.instr.Instr.{Instr}
-use Rattle.code_form.specs.declared.instr.Instr.TheVariants.{Mark, Number, Truth, Text, Outer, Local, Param, Index, Field, Pick, Take, Load, Store, Do, Modify, Jump, False}
+use Rattle.code_form.specs.declared.instr.Instr.TheVariants.{Mark, Number, Truth, Text, Outer, Packet, Local, Param, Index, Field, Pick, Take, Load, Store, Do, Modify, Jump, False}
 use Rattle.code_form.specs.declared.instr.Instr.TheVariants.{When, Drop, Limit, Unlimit, Step, Ask, ErrorStop, Call, Refer, Back, Out, End}
 use Rattle.code_form.specs.declared.code.Line.{Line}
 use Rattle.code_form.specs.declared.code.Spot.{Spot}
@@ -412,7 +412,7 @@ module _ (p : Program) (valid : IsValid p) (pc : ℕ) (ops : List Operand) (used
     further_safe : (a : Addr) (n : ℕ) (k : Shape) (r : List Operand) (ks : List OperandKind) → Next p.lines (pc + 1) (AtKind k ∷ ks) m → FitsKinds r ks
         → Safe (pushes now (At (further a n)) r cells)
     further_safe a n k r ks next f =
-        let small : (place_number a + n) % CELLS < CELLS = omega arith in
+        let small : (a.cell + n) % CELLS < CELLS = omega arith in
         push_safe (At (further a n)) (AtKind k) r ks small next f
 
     -- so many cells of a value are pushed in its stead
@@ -630,14 +630,15 @@ module _ (p : Program) (valid : IsValid p) (pc : ℕ) (ops : List Operand) (used
     put_safe a v ks r next g =
         let now' = written cells a (held_of v) in
         cond_safe (takes (held_of v) (cells a)) _ _
-        (λ _. cond_safe (texts_fit (cell_blocks (held_of v)) (blocks_in now')) (goes now r now') (Halts TextRoom) (λ _. fit (pc + 1) ks r next g) tt) tt
+        (λ _.
+        cond_safe (texts_fit (cell_blocks (held_of v)) (area_blocks a.area now')) (goes now r now') (Halts TextRoom) (λ _. fit (pc + 1) ks r next g) tt) tt
 
     put_all_safe : (a : Addr) (vs : List Value) (ks : List OperandKind) (r : List Operand) → Next p.lines (pc + 1) ks m → Has r ks
         → Safe (puts_all now a vs r cells)
     put_all_safe a vs ks r next g =
         let now' = written_all cells a vs in
         cond_safe (takes_all vs a cells) _ _
-        (λ _. cond_safe (texts_fit (values_blocks vs) (blocks_in now')) (goes now r now') (Halts TextRoom) (λ _. fit (pc + 1) ks r next g) tt) tt
+        (λ _. cond_safe (texts_fit (values_blocks vs) (area_blocks a.area now')) (goes now r now') (Halts TextRoom) (λ _. fit (pc + 1) ks r next g) tt) tt
 
     -- the variable of a request gets a value
     keep_safe : (ks : List Kind) (os : List Operand) (v : Value) (rest : List OperandKind) (r : List Operand) → FitsKinds os (map cell_place ks ++ [])
@@ -665,6 +666,8 @@ module _ (p : Program) (valid : IsValid p) (pc : ℕ) (ops : List Operand) (used
     safe (Truth b) ks line f k = push_safe (Of (item.Truth b)) (cell_value kinds.Truth) ops ks (as_one (item.Truth b) kinds.Truth refl) f k.0
     safe (Text t) ks line f k = push_safe (Of (item.Text t)) (cell_value kinds.Text) ops ks (as_one (item.Text t) kinds.Text refl) f k.0
     safe (Outer x) ks line f k = push_safe (At (run_cell x)) (AtKind f.2.0) ops ks (outer_cell x f.0 f.1) f.2.1 k.0
+    safe (Packet x) ks line f k =
+        let small : x % CELLS < CELLS = omega arith in push_safe (At (packet_cell (x % CELLS))) (AtKind f.2.0) ops ks small f.2.1 k.0
     safe (Local x) ks line f k = push_safe (At (run_cell (base_of frames + x))) (AtKind f.2.0) ops ks (local_cell x (HoldsValue f.0) f.1) f.2.1 k.0
     safe (Param x) ks line f k =
         word_safe (cells (run_cell (base_of frames + x))) _ (λ n.

@@ -1,5 +1,5 @@
 -- Each step brings the end nearer.
-use Rattle.std.proofs.Common.{◌++◌, ◌≡◌, ℕ, zero, suc, ◌+◌, ◌-◌, ◌*◌, ◌<◌, ◌≤◌, List, [], ◌∷◌, length, Option, Some, None, Bool, true, false, cond, refl, sym}
+use Rattle.std.proofs.Common.{◌++◌, ◌≡◌, ℕ, zero, suc, ◌+◌, ◌-◌, ◌*◌, ◌%◌, ◌<◌, ◌≤◌, List, [], ◌∷◌, length, Option, Some, None, Bool, true, false, cond, refl, sym}
 use Rattle.std.proofs.Common.{ap}
 use Rattle.std.proofs.Common.{◌∙◌, subst, arith, ⊎_elim}
 use Rattle.std.specs.Prelude.{slice_get, take, drop, Ok, Err}
@@ -7,10 +7,11 @@ use Rattle.std.specs.Ordering.{int_eq}
 use Rattle.std.proofs.lemmas.Option.{slice_get_within}
 use Rattle.std.proofs.lemmas.Bool.{cases_lt}
 use Rattle.eu_base.specs.declared.address.Addr.{Addr}
+use Rattle.eu_base.specs.declared.address.TheConstants.{CELLS}
 use Rattle.eu_base.specs.declared.value.Kind.{Kind}
 use Rattle.eu_base.specs.declared.stop.Stop.TheVariants.{CellRoom, TextRoom}
 use Rattle.eu_base.specs.declared.value.Kind.TheVariants as kinds
-use Rattle.eu_base.specs.Cells.{Cell, Free, Word, Letters, run_cell, place_in, held_of, written, cell_blocks, blocks_in, freed}
+use Rattle.eu_base.specs.Cells.{Cell, Free, Word, Letters, run_cell, packet_cell, place_in, held_of, written, cell_blocks, area_blocks, blocks_in, freed}
 use Rattle.eu_base.specs.declared.shape.Shape.{Shape}
 use Rattle.eu_base.specs.Shapes.{cell_kinds}
 use Rattle.eu_base.specs.Room.{values_blocks, cells_fit, bytes_fit, texts_fit}
@@ -23,7 +24,7 @@ use Rattle.eu_base.specs.Requests.{request_kinds, request_size, reply_text, read
 use Rattle.code_form.specs.declared.operand.Operand.{Operand}
 use Rattle.code_form.specs.declared.operand.Operand.TheVariants.{Value as Of, Place as At, Aggregate}
 use Rattle.code_form.specs.declared.instr.Instr.{Instr}
-use Rattle.code_form.specs.declared.instr.Instr.TheVariants.{Mark, Number, Truth, Text, Outer, Local, Param, Index, Field, Pick, Take, Load, Store, Do, Modify, Jump, False}
+use Rattle.code_form.specs.declared.instr.Instr.TheVariants.{Mark, Number, Truth, Text, Outer, Packet, Local, Param, Index, Field, Pick, Take, Load, Store, Do, Modify, Jump, False}
 use Rattle.code_form.specs.declared.instr.Instr.TheVariants.{When, Drop, Limit, Unlimit, Step, Ask, ErrorStop, Call, Refer, Back, Out, End}
 use Rattle.code_form.specs.declared.code.Line.{Line}
 use Rattle.code_form.specs.declared.code.Entry.{Entry}
@@ -250,14 +251,14 @@ module _ (p : Program) (valid : IsValid p) where
     put_near l e is a v ops =
         let now = written s.cells a (held_of v) in
         near_if (takes (held_of v) (s.cells a)) _ _
-        (near_if (texts_fit (cell_blocks (held_of v)) (blocks_in now)) (goes c ops now) (Halts TextRoom) (go (c.pc + 1) (on_next c.pc l e is)) tt) tt
+        (near_if (texts_fit (cell_blocks (held_of v)) (area_blocks a.area now)) (goes c ops now) (Halts TextRoom) (go (c.pc + 1) (on_next c.pc l e is)) tt) tt
 
     put_all_near : (l : Line) → slice_get p.lines c.pc ≡ Some l → is_mark (Some l.instr) ≡ false → (a : Addr) (vs : List Value) (ops : List Operand)
         → Near (puts_all c a vs ops s.cells)
     put_all_near l e is a vs ops =
         let now = written_all s.cells a vs in
         near_if (takes_all vs a s.cells) _ _
-        (near_if (texts_fit (values_blocks vs) (blocks_in now)) (goes c ops now) (Halts TextRoom) (go (c.pc + 1) (on_next c.pc l e is)) tt) tt
+        (near_if (texts_fit (values_blocks vs) (area_blocks a.area now)) (goes c ops now) (Halts TextRoom) (go (c.pc + 1) (on_next c.pc l e is)) tt) tt
 
     near_or : (f : Value → Move) → ((v : Value) → Near (f v)) → (g : Given) → Near (or_halt g f)
     near_or f h (Ok v) = h v
@@ -270,6 +271,7 @@ module _ (p : Program) (valid : IsValid p) where
     at_instr l e (Truth b) is f = push_near l e (ap (λ i. is_mark (Some i)) is) (Of (item.Truth b)) c.ops
     at_instr l e (Text t) is f = push_near l e (ap (λ i. is_mark (Some i)) is) (Of (item.Text t)) c.ops
     at_instr l e (Outer x) is f = push_near l e (ap (λ i. is_mark (Some i)) is) (At (run_cell x)) c.ops
+    at_instr l e (Packet x) is f = push_near l e (ap (λ i. is_mark (Some i)) is) (At (packet_cell (x % CELLS))) c.ops
     at_instr l e (Local x) is f = push_near l e (ap (λ i. is_mark (Some i)) is) (At (run_cell (base_of c.frames + x))) c.ops
     at_instr l e (Param x) is f =
         near_word _ (λ n. push_near l e (ap (λ i. is_mark (Some i)) is) (At (place_in n)) c.ops) (s.cells (run_cell (base_of c.frames + x)))

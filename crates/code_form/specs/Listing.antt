@@ -1,5 +1,5 @@
 -- The listing of code: a line for each instruction.
-use Rattle.std.specs.Prelude.{ℕ, suc, Bool, true, false, List, [], ◌∷◌, ◌++◌, flat_map, length, codes, Option, Some, None, slice_get}
+use Rattle.std.specs.Prelude.{ℕ, suc, ◌-◌, nat_lt, if◌then◌else◌, Bool, true, false, List, [], ◌∷◌, ◌++◌, flat_map, length, codes, Option, Some, None, slice_get}
 use Rattle.std.specs.Fmt.{decimal, signed_decimal}
 use Rattle.eu_base.specs.declared.value.Kind.{Kind}
 use Rattle.eu_base.specs.declared.value.Kind.TheVariants as kinds
@@ -18,10 +18,11 @@ use Rattle.eu_base.specs.declared.operation.Way.TheVariants as ways
 use Rattle.eu_base.specs.declared.request.RequestName.{RequestName}
 use Rattle.eu_base.specs.declared.request.RequestName.TheVariants as requests
 use Rattle.code_form.specs.declared.instr.Instr.{Instr}
-use Rattle.code_form.specs.declared.instr.Instr.TheVariants.{Mark, Number, Truth, Text, Outer, Local, Param, Index, Field, Pick, Take, Load, Store, Do, Modify, Jump, False}
+use Rattle.code_form.specs.declared.instr.Instr.TheVariants.{Mark, Number, Truth, Text, Outer, Packet as InPackets, Local, Param, Index, Field, Pick, Take, Load, Store, Do, Modify, Jump, False}
 use Rattle.code_form.specs.declared.instr.Instr.TheVariants.{When, Drop, Limit, Unlimit, Step, Ask, ErrorStop, Call, Refer, Back, Out, End}
 use Rattle.code_form.specs.declared.code.Line.{Line}
 use Rattle.code_form.specs.declared.code.Entry.{Entry}
+use Rattle.cell_kinds.specs.declared.packet.Packet.{Packet}
 use Rattle.code_form.specs.Program.{Program, layout_of, cells_at}
 
 abbrev pub truth_word : Bool → List ℕ
@@ -117,50 +118,59 @@ first_of (Some e) = e.first
 abbrev pub cells_of_frame : Option Entry → ℕ
 cells_of_frame e = length (cells_at (layout_of e))
 
+-- the number of the packet that has a cell, and the cell's number there. Behind those of the task stands the one that is inserted, by 0
+abbrev pub cell_in_packet : List Packet → ℕ → ℕ × ℕ
+cell_in_packet [] k = (0, k)
+cell_in_packet (p ∷ ps) k = if nat_lt k (length p.variables) then (p.number, k) else cell_in_packet ps (k - length p.variables)
+
+abbrev pub packet_text : ℕ × ℕ → List ℕ
+packet_text at = decimal at.0 ++ codes " " ++ decimal at.1
+
 -- the word of an instruction, and each argument after a blank. A text is told by its number, since so many stand before it
-abbrev pub instr_text : List Entry → ℕ → Instr → List ℕ
-instr_text bodies texts Mark = codes "MARK"
-instr_text bodies texts (Number z) = codes "INT " ++ signed_decimal z
-instr_text bodies texts (Truth b) = codes "BOOL " ++ truth_word b
-instr_text bodies texts (Text t) = codes "TEXT " ++ decimal texts
-instr_text bodies texts (Outer k) = codes "OUTER " ++ decimal k
-instr_text bodies texts (Local k) = codes "LOCAL " ++ decimal k
-instr_text bodies texts (Param k) = codes "PARAM " ++ decimal k
-instr_text bodies texts (Index n c) = codes "INDEX " ++ decimal n ++ codes " " ++ decimal c
-instr_text bodies texts (Field c) = codes "FIELD " ++ decimal c
-instr_text bodies texts (Pick n c) = codes "PICK " ++ decimal n ++ codes " " ++ decimal c
-instr_text bodies texts (Take m c k) = codes "TAKE " ++ decimal m ++ codes " " ++ decimal c ++ codes " " ++ decimal k
-instr_text bodies texts (Load s) = codes "LOAD " ++ shape_text s
-instr_text bodies texts (Store s) = codes "STORE " ++ shape_text s
-instr_text bodies texts (Do op) = codes "DO " ++ operation_name op
-instr_text bodies texts (Modify change) = codes "DO " ++ change_name change
-instr_text bodies texts (Jump a) = codes "JUMP " ++ decimal a
-instr_text bodies texts (False a) = codes "FALSE " ++ decimal a
-instr_text bodies texts (When z a) = codes "WHEN " ++ signed_decimal z ++ codes " " ++ decimal a
-instr_text bodies texts Drop = codes "DROP"
-instr_text bodies texts (Limit way a) = codes "LIMIT " ++ way_word way ++ codes " " ++ decimal a
-instr_text bodies texts Unlimit = codes "UNLIMIT"
-instr_text bodies texts (Step way a) = way_word way ++ codes " " ++ decimal a
-instr_text bodies texts (Ask name) = codes "ASK " ++ request_name name
-instr_text bodies texts ErrorStop = codes "DO errorstop"
-instr_text bodies texts (Call n) = codes "CALL " ++ decimal (first_of (slice_get bodies n)) ++ codes " " ++ decimal (cells_of_frame (slice_get bodies n))
-instr_text bodies texts (Refer n) = codes "REFER " ++ decimal (first_of (slice_get bodies n))
-instr_text bodies texts (Back s) = codes "BACK"
-instr_text bodies texts (Out s) = codes "OUT"
-instr_text bodies texts End = codes "END"
+abbrev pub instr_text : List Packet → List Entry → ℕ → Instr → List ℕ
+instr_text packets bodies texts Mark = codes "MARK"
+instr_text packets bodies texts (Number z) = codes "INT " ++ signed_decimal z
+instr_text packets bodies texts (Truth b) = codes "BOOL " ++ truth_word b
+instr_text packets bodies texts (Text t) = codes "TEXT " ++ decimal texts
+instr_text packets bodies texts (Outer k) = codes "OUTER " ++ decimal k
+instr_text packets bodies texts (InPackets k) = codes "PACK " ++ packet_text (cell_in_packet packets k)
+instr_text packets bodies texts (Local k) = codes "LOCAL " ++ decimal k
+instr_text packets bodies texts (Param k) = codes "PARAM " ++ decimal k
+instr_text packets bodies texts (Index n c) = codes "INDEX " ++ decimal n ++ codes " " ++ decimal c
+instr_text packets bodies texts (Field c) = codes "FIELD " ++ decimal c
+instr_text packets bodies texts (Pick n c) = codes "PICK " ++ decimal n ++ codes " " ++ decimal c
+instr_text packets bodies texts (Take m c k) = codes "TAKE " ++ decimal m ++ codes " " ++ decimal c ++ codes " " ++ decimal k
+instr_text packets bodies texts (Load s) = codes "LOAD " ++ shape_text s
+instr_text packets bodies texts (Store s) = codes "STORE " ++ shape_text s
+instr_text packets bodies texts (Do op) = codes "DO " ++ operation_name op
+instr_text packets bodies texts (Modify change) = codes "DO " ++ change_name change
+instr_text packets bodies texts (Jump a) = codes "JUMP " ++ decimal a
+instr_text packets bodies texts (False a) = codes "FALSE " ++ decimal a
+instr_text packets bodies texts (When z a) = codes "WHEN " ++ signed_decimal z ++ codes " " ++ decimal a
+instr_text packets bodies texts Drop = codes "DROP"
+instr_text packets bodies texts (Limit way a) = codes "LIMIT " ++ way_word way ++ codes " " ++ decimal a
+instr_text packets bodies texts Unlimit = codes "UNLIMIT"
+instr_text packets bodies texts (Step way a) = way_word way ++ codes " " ++ decimal a
+instr_text packets bodies texts (Ask name) = codes "ASK " ++ request_name name
+instr_text packets bodies texts ErrorStop = codes "DO errorstop"
+instr_text packets bodies texts (Call n) = codes "CALL " ++ decimal (first_of (slice_get bodies n)) ++ codes " " ++ decimal (cells_of_frame (slice_get bodies n))
+instr_text packets bodies texts (Refer n) = codes "REFER " ++ decimal (first_of (slice_get bodies n))
+instr_text packets bodies texts (Back s) = codes "BACK"
+instr_text packets bodies texts (Out s) = codes "OUT"
+instr_text packets bodies texts End = codes "END"
 
 -- its number, a blank, and its text
-abbrev pub line_text : List Entry → ℕ → ℕ → Instr → List ℕ
-line_text bodies texts k i = decimal k ++ codes " " ++ instr_text bodies texts i ++ 10 ∷ []
+abbrev pub line_text : List Packet → List Entry → ℕ → ℕ → Instr → List ℕ
+line_text packets bodies texts k i = decimal k ++ codes " " ++ instr_text packets bodies texts i ++ 10 ∷ []
 
 -- the texts up to an instruction, where so many stand before it
 abbrev pub texts_with : ℕ → Instr → ℕ
 texts_with texts (Text t) = suc texts
 texts_with texts i = texts
 
-abbrev pub listing_from : List Entry → ℕ → ℕ → List Line → List ℕ
-listing_from bodies texts k [] = []
-listing_from bodies texts k (l ∷ ls) = line_text bodies texts k l.instr ++ listing_from bodies (texts_with texts l.instr) (suc k) ls
+abbrev pub listing_from : List Packet → List Entry → ℕ → ℕ → List Line → List ℕ
+listing_from packets bodies texts k [] = []
+listing_from packets bodies texts k (l ∷ ls) = line_text packets bodies texts k l.instr ++ listing_from packets bodies (texts_with texts l.instr) (suc k) ls
 
 abbrev pub listing_text : Program → List ℕ
-listing_text p = listing_from p.bodies 0 0 p.lines
+listing_text p = listing_from p.packets p.bodies 0 0 p.lines

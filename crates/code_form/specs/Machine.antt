@@ -1,8 +1,11 @@
 -- What the machine does with a list of instructions, one by one.
 use Rattle.std.specs.Prelude.{ℕ, zero, suc, ◌+◌, ◌-◌, Bool, true, false, ◌&&◌, cond, List, [], ◌∷◌, ◌++◌, map, flat_map, length, take, drop, Option, Some, None, Ok, Err}
-use Rattle.std.specs.Prelude.{ℤ, pos, ◌*◌, int_le, slice_get}
+use Rattle.std.specs.Prelude.{ℤ, pos, ◌*◌, ◌%◌, slice_get}
 use Rattle.std.specs.Ordering.{int_eq}
+use Rattle.eu_base.specs.declared.address.Area.{Area}
+use Rattle.eu_base.specs.declared.address.Area.TheVariants as areas
 use Rattle.eu_base.specs.declared.address.Addr.{Addr}
+use Rattle.cell_kinds.specs.Kinds.{packet_kinds}
 use Rattle.eu_base.specs.declared.value.Kind.{Kind}
 use Rattle.eu_base.specs.declared.value.Kind.TheVariants as kinds
 use Rattle.eu_base.specs.declared.value.Value.{Value}
@@ -19,7 +22,9 @@ use Rattle.eu_base.specs.declared.shape.Shape.{Shape}
 use Rattle.eu_base.specs.Shapes.{cell_kinds}
 use Rattle.eu_base.specs.Operations.{Given, operand_kinds, result_of, change_kind, changed, is_past, has_reached, next_number, in_row}
 use Rattle.eu_base.specs.Requests.{request_kinds, request_size, request_of, reply_text, read_as}
-use Rattle.eu_base.specs.Cells.{Cell, Free, Word, Letters, Cells, held_of, run_cell, place_number, place_in, written, without, freed, cell_blocks, blocks_in}
+use Rattle.eu_base.specs.Cells.{Cell, Free, Word, Letters, Cells, held_of, area_cell, run_cell, packet_cell, place_number, place_in, written, without, freed, cell_blocks}
+use Rattle.eu_base.specs.Cells.{AreBare, area_blocks, blocks_in}
+use Rattle.eu_base.specs.declared.address.TheConstants.{CELLS}
 use Rattle.code_form.specs.declared.operand.Operand.{Operand}
 use Rattle.code_form.specs.declared.operand.Operand.TheVariants.{Value as Of, Place as At, Aggregate}
 use Rattle.code_form.specs.declared.halt.Halt.{Halt}
@@ -27,12 +32,12 @@ use Rattle.code_form.specs.declared.halt.Halt.TheVariants as halts
 use Rattle.code_form.specs.declared.waits.Waits.{Waits}
 use Rattle.code_form.specs.declared.waits.Waits.TheVariants.{Nothing, Asked, Given as Replied, Refused}
 use Rattle.code_form.specs.declared.instr.Instr.{Instr}
-use Rattle.code_form.specs.declared.instr.Instr.TheVariants.{Mark, Number, Truth, Text, Outer, Local, Param, Index, Field, Pick, Take, Load, Store, Do, Modify, Jump, False}
+use Rattle.code_form.specs.declared.instr.Instr.TheVariants.{Mark, Number, Truth, Text, Outer, Packet, Local, Param, Index, Field, Pick, Take, Load, Store, Do, Modify, Jump, False}
 use Rattle.code_form.specs.declared.instr.Instr.TheVariants.{When, Drop, Limit, Unlimit, Step, Ask, ErrorStop, Call, Refer, Back, Out, End}
 use Rattle.code_form.specs.declared.code.Entry.{Entry}
 use Rattle.code_form.specs.declared.code.Layout.{Layout}
 use Rattle.code_form.specs.declared.code.Layout.TheVariants.{Own}
-use Rattle.code_form.specs.Program.{Program, instr_of, CellUse, HoldsValue, HoldsPlace, layout_of, cells_at}
+use Rattle.code_form.specs.Program.{Program, kinds_in_packets, instr_of, CellUse, HoldsValue, HoldsPlace, layout_of, cells_at}
 
 -- a live call or refinement: the instruction to which it returns, its first cell, which is that of the frame below for a refinement,
 -- the cells that were in use before it, its body, and what is pending in the frame below
@@ -183,9 +188,9 @@ on_cell kinds.Int cell go = on_number cell (λ z. go (item.Int z))
 on_cell kinds.Truth cell go = on_word cell (λ n. go (item.Truth (truth_in n)))
 on_cell kinds.Text cell go = on_text cell (λ t. go (item.Text t))
 
--- the place so many cells further on
+-- the place so many cells further on in its area
 abbrev pub further : Addr → ℕ → Addr
-further a n = place_in (place_number a + n)
+further a n = area_cell a.area ((a.cell + n) % CELLS)
 
 abbrev pub next : Addr → Addr
 next a = further a 1
@@ -214,9 +219,10 @@ takes (Letters t) cell = is_text cell
 abbrev pub puts : Position → Addr → Value → List Operand → Cells → Move
 puts c a v ops cells =
     cond (takes (held_of v) (cells a))
-    (cond (texts_fit (cell_blocks (held_of v)) (blocks_in (written cells a (held_of v)))) (goes c ops (written cells a (held_of v))) (Halts TextRoom)) Unknown
+    (cond (texts_fit (cell_blocks (held_of v)) (area_blocks a.area (written cells a (held_of v)))) (goes c ops (written cells a (held_of v))) (Halts TextRoom))
+    Unknown
 
--- values are put into the cells from a place on, all of them or, where their texts have no room, none
+-- values are put into the cells from a place on, all of them or, where their texts have no room in the area, none
 abbrev pub written_all : Cells → Addr → List Value → Cells
 written_all cells a [] = cells
 written_all cells a (v ∷ vs) = written_all (written cells a (held_of v)) (next a) vs
@@ -228,7 +234,7 @@ takes_all (v ∷ vs) a cells = takes (held_of v) (cells a) && takes_all vs (next
 abbrev pub puts_all : Position → Addr → List Value → List Operand → Cells → Move
 puts_all c a vs ops cells =
     cond (takes_all vs a cells)
-    (cond (texts_fit (values_blocks vs) (blocks_in (written_all cells a vs))) (goes c ops (written_all cells a vs)) (Halts TextRoom)) Unknown
+    (cond (texts_fit (values_blocks vs) (area_blocks a.area (written_all cells a vs))) (goes c ops (written_all cells a vs)) (Halts TextRoom)) Unknown
 
 abbrev pub on_item : Option ℕ → (ℕ → Move) → Move
 on_item None go = Halts OutsideRow
@@ -252,12 +258,28 @@ abbrev pub content_blocks : List Cell → ℕ
 content_blocks [] = 0
 content_blocks (n ∷ ns) = cell_blocks n + content_blocks ns
 
--- it is put into cells, one after another
-abbrev pub written_from : ℕ → List Cell → Cells → Cells
-written_from at [] cells = cells
-written_from at (n ∷ ns) cells = written_from (suc at) ns (written cells (run_cell at) n)
+-- it is put into cells of an area, one after another; all frames stand in those of the command
+abbrev pub written_in : Area → ℕ → List Cell → Cells → Cells
+written_in area at [] cells = cells
+written_in area at (n ∷ ns) cells = written_in area (suc at) ns (written cells (area_cell area at) n)
 
--- nothing is known of a cell, and of as many as these from one on
+abbrev pub written_from : ℕ → List Cell → Cells → Cells
+written_from at ns cells = written_in areas.Run at ns cells
+
+-- variables of these kinds are made from a cell on, where they have room
+abbrev pub made_in : Area → ℕ → List Kind → Cells → Cells
+made_in area at kinds cells = cond (cells_fit (at + length kinds)) (written_in area at (map (λ k. held_of (blank_of k)) kinds) cells) cells
+
+-- no texts with blocks stand where variables are made
+abbrev pub CanBeMade : Program → Cells → Type 0
+CanBeMade p cells =
+    AreBare areas.Run 0 (length p.variables) cells × AreBare areas.Packets (length (packet_kinds p.packets)) (length p.inserted) cells
+
+-- those of a command, and those of the packet that is inserted, behind those of the packets of the task
+abbrev pub made : Program → Cells → Cells
+made p cells = made_in areas.Packets (length (packet_kinds p.packets)) p.inserted (made_in areas.Run 0 p.variables cells)
+
+-- nothing is known of a cell, and of as many of the command's as these from one on
 abbrev pub is_free : Cell → Bool
 is_free Free = true
 is_free (Word n) = false
@@ -317,7 +339,7 @@ is_of (HoldsValue kinds.Truth) cell = is_word cell
 is_of (HoldsValue kinds.Text) cell = is_text cell
 is_of HoldsPlace cell = is_word cell
 
--- so many cells from one on are known to hold what they are used for, and the others of them numbers
+-- so many of the command's cells from one on are known to hold what they are used for, and the others of them numbers
 abbrev pub are_of : List CellUse → ℕ → ℕ → Cells → Bool
 are_of us at zero cells = true
 are_of [] at (suc n) cells = is_word (cells (run_cell at)) && are_of [] (suc at) n cells
@@ -381,6 +403,7 @@ instruction p (Some (Number z)) c cells = pushes c (Of (item.Int z)) c.ops cells
 instruction p (Some (Truth b)) c cells = pushes c (Of (item.Truth b)) c.ops cells
 instruction p (Some (Text t)) c cells = pushes c (Of (item.Text t)) c.ops cells
 instruction p (Some (Outer k)) c cells = pushes c (At (run_cell k)) c.ops cells
+instruction p (Some (Packet k)) c cells = pushes c (At (packet_cell (k % CELLS))) c.ops cells
 instruction p (Some (Local k)) c cells = pushes c (At (run_cell (base_of c.frames + k))) c.ops cells
 instruction p (Some (Param k)) c cells = on_word (cells (run_cell (base_of c.frames + k))) (λ n. pushes c (At (place_in n)) c.ops cells)
 instruction p (Some (Index n size)) c cells =
@@ -495,6 +518,13 @@ abbrev pub exec : Program → ℕ → Control → Scene → Option Rest
 exec p zero c s = None
 exec p (suc n) c s = carry_on (advance p c s) (exec p n)
 
--- where a command starts, with so many variables. Where these have no room, it stops there
-abbrev pub start : ℕ → Control
-start n = record { position = record { pc = 0; ops = []; used = n; frames = [] }; waits = cond (cells_fit n) Nothing (Refused CellRoom) }
+-- the variables of a command have room, and so have those of all packets
+abbrev pub have_room : Program → Bool
+have_room p = cells_fit (length p.variables) && cells_fit (length (kinds_in_packets p))
+
+-- where a command starts. Where variables have no room, it stops there
+abbrev pub start : Program → Control
+start p = record {
+  position = record { pc = 0; ops = []; used = length p.variables; frames = [] };
+  waits = cond (have_room p) Nothing (Refused CellRoom);
+}

@@ -2,6 +2,8 @@
 use Rattle.std.specs.Prelude.{ℕ, suc, List, [], ◌∷◌, ◌++◌, map, flat_map, Option, Some, None, slice_get}
 use Rattle.eu_base.specs.declared.value.Kind.{Kind}
 use Rattle.eu_base.specs.Shapes.{cell_kinds}
+use Rattle.cell_kinds.specs.declared.packet.Packet.{Packet}
+use Rattle.cell_kinds.specs.Kinds.{packet_kinds}
 use Rattle.code_form.specs.declared.instr.Instr.{Instr}
 use Rattle.code_form.specs.declared.operand.OperandKind.{OperandKind}
 use Rattle.code_form.specs.declared.operand.OperandKind.TheVariants.{Value, Place}
@@ -11,11 +13,18 @@ use Rattle.code_form.specs.declared.code.Layout.{Layout}
 use Rattle.code_form.specs.declared.code.Layout.TheVariants.{Own, Of, Level}
 use Rattle.code_form.specs.declared.code.Entry.{Entry}
 
--- the kinds of the level's variables, the bodies, and the instructions with what is pending at each
+-- the packets of the task, the kinds of the variables of the packet that is inserted, and of the level's, the bodies, and the instructions with
+-- what is pending at each
 pub record Program : Type 0 where
+  pub packets : List Packet
+  pub inserted : List Kind
   pub variables : List Kind
   pub bodies : List Entry
   pub lines : List Line
+
+-- the kinds of the cells of packets, one packet behind the other, that which is inserted last
+abbrev pub kinds_in_packets : Program → List Kind
+kinds_in_packets p = packet_kinds p.packets ++ p.inserted
 
 abbrev pub line_of : Instr → List OperandKind → Spot → Line
 line_of i kinds spot = record { instr = i; operands = kinds; spot = spot }

@@ -17,14 +17,14 @@ use Rattle.code_form.specs.declared.operand.Operand.TheVariants.{Place as At}
 use Rattle.code_form.specs.declared.operand.OperandKind.{OperandKind}
 use Rattle.code_form.specs.declared.operand.OperandKind.TheVariants.{Value, Place}
 use Rattle.code_form.specs.declared.instr.Instr.{Instr}
-use Rattle.code_form.specs.declared.instr.Instr.TheVariants.{Mark, Number, Truth, Text, Outer, Local, Param, Index, Field, Pick, Take, Load, Store, Do, Modify, Jump, False}
+use Rattle.code_form.specs.declared.instr.Instr.TheVariants.{Mark, Number, Truth, Text, Outer, Packet, Local, Param, Index, Field, Pick, Take, Load, Store, Do, Modify, Jump, False}
 use Rattle.code_form.specs.declared.instr.Instr.TheVariants.{When, Drop, Limit, Unlimit, Step, Ask, ErrorStop, Call, Refer, Back, Out, End}
 use Rattle.code_form.specs.declared.code.Line.{Line}
 use Rattle.code_form.specs.declared.code.Spot.{Spot}
 use Rattle.code_form.specs.declared.code.Entry.{Entry}
 use Rattle.code_form.specs.declared.code.Layout.{Layout}
 use Rattle.code_form.specs.declared.code.Layout.TheVariants as layouts
-use Rattle.code_form.specs.Program.{Program, line_of, instr_of, at_level, in_body, deeper, HoldsValue, HoldsPlace, cell_uses, owner, owner_in, frame_cells}
+use Rattle.code_form.specs.Program.{Program, kinds_in_packets, line_of, instr_of, at_level, in_body, deeper, HoldsValue, HoldsPlace, cell_uses, owner, owner_in, frame_cells}
 use Rattle.code_form.specs.Machine.{Frame, Control, base_of, bytes_on, bytes_of, operand_of}
 use Rattle.code_form.specs.declared.waits.Waits.{Waits}
 use Rattle.code_form.specs.declared.waits.Waits.TheVariants.{Nothing, Asked, Given, Refused}
@@ -150,6 +150,7 @@ IsFine p pc (Number z) ks m = Next p.lines (pc + 1) (cell_value kinds.Int ∷ ks
 IsFine p pc (Truth b) ks m = Next p.lines (pc + 1) (cell_value kinds.Truth ∷ ks) m
 IsFine p pc (Text t) ks m = Next p.lines (pc + 1) (cell_value kinds.Text ∷ ks) m
 IsFine p pc (Outer x) ks m = (k : Kind) × (slice_get p.variables x ≡ Some k) × ((s : Shape) × Next p.lines (pc + 1) (Place s ∷ ks) m)
+IsFine p pc (Packet x) ks m = (k : Kind) × (slice_get (kinds_in_packets p) x ≡ Some k) × ((s : Shape) × Next p.lines (pc + 1) (Place s ∷ ks) m)
 IsFine p pc (Local x) ks m =
     (k : Kind) × (slice_get (frame_cells p m.body) x ≡ Some (HoldsValue k)) × ((s : Shape) × Next p.lines (pc + 1) (Place s ∷ ks) m)
 IsFine p pc (Param x) ks m = (slice_get (frame_cells p m.body) x ≡ Some HoldsPlace) × ((s : Shape) × Next p.lines (pc + 1) (Place s ∷ ks) m)

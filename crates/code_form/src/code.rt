@@ -5,7 +5,7 @@ ghost use Rattle.code_form.specs.Valid.{IsValid};
 
 use crate::instr::Instr;
 use crate::operand::OperandKind;
-use cell_kinds::CellKinds;
+use cell_kinds::{CellKinds, Packet};
 use eu_base::{List, Shape};
 use std::marker::Model;
 
@@ -58,6 +58,8 @@ pub enum Layout {
 /// instruction that spends a mark.
 #[derive(Drop)]
 pub struct Code {
+    packets: List<Packet>,
+    inserted: CellKinds,
     variables: CellKinds,
     bodies: List<Entry>,
     lines: List<Line>,
@@ -75,22 +77,56 @@ impl Model for Code {
 
     ghost use Rattle.code_form.specs.Valid.{IsValid};
 
-    ghost view = { λ c. record { variables = c.variables; bodies = c.bodies; lines = c.lines } };
+    ghost view = { λ c. record {
+      packets = c.packets;
+      inserted = c.inserted;
+      variables = c.variables;
+      bodies = c.bodies;
+      lines = c.lines;
+    } };
 
-    ghost invariant = { λ c. IsValid (record { variables = c.variables; bodies = c.bodies; lines = c.lines }) };
+    ghost invariant = { λ c. IsValid (record {
+      packets = c.packets;
+      inserted = c.inserted;
+      variables = c.variables;
+      bodies = c.bodies;
+      lines = c.lines;
+    }) };
 }
 
 impl Code {
     /// Code of these instructions, whose tables agree.
-    pub fn new(variables: CellKinds, bodies: List<Entry>, lines: List<Line>) -> Code
-        requires { IsValid (record { variables = variables; bodies = bodies; lines = lines }) }
-        ensures { result ≡ record { variables = variables; bodies = bodies; lines = lines } }
+    pub fn new(
+        packets: List<Packet>,
+        inserted: CellKinds,
+        variables: CellKinds,
+        bodies: List<Entry>,
+        lines: List<Line>,
+    ) -> Code
+        requires { IsValid (record { packets = packets; inserted = inserted; variables = variables; bodies = bodies; lines = lines }) }
+        ensures { result ≡ record { packets = packets; inserted = inserted; variables = variables; bodies = bodies; lines = lines } }
     {
         Code {
+            packets,
+            inserted,
             variables,
             bodies,
             lines,
         }
+    }
+
+    /// The packets of the task, in the order in which they were inserted.
+    pub fn packets(&self) -> &[Packet]
+        ensures { result.now ≡ self.now.packets }
+    {
+        self.packets.as_slice()
+    }
+
+    /// The kinds of the variables of the packet that is inserted, which stand behind those of the packets of the task.
+    pub fn inserted(&self) -> &CellKinds
+        ensures { result.now ≡ self.now.inserted }
+    {
+        &self.inserted
     }
 
     /// The kinds of the level's variables.

@@ -15,6 +15,9 @@ pub enum Instr {
     Text(Bytes),
     /// Pushes the place of a variable of the level.
     Outer(usize),
+    /// Pushes the place of a cell of packets, by its number among the cells of all of them, one packet behind the other. It is listed by the
+    /// number of its packet and its number there.
+    Packet(usize),
     /// Pushes the place of a cell of the frame, by its number there.
     Local(usize),
     /// Pushes the place that a cell of the frame holds, by its number there.

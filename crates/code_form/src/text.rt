@@ -1,14 +1,14 @@
 //! Code as text.
 ghost use Rattle.std.specs.Prelude.{◌≡◌, ◌++◌, IfOk, OnOk, map, flat_map, length, slice_get, codes};
 ghost use Rattle.std.specs.Fmt.{decimal, signed_decimal};
-ghost use Rattle.code_form.specs.Listing.{truth_word, kind_word, listed, shape_text, way_word, operation_name, text_operation_name, change_name, request_name, first_of, cells_of_frame, instr_text, texts_with};
+ghost use Rattle.code_form.specs.Listing.{truth_word, kind_word, listed, shape_text, way_word, operation_name, text_operation_name, change_name, request_name, first_of, cells_of_frame, cell_in_packet, packet_text, instr_text, texts_with};
 ghost use Rattle.code_form.specs.Listing.{line_text, listing_text};
 ghost use Rattle.code_form.specs.Program.{cell_uses, cells_of};
 
 use crate::code::{Code, Entry, Layout};
 use crate::instr::Instr;
 use crate::operand::OperandKind;
-use cell_kinds::count;
+use cell_kinds::{Packet, count};
 use eu_base::{Bytes, Change, Kind, NoMemory, Operation, RequestName, Shape, TextOperation, Way};
 use itoa::Buffer;
 use std::alloc::Global;
@@ -20,7 +20,14 @@ pub fn listing(alloc: Global, code: &Code) -> Result<Bytes, NoMemory>
     let mut out = Bytes::new(alloc);
     let mut texts = 0usize;
     for (number, line) in code.lines().iter().enumerate() {
-        append_line(&mut out, code.bodies(), texts, number, &line.instr)?;
+        append_line(
+            &mut out,
+            code.packets(),
+            code.bodies(),
+            texts,
+            number,
+            &line.instr,
+        )?;
         texts = texts_with(texts, &line.instr)?;
     }
     Ok(out)
@@ -38,16 +45,17 @@ fn texts_with(texts: usize, instr: &Instr) -> Result<usize, NoMemory>
 
 fn append_line(
     out: &mut Bytes,
+    packets: &[Packet],
     bodies: &[Entry],
     texts: usize,
     number: usize,
     instr: &Instr,
 ) -> Result<(), NoMemory>
-    ensures { OnOk result (out.new ≡ out.old ++ line_text bodies.now texts number instr.now) }
+    ensures { OnOk result (out.new ≡ out.old ++ line_text packets.now bodies.now texts number instr.now) }
 {
     append_number(out, number)?;
     out.append(b" ")?;
-    append_instr(out, bodies, texts, instr)?;
+    append_instr(out, packets, bodies, texts, instr)?;
     out.append(b"\n")?;
     Ok(())
 }
@@ -55,11 +63,12 @@ fn append_line(
 // An arm an instruction, so it is as long as there are instructions.
 fn append_instr(
     out: &mut Bytes,
+    packets: &[Packet],
     bodies: &[Entry],
     texts: usize,
     instr: &Instr,
 ) -> Result<(), NoMemory>
-    ensures { OnOk result (out.new ≡ out.old ++ instr_text bodies.now texts instr.now) }
+    ensures { OnOk result (out.new ≡ out.old ++ instr_text packets.now bodies.now texts instr.now) }
 {
     match instr {
         Instr::Mark => out.append(b"MARK"),
@@ -73,6 +82,7 @@ fn append_instr(
         }
         Instr::Text(_) => append_with(out, b"TEXT ", texts),
         Instr::Outer(cell) => append_with(out, b"OUTER ", *cell),
+        Instr::Packet(cell) => append_packet(out, cell_in_packet(packets, *cell)),
         Instr::Local(cell) => append_with(out, b"LOCAL ", *cell),
         Instr::Param(cell) => append_with(out, b"PARAM ", *cell),
         Instr::Index(count, cells) => {
@@ -137,6 +147,31 @@ fn append_instr(
         Instr::Out(_) => out.append(b"OUT"),
         Instr::End => out.append(b"END"),
     }
+}
+
+// The number of the packet that has a cell, and the cell's number there. The packet that is inserted stands behind the others, by 0.
+fn cell_in_packet(packets: &[Packet], cell: usize) -> (u32, usize)
+    ensures { result ≡ cell_in_packet packets.now cell }
+{
+    let mut rest = cell;
+    for packet in packets {
+        let cells = packet.variables.len();
+        if rest < cells {
+            return (packet.number, rest);
+        }
+        rest -= cells;
+    }
+    (0, rest)
+}
+
+fn append_packet(out: &mut Bytes, at: (u32, usize)) -> Result<(), NoMemory>
+    ensures { OnOk result (out.new ≡ out.old ++ (codes "PACK " ++ packet_text at)) }
+{
+    let (packet, cell) = at;
+    out.append(b"PACK ")?;
+    append_number(out, packet as usize)?;
+    out.append(b" ")?;
+    append_number(out, cell)
 }
 
 // Where a body begins.

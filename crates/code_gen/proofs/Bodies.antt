@@ -9,12 +9,11 @@ use Rattle.code_form.specs.declared.code.Spot.{Spot}
 use Rattle.code_form.specs.declared.code.Entry.{Entry}
 use Rattle.code_form.specs.Program.{Program, in_body}
 use Rattle.code_form.specs.Machine.{at}
-use Rattle.eu_base.specs.declared.value.Kind.{Kind}
 use Rattle.elan_types.specs.declared.core_phrase.Exit.TheVariants as exits
 use Rattle.elan_types.specs.declared.core_phrase.Content.{Content}
 use Rattle.elan_types.specs.declared.core_phrase.Content.TheVariants as contents
 use Rattle.elan_types.specs.declared.core_phrase.Body.{Body}
-use Rattle.elan_types.specs.Typing.{result_of_content, is_content_typed}
+use Rattle.elan_types.specs.Typing.{Outside, result_of_content, is_content_typed}
 use Rattle.elan_types.specs.Eval.{Gives, all, act, value}
 use Rattle.place_gen.specs.Stretch.{one, keeps, all_code, action_code, value_code, content_code}
 use Rattle.place_gen.proofs.Lines.{HasAt, has_front, has_rest, IsSized, join_sized}
@@ -48,23 +47,23 @@ body_has lines (x ∷ bs) k at (suc n) b e sized has is entry =
     subst (λ n. HasAt lines e.first ((content_code b.content).lines [] (in_body n) e.first)) n'
     (body_has lines bs (suc k) (at + (content_code x.content).size) n b e (λ n b. sized (suc n) b) h is entry)
 
-module _ (p : Program) (variables : List Kind) (bodies : List Body) (agrees : Agrees p variables bodies) (q : ℕ) (home : IsHome bodies (Some q)) where
+module _ (p : Program) (outside : Outside) (bodies : List Body) (agrees : Agrees p outside bodies) (q : ℕ) (home : IsHome bodies (Some q)) where
   one_sized : (i : Instr) (f : List OperandKind → List OperandKind) → IsSized (one i f)
   one_sized i f ks m pc = refl
 
-  pub content_sized : (con : Content) → is_content_typed variables bodies (Some q) con ≡ true → IsContentSized con
+  pub content_sized : (con : Content) → is_content_typed outside bodies (Some q) con ≡ true → IsContentSized con
   content_sized (contents.Units us) e m at =
-      join_sized (all_code (map action_code us)) (one (Back None) keeps) (all_are p variables bodies agrees (Some q) home us e).sized
+      join_sized (all_code (map action_code us)) (one (Back None) keeps) (all_are p outside bodies agrees (Some q) home us e).sized
       (one_sized (Back None) keeps) [] m at
   content_sized (contents.Value u a) e m at =
-      join_sized (value_code a) (one (Back (Some u)) (drop 1)) (value_is p variables bodies agrees (Some q) home a u (has_shape_is u _ e)).sized
+      join_sized (value_code a) (one (Back (Some u)) (drop 1)) (value_is p outside bodies agrees (Some q) home a u (has_shape_is u _ e)).sized
       (one_sized (Back (Some u)) (drop 1)) [] m at
 
-  pub content_carries : (first : ℕ) (con : Content) → is_content_typed variables bodies (Some q) con ≡ true
+  pub content_carries : (first : ℕ) (con : Content) → is_content_typed outside bodies (Some q) con ≡ true
       → HasAt p.lines first ((content_code con).lines [] (in_body q) first) → Delivers p (Some q) (result_of_content con) → ContentCarries p q first con
   content_carries first (contents.Units us) e has gives =
       let f = all_code (map action_code us) in
-      let i = all_are p variables bodies agrees (Some q) home us e in
+      let i = all_are p outside bodies agrees (Some q) home us e in
       let h = has_rest p.lines first f.size (f.lines [] (in_body q) first) _ (i.sized [] (in_body q) first) has in record {
         ends = λ calls n b L c le l hl w lw.
             subst (Ends p L (at c first []) w) (sym (finish_bind (all (map act us) (reach calls n c []) w) (λ _. Gives None) (l exits.Body) l))
@@ -75,7 +74,7 @@ module _ (p : Program) (variables : List Kind) (bodies : List Body) (agrees : Ag
       }
   content_carries first (contents.Value u a) e has gives =
       let f = value_code a in
-      let i = value_is p variables bodies agrees (Some q) home a u (has_shape_is u _ e) in
+      let i = value_is p outside bodies agrees (Some q) home a u (has_shape_is u _ e) in
       let h = has_rest p.lines first f.size (f.lines [] (in_body q) first) _ (i.sized [] (in_body q) first) has in record {
         ends = λ calls n b L c le l hl w lw.
             subst (Ends p L (at c first []) w) (sym (finish_bind (value a (reach calls n c []) w) (λ v. Gives (Some v)) (l exits.Body) l))

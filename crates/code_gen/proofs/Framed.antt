@@ -1,5 +1,5 @@
 -- What the cells of a frame hold is known when a body is left.
-use Rattle.std.proofs.Common.{◌≡◌, ℕ, suc, ◌+◌, ◌-◌, List, [], ◌∷◌, ◌++◌, map, length, Some, Bool, true, ◌&&◌, refl, sym, ap, ◌∙◌, subst, arith, length-append}
+use Rattle.std.proofs.Common.{◌≡◌, ℕ, suc, ◌+◌, ◌-◌, List, [], ◌∷◌, ◌++◌, map, length, Some, true, ◌&&◌, refl, sym, ap, ◌∙◌, subst, arith, length-append}
 use Rattle.std.specs.Prelude.{slice_get, Option, flat_map}
 use Rattle.std.proofs.lemmas.List.{map-append}
 use Rattle.std.proofs.lemmas.List.Concat.{flat_map-cons}
@@ -9,6 +9,7 @@ use Rattle.eu_base.specs.declared.value.Value.{Value}
 use Rattle.eu_base.specs.declared.value.Value.TheVariants.{Int, Truth, Text}
 use Rattle.eu_base.specs.Values.{IsOf}
 use Rattle.eu_base.specs.Shapes.{cell_kinds}
+use Rattle.eu_base.specs.declared.address.Area.TheVariants.{Run}
 use Rattle.eu_base.specs.Cells.{Cell, Cells, held_of, run_cell}
 use Rattle.code_form.specs.declared.operand.OperandKind.{OperandKind}
 use Rattle.code_form.specs.declared.operand.OperandKind.TheVariants as operand
@@ -18,7 +19,7 @@ use Rattle.code_form.specs.declared.code.Layout.TheVariants as layouts
 use Rattle.code_form.specs.Program.{CellUse, HoldsValue, HoldsPlace, cell_uses, cells_of, layout_of, cells_at}
 use Rattle.code_form.specs.Machine.{is_word, is_of, are_of, is_framed}
 use Rattle.elan_types.specs.Eval.{Slot, slot_at}
-use Rattle.place_gen.proofs.Cells.{Use, OfValue, OfPlace, OfLimit, OfNothing, Uses, Kept, Keeps, IsCount, AreCounts, get_right}
+use Rattle.place_gen.proofs.Cells.{Use, OfValue, OfPlace, OfLimit, OfNothing, Uses, Kept, KeepsIn, IsCount, AreCounts, get_right}
 use Rattle.place_gen.proofs.Homes.{uses_of, layout_uses}
 use Rattle.code_gen.proofs.Entered.{call_uses}
 
@@ -50,11 +51,11 @@ cells_for (layouts.Own ks vs) =
 cells_for (layouts.Of q) = refl
 cells_for layouts.Level = refl
 
-kept_count : (L : Uses) (at : ℕ) (u : Use) (s : Slot) (n : Cell) → IsCount u → Kept L at u s n → is_word n ≡ true
-kept_count L at (OfValue k) s n c g = absurd c
-kept_count L at (OfPlace ks) s n c g = absurd c
-kept_count L at (OfLimit l) s n c g = ap is_word g.2
-kept_count L at OfNothing s n c g = ap is_word g.1
+kept_count : (P : List Kind) (L : Uses) (at : ℕ) (u : Use) (s : Slot) (n : Cell) → IsCount u → Kept P L at u s n → is_word n ≡ true
+kept_count P L at (OfValue k) s n c g = absurd c
+kept_count P L at (OfPlace ks) s n c g = absurd c
+kept_count P L at (OfLimit l) s n c g = ap is_word g.2
+kept_count P L at OfNothing s n c g = ap is_word g.1
 
 held_kind : (k : Kind) (v : Value) → IsOf k v → is_of (HoldsValue k) (held_of v) ≡ true
 held_kind kinds.Int (Int z) f = refl
@@ -67,13 +68,13 @@ held_kind kinds.Text (Int z) f = absurd f
 held_kind kinds.Text (Truth b) f = absurd f
 held_kind kinds.Text (Text t) f = refl
 
-kept_use : (L : Uses) (at : ℕ) (u : Use) (s : Slot) (n : Cell) → Kept L at u s n → is_of (cell_for u) n ≡ true
-kept_use L at (OfValue k) s n g = ap (is_of (HoldsValue k)) g.3 ∙ held_kind k g.0 g.2
-kept_use L at (OfPlace ks) s n g = ap is_word g.4
-kept_use L at (OfLimit l) s n g = ap is_word g.2
-kept_use L at OfNothing s n g = ap is_word g.1
+kept_use : (P : List Kind) (L : Uses) (at : ℕ) (u : Use) (s : Slot) (n : Cell) → Kept P L at u s n → is_of (cell_for u) n ≡ true
+kept_use P L at (OfValue k) s n g = ap (is_of (HoldsValue k)) g.3 ∙ held_kind k g.0 g.2
+kept_use P L at (OfPlace ks) s n g = ap is_word g.4
+kept_use P L at (OfLimit l) s n g = ap is_word g.2
+kept_use P L at OfNothing s n g = ap is_word g.1
 
-module _ (U : Uses) (store : List Slot) (cells : Cells) (h : Keeps U store cells) where
+module _ (P : List Kind) (U : Uses) (store : List Slot) (cells : Cells) (h : KeepsIn Run P U store cells) where
   -- from a number on the cells in use are for this
   abbrev From : ℕ → Uses → Type 0
   From at N = (x : ℕ) (u : Use) → slice_get N x ≡ Some u → slice_get U (at + x) ≡ Some u
@@ -81,20 +82,20 @@ module _ (U : Uses) (store : List Slot) (cells : Cells) (h : Keeps U store cells
   later : (at : ℕ) (u : Use) (N : Uses) → From at (u ∷ N) → From (suc at) N
   later at u N in_use x v e = let n : at + suc x ≡ suc at + x = omega arith in subst (λ n. slice_get U n ≡ Some v) n (in_use (suc x) v e)
 
-  first : (at : ℕ) (u : Use) (N : Uses) → From at (u ∷ N) → Kept U at u (slot_at store at) (cells (run_cell at))
+  first : (at : ℕ) (u : Use) (N : Uses) → From at (u ∷ N) → Kept P U at u (slot_at store at) (cells (run_cell at))
   first at u N in_use = let n : at + 0 ≡ at = omega arith in h.each at u (subst (λ n. slice_get U n ≡ Some u) n (in_use 0 u refl))
 
   counts_known : (N : Uses) (at : ℕ) → AreCounts N → From at N → are_of [] at (length N) cells ≡ true
   counts_known [] at c in_use = refl
   counts_known (u ∷ N) at c in_use =
-      ap (λ b. b && are_of [] (suc at) (length N) cells) (kept_count U at u (slot_at store at) (cells (run_cell at)) c.0 (first at u N in_use))
+      ap (λ b. b && are_of [] (suc at) (length N) cells) (kept_count P U at u (slot_at store at) (cells (run_cell at)) c.0 (first at u N in_use))
       ∙ counts_known N (suc at) c.1 (later at u N in_use)
 
   uses_known : (us N : Uses) (at : ℕ) → AreCounts N → From at (us ++ N) → are_of (map cell_for us) at (length (us ++ N)) cells ≡ true
   uses_known [] N at c in_use = counts_known N at c in_use
   uses_known (u ∷ us) N at c in_use =
       ap (λ b. b && are_of (map cell_for us) (suc at) (length (us ++ N)) cells)
-      (kept_use U at u (slot_at store at) (cells (run_cell at)) (first at u (us ++ N) in_use))
+      (kept_use P U at u (slot_at store at) (cells (run_cell at)) (first at u (us ++ N) in_use))
       ∙ uses_known us N (suc at) c (later at u (us ++ N) in_use)
 
   frame_known : (us N : Uses) (at : ℕ) → AreCounts N → From at (call_uses us ++ N)
@@ -102,12 +103,12 @@ module _ (U : Uses) (store : List Slot) (cells : Cells) (h : Keeps U store cells
   frame_known us N at c in_use = uses_known (call_uses us) N at c in_use
 
 -- the cells of a frame, behind those below it
-pub framed : (L us more : Uses) (store : List Slot) (cells : Cells) (e : Option Entry) (from used : ℕ)
-    → Keeps (L ++ (call_uses us ++ more)) store cells → AreCounts more → cells_at (layout_of e) ≡ map cell_for us → from ≡ length L
+pub framed : (P : List Kind) (L us more : Uses) (store : List Slot) (cells : Cells) (e : Option Entry) (from used : ℕ)
+    → KeepsIn Run P (L ++ (call_uses us ++ more)) store cells → AreCounts more → cells_at (layout_of e) ≡ map cell_for us → from ≡ length L
     → used ≡ length (L ++ (call_uses us ++ more)) → is_framed e from used cells ≡ true
-framed L us more store cells e from used keeps counts is from_is used_is =
+framed P L us more store cells e from used keeps counts is from_is used_is =
     let N = call_uses us ++ more in
     let size : used - from ≡ length N = omega (arith, from_is, used_is, length-append L N) in
     ap (λ ks. are_of (HoldsValue kinds.Int ∷ HoldsValue kinds.Int ∷ ks) from (used - from) cells) is
     ∙ ap (λ n. are_of (HoldsValue kinds.Int ∷ HoldsValue kinds.Int ∷ map cell_for us) from n cells) size
-    ∙ frame_known (L ++ N) store cells keeps us more from counts (λ x u e. ap (λ n. slice_get (L ++ N) (n + x)) from_is ∙ get_right L N x ∙ e)
+    ∙ frame_known P (L ++ N) store cells keeps us more from counts (λ x u e. ap (λ n. slice_get (L ++ N) (n + x)) from_is ∙ get_right L N x ∙ e)

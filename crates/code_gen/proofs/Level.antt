@@ -9,6 +9,7 @@ use Rattle.eu_base.specs.declared.stop.Stop.TheVariants.{CellRoom, TextRoom}
 use Rattle.eu_base.specs.declared.value.Kind.{Kind}
 use Rattle.eu_base.specs.declared.value.Value.{Value}
 use Rattle.eu_base.specs.Room.{cells_fit, texts_fit}
+use Rattle.eu_base.specs.declared.address.Area.TheVariants as areas
 use Rattle.eu_base.specs.Cells.{Cell, Free, Cells, freed, blocks_in}
 use Rattle.code_form.specs.declared.halt.Halt.TheVariants as halts
 use Rattle.code_form.specs.declared.operand.Operand.{Operand}
@@ -39,7 +40,7 @@ use Rattle.place_gen.specs.Layouts.{layout_of}
 use Rattle.place_gen.proofs.Homes.{Delivers, LeftBy, uses_of, layout_uses, uses_at, uses_in, frame_uses}
 use Rattle.place_gen.proofs.Cells.{OfValue, Uses, AreCounts, Keeps, AllKept, get_left, get_right, cuts, extends, free_beyond}
 use Rattle.place_gen.proofs.Blocks.{same_blocks, more_blocks}
-use Rattle.place_gen.proofs.Carry.{finish, Result, result_ops, way_out, reach, After, resting, going, Ends, Exits, wider, CallsCarry, Stands}
+use Rattle.place_gen.proofs.Carry.{P, finish, Result, result_ops, way_out, reach, After, resting, going, Ends, Exits, wider, CallsCarry, Stands}
 use Rattle.place_gen.proofs.Carry.{Within, TakeAll, passed_operand, pushed_passed, here, out_carries, spend_carries}
 use Rattle.place_gen.proofs.Slots.{all_taken}
 use Rattle.code_gen.proofs.Framed.{cell_for, cells_for, framed}
@@ -77,7 +78,7 @@ module _ (p : Program) where
 
   -- a stop where a body is entered changes nothing
   full_ends : (L : Uses) (c : Position) (s : Stop) (w : World) (cells : Cells) (k : Option (List Value) → World → Ending) (l : Exit → Option (List Value) → World → Ending)
-      → Keeps L w.store cells → After p (after_stage (Stops s) (free c) (scene_of w cells)) (finish (Stopped s w) k l)
+      → Keeps (P p) L w cells → After p (after_stage (Stops s) (free c) (scene_of w cells)) (finish (Stopped s w) k l)
   full_ends L c s w cells k l h = record {
     steps = 0;
     rest = rest_at (halts.Stopped s) (free c) (scene_of w cells);
@@ -87,7 +88,7 @@ module _ (p : Program) where
 
   -- the texts of a frame have room, and the machine goes into the body; or it stops
   texts_ends : (L U : Uses) (more : List Slot) (c inner : Position) (go : World → Outcome (Option (List Value))) (k : Option (List Value) → World → Ending)
-      (l : Exit → Option (List Value) → World → Ending) (w : World) (cells now : Cells) → Keeps L w.store cells → Keeps U (w.store ++ more) now → (t : Bool)
+      (l : Exit → Option (List Value) → World → Ending) (w : World) (cells now : Cells) → Keeps (P p) L w cells → Keeps (P p) U (record w { store = w.store ++ more }) now → (t : Bool)
       → Ends p U inner (record w { store = w.store ++ more }) (finish (go (record w { store = w.store ++ more })) k l)
       → After p (after_stage (cond t (To inner now) (Stops TextRoom)) (free c) (scene_of w cells))
       (finish (branch t (λ w. go (record w { store = w.store ++ more })) (Stopped TextRoom) w) k l)
@@ -96,24 +97,24 @@ module _ (p : Program) where
       going p (free inner) (scene_of (record w { store = w.store ++ more }) now) _ (e now later)
 
   -- cells are taken for a frame where there is room, and then its texts
-  room_ends : (L M : Uses) (more : List Slot) (ns : List Cell) (c inner : Position) (go : World → Outcome (Option (List Value))) (k : Option (List Value) → World → Ending)
-      (l : Exit → Option (List Value) → World → Ending) (w : World) (cells : Cells) → c.used ≡ length L → AllKept L (length L) M more ns → Keeps L w.store cells
+  room_ends : length (P p) ≤ CELLS → (L M : Uses) (more : List Slot) (ns : List Cell) (c inner : Position) (go : World → Outcome (Option (List Value))) (k : Option (List Value) → World → Ending)
+      (l : Exit → Option (List Value) → World → Ending) (w : World) (cells : Cells) → c.used ≡ length L → AllKept (P p) L (length L) M more ns → Keeps (P p) L w cells
       → (t : Bool) → (t ≡ true
       → (length (L ++ M) ≤ CELLS) × Ends p (L ++ M) inner (record w { store = w.store ++ more }) (finish (go (record w { store = w.store ++ more })) k l))
       → After p (after_stage (cond t (cond (texts_fit (content_blocks ns) (blocks_in (written_from c.used ns cells)))
       (To inner (written_from c.used ns cells)) (Stops TextRoom)) (Stops CellRoom)) (free c) (scene_of w cells))
       (finish (branch t (branch (texts_fit (store_blocks more) (store_blocks (w.store ++ more)))
       (λ w. go (record w { store = w.store ++ more })) (Stopped TextRoom)) (Stopped CellRoom) w) k l)
-  room_ends L M more ns c inner go k l w cells used kept h false e = full_ends L c CellRoom w cells k l h
-  room_ends L M more ns c inner go k l w cells used kept h true e =
+  room_ends few L M more ns c inner go k l w cells used kept h false e = full_ends L c CellRoom w cells k l h
+  room_ends few L M more ns c inner go k l w cells used kept h true e =
       let now = written_from c.used ns cells in
-      let later : Keeps (L ++ M) (w.store ++ more) now =
-      subst (λ n. Keeps (L ++ M) (w.store ++ more) (written_from n ns cells)) (sym used) (extends M L w.store more cells ns h kept) in
+      let later : Keeps (P p) (L ++ M) (record w { store = w.store ++ more }) now =
+      subst (λ n. Keeps (P p) (L ++ M) (record w { store = w.store ++ more }) (written_from n ns cells)) (sym used) (extends (P p) M L w more cells ns h kept) in
       let x = e refl in
       let test = texts_fit (store_blocks more) (store_blocks (w.store ++ more)) in
       let same : texts_fit (content_blocks ns) (blocks_in now) ≡ test =
-      sym (ap (λ n. texts_fit n (store_blocks (w.store ++ more))) (more_blocks L (length L) M more ns kept)
-      ∙ ap (texts_fit (content_blocks ns)) (same_blocks (L ++ M) (w.store ++ more) now x.0 later)) in
+      sym (ap (λ n. texts_fit n (store_blocks (w.store ++ more))) (more_blocks (P p) L (length L) M more ns kept)
+      ∙ ap (texts_fit (content_blocks ns)) (same_blocks areas.Run (P p) (L ++ M) (record w { store = w.store ++ more }) now few x.0 later)) in
       subst (λ t. After p (after_stage (cond t (To inner now) (Stops TextRoom)) (free c) (scene_of w cells))
       (finish (branch test (λ w. go (record w { store = w.store ++ more })) (Stopped TextRoom) w) k l)) (sym same)
       (texts_ends L (L ++ M) more c inner go k l w cells now h later test x.1)
@@ -129,25 +130,25 @@ module _ (p : Program) where
   }
 
   -- with the cells of a frame in use, that those of the frame below are where they were
-  enter_ends : (L M : Uses) (more : List Slot) (ns : List Cell) (c : Position) (first base : ℕ) (refines : Bool) (body : ℕ) (ops : List Operand)
+  enter_ends : length (P p) ≤ CELLS → (L M : Uses) (more : List Slot) (ns : List Cell) (c : Position) (first base : ℕ) (refines : Bool) (body : ℕ) (ops : List Operand)
       (go : World → Outcome (Option (List Value))) (k : Option (List Value) → World → Ending) (l : Exit → Option (List Value) → World → Ending) (w : World) (cells : Cells)
-      → c.used ≡ length L → AllKept L (length L) M more ns → Keeps L w.store cells
+      → c.used ≡ length L → AllKept (P p) L (length L) M more ns → Keeps (P p) L w cells
       → (length (L ++ M) ≤ CELLS
       → Ends p (L ++ M) (entered c first base refines body ops ns) (record w { store = w.store ++ more })
       (finish (go (record w { store = w.store ++ more })) k l))
       → After p (after_stage (enters c first base refines body ops ns cells) (free c) (scene_of w cells)) (finish (with_room more go w) k l)
-  enter_ends L M more ns c first base refines body ops go k l w cells used kept h e =
-      let lengths = kept_lengths L M (length L) more ns kept in
-      let same : c.used + length ns ≡ length w.store + length more = omega (arith, used, h.as_many, lengths.0, lengths.1) in
+  enter_ends few L M more ns c first base refines body ops go k l w cells used kept h e =
+      let lengths = kept_lengths (P p) L M (length L) more ns kept in
+      let same : c.used + length ns ≡ length w.store + length more = omega (arith, used, h.command.as_many, lengths.0, lengths.1) in
       let all : length (L ++ M) ≡ c.used + length ns = omega (arith, used, lengths.1, length-append L M) in
-      let free' = free_beyond ns c.used cells (λ x le. h.beyond x (omega (arith, le, used))) in
+      let free' = free_beyond ns c.used cells (λ x le. h.command.beyond x (omega (arith, le, used))) in
       let inner = entered c first base refines body ops ns in
       subst (λ t. After p (after_stage (cond t (entering c first base refines body ops ns cells) Unsaid) (free c) (scene_of w cells))
       (finish (with_room more go w) k l)) (sym free')
       (subst (λ n. After p (after_stage (entering c first base refines body ops ns cells) (free c) (scene_of w cells))
       (finish (branch (cells_fit n) (branch (texts_fit (store_blocks more) (store_blocks (w.store ++ more)))
       (λ w. go (record w { store = w.store ++ more })) (Stopped TextRoom)) (Stopped CellRoom) w) k l)) same
-      (room_ends L M more ns c inner go k l w cells used kept h (cells_fit (c.used + length ns))
+      (room_ends few L M more ns c inner go k l w cells used kept h (cells_fit (c.used + length ns))
       (λ t. let few = subst (λ n. n ≤ CELLS) (sym all) (leb-true (c.used + length ns) CELLS t) in (few, e few))))
 
   -- what comes after a body, with its cells given back
@@ -155,18 +156,18 @@ module _ (p : Program) where
       (k : Option (List Value) → World → Ending) → cells_at (tables.layout_of (slice_get p.bodies f.body)) ≡ map cell_for us → AreCounts more → n ≡ length L → f.used ≡ length L
       → c.used ≡ length (L ++ call_uses us) + length more
       → Ends p L (record { pc = f.back; ops = result_ops v ++ f.ops; used = f.used; frames = fs }) (cut n w) (k v (cut n w)) → (cells : Cells)
-      → Keeps ((L ++ call_uses us) ++ more) w.store cells
+      → Keeps (P p) ((L ++ call_uses us) ++ more) w cells
       → After p (stage (back_into p (result_ops v) c.used f fs cells) c (scene_of w cells)) (k v (cut n w))
   back_after L more us n f fs c v w k kinds' counts is f_is used e cells keeps =
       let M = call_uses us in
       let next : Position = record { pc = f.back; ops = result_ops v ++ f.ops; used = f.used; frames = fs } in
       let all : c.used ≡ length (L ++ (M ++ more)) = omega (arith, used, length-append L M, length-append M more, length-append L (M ++ more)) in
       let now = freed f.used c.used cells in
-      let held = subst (λ U. Keeps U w.store cells) (append_assoc L M more) keeps in
-      let known = framed L us more w.store cells (slice_get p.bodies f.body) f.used c.used held counts kinds' f_is all in
+      let held = subst (λ U. Keeps (P p) U w cells) (append_assoc L M more) keeps in
+      let known = framed (P p) L us more w.store cells (slice_get p.bodies f.body) f.used c.used held.command counts kinds' f_is all in
       subst (λ t. After p (stage (cond t (Goes next now) Unknown) c (scene_of w cells)) (k v (cut n w))) (sym known)
       (going p (free next) (scene_of (cut n w) now) (k v (cut n w))
-      (e now (cuts (λ _. Free) L (M ++ more) w.store cells n f.used c.used is f_is all (λ x u s n past is kept. refl) held)))
+      (e now (cuts (λ _. Free) (P p) L (M ++ more) w cells n f.used c.used is f_is all (λ x u s n past is kept. refl) held)))
 
 -- an entry of the tables is that of a body, whose code does what the body does
 pub record IsMade (p : Program) (bodies : List Body) (q : ℕ) (e : Entry) : Type 0 where
@@ -245,7 +246,7 @@ module _ (bodies : List Body) (p : Program) where
   refer_exits L q n b home e f fs k l is refined owned body refines n_is f_is hk hl = record { by = by }
     where
       by : (x : Exit) (d : Option Shape) → LeftBy p (Some q) x d → (more : Uses) → AreCounts more → (v : Option (List Value)) (w : World) → Result d v → w.marks ≤ b
-          → (c : Position) → c.used ≡ length (L ++ link_uses) + length more → (cells : Cells) → Keeps ((L ++ link_uses) ++ more) w.store cells
+          → (c : Position) → c.used ≡ length (L ++ link_uses) + length more → (cells : Cells) → Keeps (P p) ((L ++ link_uses) ++ more) w cells
           → After p (stage (way_out p x (result_ops v) c.used (f ∷ fs) cells) c (scene_of w cells)) (from_refinement n k l x v w)
       by exits.Body d gives more counts v w r le c used cells keeps =
           let kinds' = ap (λ q. cells_at (tables.layout_of (slice_get p.bodies q))) body ∙ cells_refined q e is refined in
@@ -263,6 +264,7 @@ module _ (bodies : List Body) (p : Program) where
   stands_called L m c c' q us h room used base is = record {
     used = used;
     room = room;
+    packets = h.packets;
     level = λ x k e. get_left L (call_uses us) x (OfValue k) (h.level x k e);
     frame = λ x u e.
         let n : base_of c'.frames + x ≡ length L + suc (suc x) = omega (arith, base) in
@@ -274,6 +276,7 @@ module _ (bodies : List Body) (p : Program) where
   stands_referred L m c c' q h room used base owned = record {
     used = used;
     room = room;
+    packets = h.packets;
     level = λ x k e. get_left L link_uses x (OfValue k) (h.level x k e);
     frame = λ x u e.
         ap (λ z. slice_get (L ++ link_uses) (z + x)) base
@@ -287,7 +290,7 @@ module _ (bodies : List Body) (p : Program) where
         → e.layout ≡ layouts.Own ks us → TakeAll p ks L args → ContentCarries p q e.first con
         → (k : Option (List Value) → World → Ending) (l : Exit → Option (List Value) → World → Ending)
         → ((v : Option (List Value)) (w : World) → Result e.delivers v → w.marks ≤ b → Ends p L (at c (pc + 1) (result_ops v ++ ops)) w (k v w)) → (w : World)
-        → w.marks ≤ b → (cells : Cells) → Keeps L w.store cells
+        → w.marks ≤ b → (cells : Cells) → Keeps (P p) L w cells
         → After p (after_stage (enters (at c pc (pushed_passed p args ops)) e.first (c.used + 2) false q ops
         (frame_contents (map passed_operand args) us) cells) (free (at c pc (pushed_passed p args ops))) (scene_of w cells))
         (finish (with_room (frame (all_slots args) us)
@@ -296,7 +299,7 @@ module _ (bodies : List Body) (p : Program) where
     call_ends n b pc q L m c ops e ks us args con calls le h is own takes body k l hk w lw cells keeps =
         let now = at c pc (pushed_passed p args ops) in
         let N = length w.store in
-        let same : c.used ≡ N = omega (arith, h.used, keeps.as_many) in
+        let same : c.used ≡ N = omega (arith, h.used, keeps.command.as_many) in
         let frame' = own_uses ks us in
         let M = call_uses frame' in
         let ns = frame_contents (map passed_operand args) us in
@@ -306,12 +309,12 @@ module _ (bodies : List Body) (p : Program) where
         let l' = λ (x : Exit) (v : Option (List Value)) (w : World). k v (cut N w) in
         let go = λ (z : ℕ) (w : World). content con (record { calls = level bodies n; turns = n; base = z + 2; held = bytes_on ops (bytes_of c.frames) }) w in
         let f : Frame = record { back = pc + 1; base = c.used + 2; used = c.used; refines = false; body = q; ops = ops } in
-        enter_ends p L M (frame (all_slots args) us) ns now e.first (c.used + 2) false q ops (λ w. called N (go N w)) k l w cells h.used kept keeps (λ room.
+        enter_ends p h.packets L M (frame (all_slots args) us) ns now e.first (c.used + 2) false q ops (λ w. called N (go N w)) k l w cells h.used kept keeps (λ room.
         let base : c.used + 2 ≡ length L + 2 = omega (arith, h.used) in
-        let used : c.used + length ns ≡ length (L ++ M) = omega (arith, h.used, length-append L M, (kept_lengths L M (length L) (frame (all_slots args) us) ns kept).1) in
+        let used : c.used + length ns ≡ length (L ++ M) = omega (arith, h.used, length-append L M, (kept_lengths (P p) L M (length L) (frame (all_slots args) us) ns kept).1) in
         let within : Within p (level bodies n) n b (L ++ M) (in_body q) inner =
         record { turns = le; stands = stands_called L m c inner q frame' h room used base (frame_own q e ks us is own); carry = calls } in
-        let exits' = call_exits L q N b e ks us f c.frames k is own refl refl keeps.as_many h.used hk in
+        let exits' = call_exits L q N b e ks us f c.frames k is own refl refl keeps.command.as_many h.used hk in
         subst (λ o. Ends p (L ++ M) inner w' o) (sym (finish_called N (go N w') k l))
         (subst (λ z. Ends p (L ++ M) inner w' (finish (go z w') (λ v w. k v (cut N w)) l')) same
         (body.ends (level bodies n) n b (L ++ M) inner within l' exits' w' lw)))
@@ -321,7 +324,7 @@ module _ (bodies : List Body) (p : Program) where
         → Stands p L m c → slice_get p.bodies q ≡ Some e → IsRefinement e.layout → owner p (Some q) ≡ owner p m.body → ContentCarries p q e.first con
         → (k : Option (List Value) → World → Ending) (l : Exit → Option (List Value) → World → Ending)
         → ((v : Option (List Value)) (w : World) → Result e.delivers v → w.marks ≤ b → Ends p L (at c (pc + 1) (result_ops v ++ ops)) w (k v w))
-        → Exits p L b m.body c.frames l → (w : World) → w.marks ≤ b → (cells : Cells) → Keeps L w.store cells
+        → Exits p L b m.body c.frames l → (w : World) → w.marks ≤ b → (cells : Cells) → Keeps (P p) L w cells
         → After p (after_stage (enters (at c pc ops) e.first (base_of c.frames) true q ops link_contents cells) (free (at c pc ops)) (scene_of w cells))
         (finish (with_room link (λ w'.
         referred (length w.store)
@@ -335,13 +338,13 @@ module _ (bodies : List Body) (p : Program) where
         let go =
         λ (w : World). content con (record { calls = level bodies n; turns = n; base = base_of c.frames; held = bytes_on ops (bytes_of c.frames) }) w in
         let f : Frame = record { back = pc + 1; base = base_of c.frames; used = c.used; refines = true; body = q; ops = ops } in
-        enter_ends p L M link link_contents now e.first (base_of c.frames) true q ops (λ w. referred N (go w)) k l w cells h.used
+        enter_ends p h.packets L M link link_contents now e.first (base_of c.frames) true q ops (λ w. referred N (go w)) k l w cells h.used
         ((refl, refl), ((refl, refl), tt)) keeps
         (λ room.
         let used : c.used + length link_contents ≡ length (L ++ M) = omega (arith, h.used, length-append L M) in
         let within : Within p (level bodies n) n b (L ++ M) (in_body q) inner =
         record { turns = le; stands = stands_referred L m c inner q h room used refl owned; carry = calls } in
-        let exits' = refer_exits L q N b m.body e f c.frames k l is refined owned refl refl keeps.as_many h.used hk hl in
+        let exits' = refer_exits L q N b m.body e f c.frames k l is refined owned refl refl keeps.command.as_many h.used hk hl in
         subst (λ o. Ends p (L ++ M) inner w' o) (sym (finish_referred N (go w') k l))
         (body.ends (level bodies n) n b (L ++ M) inner within (from_refinement N k l) exits' w' lw))
 

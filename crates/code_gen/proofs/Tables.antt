@@ -12,7 +12,7 @@ use Rattle.elan_types.specs.declared.core_phrase.Scope.{Scope}
 use Rattle.elan_types.specs.declared.core_phrase.Scope.TheVariants as scopes
 use Rattle.elan_types.specs.declared.core_phrase.Body.{Body}
 use Rattle.elan_types.specs.declared.core_phrase.Core.{Core}
-use Rattle.elan_types.specs.Typing.{IsScope, IsWellTyped}
+use Rattle.elan_types.specs.Typing.{outside_of, IsScope, IsWellTyped}
 use Rattle.place_gen.specs.Stretch.{Stretch, one, keeps, all_code, action_code, content_code}
 use Rattle.place_gen.proofs.Lines.{HasAt, has_front, has_rest, has_all, join_sized}
 use Rattle.place_gen.specs.Layouts.{parameter_kind, layout_of}
@@ -49,17 +49,18 @@ module _ (core : Core) (typed : IsWellTyped core) where
   abbrev behind : ℕ
   behind = (level_code core).size
 
-  pub agrees : Agrees p core.variables core.bodies
+  pub agrees : Agrees p (outside_of core) core.bodies
   agrees = record {
     level = refl;
+    packets = refl;
     each =
         λ n b is. let e = entry_at core.bodies behind n b is in record { entry = entry_of b e.0; has = e.1; layout = refl; delivers = refl };
   }
 
   content_good : (n : ℕ) (b : Body) (is : slice_get core.bodies n ≡ Some b)
-      → IsGood p core.variables core.bodies agrees (Some n) (b, is) (content_code b.content)
+      → IsGood p (outside_of core) core.bodies agrees (Some n) (b, is) (content_code b.content)
   content_good n b is =
-      let e = agrees.each n b is in content_is p core.variables core.bodies agrees (Some n) (b, is) b.content (typed.bodies n b is) (e.entry, e.has, e.delivers)
+      let e = agrees.each n b is in content_is p (outside_of core) core.bodies agrees (Some n) (b, is) b.content (typed.bodies n b is) (e.entry, e.has, e.delivers)
 
   -- the bodies from one on
   pub record Bodies (bs : List Body) (n at : ℕ) : Type 0 where
@@ -105,7 +106,7 @@ module _ (core : Core) (typed : IsWellTyped core) where
   units = all_code (map action_code core.units)
 
   units_are : ActionTable p None units
-  units_are = all_are p core.variables core.bodies agrees None tt core.units typed.typed
+  units_are = all_are p (outside_of core) core.bodies agrees None tt core.units typed.typed
 
   level_sized : length ((level_code core).lines [] at_level 0) ≡ behind
   level_sized = join_sized units (one End keeps) units_are.sized (λ ks m pc. refl) [] at_level 0

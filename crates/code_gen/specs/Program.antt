@@ -30,6 +30,8 @@ body_lines (b ∷ bs) n at = (content_code b.content).lines [] (in_body n) at ++
 -- the command, and behind it its bodies
 abbrev pub program_of : Core → Program
 program_of core = record {
+  packets = core.packets;
+  inserted = core.inserted;
   variables = core.variables;
   bodies = entries core.bodies (level_code core).size;
   lines = (level_code core).lines [] at_level 0 ++ body_lines core.bodies 0 (level_code core).size;

@@ -5,6 +5,7 @@ ghost use Rattle.code_gen.specs.Correct.{Behaves};
 ghost use Rattle.code_gen.specs.Program.{program_of};
 
 use crate::entries::emit_bodies;
+use cell_kinds::Packet;
 use code_form::{Code, Instr};
 use elan_types::Core;
 use eu_base::NoMemory;
@@ -17,6 +18,8 @@ pub fn generate(alloc: Global, core: &Core) -> Result<Code, NoMemory>
     ensures code { IfOk result (λ code. code ≡ program_of core.now) }
     ensures behaves { IfOk result (λ code. Behaves core.now code) }
 {
+    let packets = Packet::clone_all(core.packets.as_slice(), alloc)?;
+    let inserted = core.inserted.try_clone(alloc)?;
     let variables = core.variables.try_clone(alloc)?;
     let mut out = Draft::new(alloc);
     emit_actions(&mut out, core.units.as_slice())?;
@@ -29,5 +32,5 @@ pub fn generate(alloc: Global, core: &Core) -> Result<Code, NoMemory>
         spot: _,
         wanted: _,
     } = out;
-    Ok(Code::new(variables, bodies, lines))
+    Ok(Code::new(packets, inserted, variables, bodies, lines))
 }

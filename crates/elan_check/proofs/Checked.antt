@@ -38,8 +38,10 @@ module _ (env : Env) (w : Level) where
   core_means core h a = record {
     is_built = h;
     types = a.0;
-    variables = a.1;
-    phrases = subst (λ (k : Known). judged k (text t) ≡ gives (means.Level core.units core.bodies)) (sym (known_is t)) a.2;
+    packets = a.1;
+    inserted = a.2;
+    variables = a.3;
+    phrases = subst (λ (k : Known). judged k (text t) ≡ gives (means.Level core.units core.bodies)) (sym (known_is t)) a.4;
   }
 
   is_refused : (fault : Fault) → not_built t ≡ false → Answers w (Err (NoMeaning fault.0 fault.1)) → Refused env t fault
@@ -55,7 +57,7 @@ module _ (env : Env) (w : Level) where
     only = λ other m. one_core env t core other (core_means core h a) m;
     refused = tt;
     not_built = (λ e. absurd cc, λ i. absurd (both_ways (not_built t) h i));
-    typed = a.3;
+    typed = a.5;
   }
   level_checked (Err NoMemory) h a = record {
     meaning = tt;

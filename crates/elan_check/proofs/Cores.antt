@@ -5,6 +5,7 @@ use Rattle.elan_types.specs.declared.core_phrase.Action.{Action}
 use Rattle.elan_types.specs.declared.core_phrase.Body.{Body}
 use Rattle.elan_types.specs.declared.core_phrase.Core.{Core}
 use Rattle.elan_types.specs.Typing.{IsWellTyped}
+use Rattle.elan_check.proofs.SameCore.{core_made}
 use Rattle.elan_tree.specs.declared.tree.Level.{Level}
 use Rattle.elan_scope.specs.declared.known.Known.{Known}
 use Rattle.elan_meant.specs.declared.meant.Meant.{Meant}
@@ -50,16 +51,18 @@ module _ (w : Level) (k : Known) (is : k ≡ known_of (headings w) (level_bodies
       ∙ earliest_level d (judged_all k (all_of (level_parts w))) ∙ h
 
   module _ (faultless : level_faults w ≡ []) where
-    pub core_is : (ms : List Meant) (core : Core) → judged_all k (all_of (level_parts w)) ≡ gives ms → core.variables ≡ variables_of (level_names w)
+    pub core_is : (ms : List Meant) (core : Core) → judged_all k (all_of (level_parts w)) ≡ gives ms → core.packets ≡ [] → core.inserted ≡ [] → core.variables ≡ variables_of (level_names w)
         → core.units ≡ actions_of ms → core.bodies ≡ bodies_of ms → Answers w (Ok core)
-    core_is ms core e v u b =
+    core_is ms core e none own v u b =
         let m : judged kn (level_phrase w) ≡ gives (means.Level core.units core.bodies) =
         level_is (gives ms) e ∙ ap (λ (as' : List Action). gives (means.Level as' (bodies_of ms))) (sym u)
         ∙ ap (λ (bs : List Body). gives (means.Level core.units bs)) (sym b) in (
           faultless,
+          none,
+          own,
           v,
           m,
-          subst (λ (ks : List Kind). IsWellTyped (record { variables = ks; bodies = core.bodies; units = core.units })) (sym v)
+          subst IsWellTyped (core_made core (variables_of (level_names w)) none own v)
               (level_typed w core.units core.bodies m),
         )
 

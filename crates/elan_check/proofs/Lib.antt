@@ -12,3 +12,4 @@ pub mod Over
 pub mod Clean
 pub mod Closed
 pub mod HeldTypes
+pub mod SameCore

@@ -28,6 +28,7 @@ use Rattle.type_names.specs.Faults.{first_fault, level_faults}
 use Rattle.std.proofs.lemmas.Bool.{ltb-true, ltb-false}
 use Rattle.std.specs.Prelude.{nat_lt}
 use Rattle.elan_rules.proofs.First as first
+use Rattle.elan_check.proofs.SameCore.{core_with, core_made}
 
 units_are : (as' bs : List Action) (ps qs : List Body) → Level as' ps ≡ Level bs qs → as' ≡ bs
 units_are as' bs ps qs e = cc
@@ -35,19 +36,12 @@ units_are as' bs ps qs e = cc
 bodies_are : (as' bs : List Action) (ps qs : List Body) → Level as' ps ≡ Level bs qs → ps ≡ qs
 bodies_are as' bs ps qs e = cc
 
-abbrev core_with : List Kind → List Body → List Action → Core
-core_with v b u = record { variables = v; bodies = b; units = u }
-
-core_is : (c d : Core) → c.variables ≡ d.variables → c.bodies ≡ d.bodies → c.units ≡ d.units → c ≡ d
-core_is c d e g h =
-    ap (λ (ks : List Kind). core_with ks c.bodies c.units) e
-    ∙ ap (λ (b : List Body). core_with d.variables b c.units) g
-    ∙ ap (λ (u : List Action). core_with d.variables d.bodies u) h
-
 pub one_core : (env : Env) (t : Tree) (c d : Core) → Means env t c → Means env t d → c ≡ d
 one_core env t c d h k =
     let e = first.one_meaning (known t) (text t) (Level c.units c.bodies) (Level d.units d.bodies) h.phrases k.phrases in
-    core_is c d (h.variables ∙ sym k.variables) (bodies_are c.units d.units c.bodies d.bodies e) (units_are c.units d.units c.bodies d.bodies e)
+    let vs = variables_of (level_names (level_in t)) in
+    sym (core_made c vs h.packets h.inserted h.variables) ∙ ap (λ (b : List Body). core_with vs b c.units) (bodies_are c.units d.units c.bodies d.bodies e)
+    ∙ ap (λ (u : List Action). core_with vs d.bodies u) (units_are c.units d.units c.bodies d.bodies e) ∙ core_made d vs k.packets k.inserted k.variables
 
 -- a place is not before itself, nor before one that is before it
 not_both : (m n : ℕ) → m ≤ n → n < m → ⊥
@@ -140,7 +134,7 @@ module _ (env : Env) (t : Tree) where
   meant_answer h n (gives m) e =
       let d = level_gives (known t) (level_parts (level_in t)) m e in
       meaning (core_with (variables_of (level_names (level_in t))) d.1 d.0)
-      (record { is_built = h; types = n; variables = refl; phrases = e ∙ ap (λ (k : Meant). gives k) d.2 })
+      (record { is_built = h; types = n; packets = refl; inserted = refl; variables = refl; phrases = e ∙ ap (λ (k : Meant). gives k) d.2 })
   meant_answer h n (breaks f) e =
       refusal f (record {
         is_built = h;

@@ -13,7 +13,8 @@ use Rattle.elan_types.specs.declared.core_phrase.Scope.TheVariants as owner
 use Rattle.elan_types.specs.declared.core_phrase.Body.{Body}
 use Rattle.elan_types.specs.declared.core_phrase.Core.{Core}
 use Rattle.elan_types.specs.Typing.{Home, frame_of, frame_at, frame_in, scope_of, owner_at, owner as owner_in, result_of_content, is_content_typed, IsScope}
-use Rattle.elan_types.specs.Typing.{IsWellTyped}
+use Rattle.elan_types.specs.Typing.{Outside, IsWellTyped}
+use Rattle.elan_check.proofs.SameCore.{core_with, core_made}
 use Rattle.elan_tree.specs.declared.tree.Refinement.{Refinement as Refined}
 use Rattle.elan_tree.specs.declared.tree.Level.{Level as Written}
 use Rattle.elan_tree.specs.declared.tree.LevelUnit.{LevelUnit}
@@ -118,6 +119,9 @@ module _ (w : Written) (us : List Action) (all : List Body) where
   abbrev vs : List Kind
   vs = variables_of (level_names w)
 
+  abbrev outside : Outside
+  outside = record { packets = []; variables = vs }
+
   abbrev after_units : ℕ
   after_units = b.bodies_of_units w.units
 
@@ -213,10 +217,10 @@ module _ (w : Written) (us : List Action) (all : List Body) where
   -- ---- the scopes fit
 
   abbrev level_stand : Stand
-  level_stand = record { variables = vs; bodies = all; home = None }
+  level_stand = record { outside = outside; bodies = all; home = None }
 
   abbrev stand : ℕ → Stand
-  stand n = record { variables = vs; bodies = all; home = Some n }
+  stand n = record { outside = outside; bodies = all; home = Some n }
 
   level_fits : Rows kn s all 0 hs ps all → Fits level_stand s kn
   level_fits rs =
@@ -307,17 +311,17 @@ module _ (w : Written) (us : List Action) (all : List Body) where
 
   -- ---- the content of bodies
 
-  content_typed : (n : ℕ) (what : What) (m : Meant) (c : Body) → Made what m c → ty.Good (stand n) m → is_content_typed vs all (Some n) c.content ≡ true
+  content_typed : (n : ℕ) (what : What) (m : Meant) (c : Body) → Made what m c → ty.Good (stand n) m → is_content_typed outside all (Some n) c.content ≡ true
   content_typed n (Routine sort params r) m c made g =
-      subst (λ (x : Content). is_content_typed vs all (Some n) x ≡ true) (sym made.2) (content_as_good (stand n) r m g)
-  content_typed n (Refinement home) m c made g = subst (λ (x : Content). is_content_typed vs all (Some n) x ≡ true) (sym made.1) (content_of_good (stand n) m g)
+      subst (λ (x : Content). is_content_typed outside all (Some n) x ≡ true) (sym made.2) (content_as_good (stand n) r m g)
+  content_typed n (Refinement home) m c made g = subst (λ (x : Content). is_content_typed outside all (Some n) x ≡ true) (sym made.1) (content_of_good (stand n) m g)
 
-  body_typed : Rows kn s all 0 hs ps all → (n : ℕ) (c : Body) → slice_get all n ≡ Some c → is_content_typed vs all (Some n) c.content ≡ true
+  body_typed : Rows kn s all 0 hs ps all → (n : ℕ) (c : Body) → slice_get all n ≡ Some c → is_content_typed outside all (Some n) c.content ≡ true
   body_typed rs n c e =
       let g = heading_of_body kn s all 0 hs ps all n c rs e in
       let r = row_at rs n g.0 g.1 in
       let same : r.1 ≡ c = same_body r.1 c (sym r.3 ∙ e) in
-      subst (λ (d : Body). is_content_typed vs all (Some n) d.content ≡ true) same
+      subst (λ (d : Body). is_content_typed outside all (Some n) d.content ≡ true) same
       (content_typed n g.0.what r.4.meant r.1 r.4.made
       (good (stand n) r.4.scope kn (row_fits rs n g.0.what r.4.meant r.1 r.4.scope r.3 r.4.headings r.4.level r.4.made r.4.stands) r.0 r.4.meant
       r.4.in_scope r.4.means))
@@ -397,7 +401,7 @@ module _ (w : Written) (us : List Action) (all : List Body) where
       (ty.append_typed level_stand (p.actions q.0) (p.actions_of q.1) (refined_typed (l.owner_of s.routine) c.0 q.0 c.2)
       (refinements_typed (suc k) rs q.1 q.3))
 
-  pub level_typed : MeansLevel → IsWellTyped (record { variables = vs; bodies = all; units = us })
+  pub level_typed : MeansLevel → IsWellTyped (core_with vs all us)
   level_typed e =
       let q = parts e in
       let rs = rows q in
@@ -413,6 +417,6 @@ module _ (w : Written) (us : List Action) (all : List Body) where
 -- what a text means is well typed
 pub well_typed : (env : Env) (t : Tree) (c : Core) → Means env t c → IsWellTyped c
 well_typed env t c h =
-    subst (λ (ks : List Kind). IsWellTyped (record { variables = ks; bodies = c.bodies; units = c.units })) (sym h.variables)
+    subst IsWellTyped (core_made c (variables_of (level_names (l.level_in t))) h.packets h.inserted h.variables)
     (level_typed (l.level_in t) c.units c.bodies
     (subst (λ (k : Known). judged k (l.text t) ≡ gives (Level c.units c.bodies)) (known_is t) h.phrases))

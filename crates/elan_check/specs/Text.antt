@@ -31,6 +31,8 @@ known t = known_of (headings (level_in t)) (bodies_within (text t))
 pub record Means (env : Env) (t : Tree) (c : Core) : Type 0 where
   pub is_built : not_built t ≡ false
   pub types : level_faults (level_in t) ≡ []
+  pub packets : c.packets ≡ []
+  pub inserted : c.inserted ≡ []
   pub variables : c.variables ≡ variables_of (level_names (level_in t))
   pub phrases : phrase.Means (known t) (text t) (means.Level c.units c.bodies)
 
@@ -77,6 +79,8 @@ judged_level l = phrase.judged (known_of (headings l) (level_bodies l)) (level_p
 abbrev pub Answers : Level → Result Core CheckError → Type 0
 Answers l (Ok core) =
     (level_faults l ≡ [])
+    × (core.packets ≡ [])
+    × (core.inserted ≡ [])
     × (core.variables ≡ variables_of (level_names l))
     × (judged_level l ≡ gives (means.Level core.units core.bodies))
     × IsWellTyped core

@@ -19,6 +19,7 @@ ghost use Rattle.elan_check.specs.Text as text;
 
 use crate::error::CheckError;
 use crate::routine::{Routine, is_over, judge_refinements, judge_routine};
+use cell_kinds::CellKinds;
 use elan_bodies::known_of;
 use elan_judge::judge::judge_role;
 use elan_judge::role::Wanted;
@@ -202,6 +203,8 @@ fn core_meant(
         Ok(parts) => {
             let (units, bodies) = level(alloc, parts)?;
             Ok(Core {
+                packets: List::new(alloc),
+                inserted: CellKinds::new(alloc),
                 variables,
                 bodies,
                 units,

@@ -34,68 +34,68 @@ use Rattle.elan_types.specs.declared.core_phrase.Action.TheFolds.{map-ValuePhras
 use Rattle.elan_types.specs.declared.core_phrase.Action.TheFolds.{fold-roll-ValuePhrase, fold-roll-Arm, fold-roll-ValueArm}
 use Rattle.elan_types.specs.Typing.{Typed, Taken, Home, Held, given_as, taken_by, scope_of, delivered_by, refines, owner, is_none, leaves_without, leaves_with}
 use Rattle.elan_types.specs.Typing.{left_from, frame_in, values_held, place_held, starts, actual_kind_step, has, has_shape, agree, only_if, have, all_agree}
-use Rattle.elan_types.specs.Typing.{all_true, place_kinds, phrase_shape, is_typed, if_true, item_kinds, has_part}
+use Rattle.elan_types.specs.Typing.{Outside, all_true, place_kinds, phrase_shape, is_typed, if_true, item_kinds, has_part}
 use Rattle.elan_types.specs.Typing.{request_formals, take_all, action_typed_step, place_kinds_step, value_kind_step, arm_typed_step, value_arm_kind_step}
 
 -- where a phrase stands: the variables of the level, all bodies, and the body
 pub record Stand : Type 0 where
-  pub variables : List Kind
+  pub outside : Outside
   pub bodies : List Body
   pub home : Home
 
 module _ (here : Stand) where
   abbrev pub typed : Action → Bool
-  typed = is_typed here.variables here.bodies here.home
+  typed = is_typed here.outside here.bodies here.home
 
   abbrev pub shape : ValuePhrase → Typed
-  shape = phrase_shape here.variables here.bodies here.home
+  shape = phrase_shape here.outside here.bodies here.home
 
   -- the kinds of the cells from a place on
   abbrev pub cells : PlacePhrase → List Kind
-  cells = place_kinds here.variables here.bodies here.home
+  cells = place_kinds here.outside here.bodies here.home
 
   abbrev pub arm_typed : Arm → Bool
   arm_typed =
-      fold-Arm Bool Taken (List Kind) Typed Bool Typed (action_typed_step here.variables here.bodies here.home)
-      (actual_kind_step here.variables here.bodies here.home) (place_kinds_step here.variables here.bodies here.home)
-      (value_kind_step here.variables here.bodies here.home) (arm_typed_step here.variables here.bodies here.home)
-      (value_arm_kind_step here.variables here.bodies here.home)
+      fold-Arm Bool Taken (List Kind) Typed Bool Typed (action_typed_step here.outside here.bodies here.home)
+      (actual_kind_step here.outside here.bodies here.home) (place_kinds_step here.outside here.bodies here.home)
+      (value_kind_step here.outside here.bodies here.home) (arm_typed_step here.outside here.bodies here.home)
+      (value_arm_kind_step here.outside here.bodies here.home)
 
   abbrev pub arm_shape : ValueArm → Typed
   arm_shape =
-      fold-ValueArm Bool Taken (List Kind) Typed Bool Typed (action_typed_step here.variables here.bodies here.home)
-      (actual_kind_step here.variables here.bodies here.home) (place_kinds_step here.variables here.bodies here.home)
-      (value_kind_step here.variables here.bodies here.home) (arm_typed_step here.variables here.bodies here.home)
-      (value_arm_kind_step here.variables here.bodies here.home)
+      fold-ValueArm Bool Taken (List Kind) Typed Bool Typed (action_typed_step here.outside here.bodies here.home)
+      (actual_kind_step here.outside here.bodies here.home) (place_kinds_step here.outside here.bodies here.home)
+      (value_kind_step here.outside here.bodies here.home) (arm_typed_step here.outside here.bodies here.home)
+      (value_arm_kind_step here.outside here.bodies here.home)
 
   abbrev pub actual_taken : Actual → Taken
   actual_taken =
-      fold-Actual Bool Taken (List Kind) Typed Bool Typed (action_typed_step here.variables here.bodies here.home)
-      (actual_kind_step here.variables here.bodies here.home) (place_kinds_step here.variables here.bodies here.home)
-      (value_kind_step here.variables here.bodies here.home) (arm_typed_step here.variables here.bodies here.home)
-      (value_arm_kind_step here.variables here.bodies here.home)
+      fold-Actual Bool Taken (List Kind) Typed Bool Typed (action_typed_step here.outside here.bodies here.home)
+      (actual_kind_step here.outside here.bodies here.home) (place_kinds_step here.outside here.bodies here.home)
+      (value_kind_step here.outside here.bodies here.home) (arm_typed_step here.outside here.bodies here.home)
+      (value_arm_kind_step here.outside here.bodies here.home)
 
   -- ---- one layer
 
   of_action : (y : Action-F Action Actual PlacePhrase ValuePhrase Arm ValueArm)
-      → typed (roll-Action y) ≡ action_typed_step here.variables here.bodies here.home
+      → typed (roll-Action y) ≡ action_typed_step here.outside here.bodies here.home
       (map-Action _ _ _ _ _ _ _ _ _ _ _ _ typed actual_taken cells shape arm_typed arm_shape y)
   of_action y = rw fold-roll-Action refl
 
   of_value : (y : ValuePhrase-F Action Actual PlacePhrase ValuePhrase Arm ValueArm)
       → shape (roll-ValuePhrase y)
-      ≡ value_kind_step here.variables here.bodies here.home (map-ValuePhrase _ _ _ _ _ _ _ _ _ _ _ _ typed actual_taken cells shape arm_typed arm_shape y)
+      ≡ value_kind_step here.outside here.bodies here.home (map-ValuePhrase _ _ _ _ _ _ _ _ _ _ _ _ typed actual_taken cells shape arm_typed arm_shape y)
   of_value y = rw fold-roll-ValuePhrase refl
 
   of_place : (y : PlacePhrase-F Action Actual PlacePhrase ValuePhrase Arm ValueArm)
       → cells (roll-PlacePhrase y)
-      ≡ place_kinds_step here.variables here.bodies here.home
+      ≡ place_kinds_step here.outside here.bodies here.home
       (map-PlacePhrase _ _ _ _ _ _ _ _ _ _ _ _ typed actual_taken cells shape arm_typed arm_shape y)
   of_place y = rw fold-roll-PlacePhrase refl
 
   of_actual : (y : Actual-F Action Actual PlacePhrase ValuePhrase Arm ValueArm)
       → actual_taken (roll-Actual y)
-      ≡ actual_kind_step here.variables here.bodies here.home (map-Actual _ _ _ _ _ _ _ _ _ _ _ _ typed actual_taken cells shape arm_typed arm_shape y)
+      ≡ actual_kind_step here.outside here.bodies here.home (map-Actual _ _ _ _ _ _ _ _ _ _ _ _ typed actual_taken cells shape arm_typed arm_shape y)
   of_actual y = rw fold-roll-Actual refl
 
   -- ---- places
@@ -103,7 +103,7 @@ module _ (here : Stand) where
   abbrev pub frame : List Held
   frame = frame_in here.bodies (owner here.bodies here.home)
 
-  pub variable_is : (n : ℕ) → cells (place.Variable n) ≡ drop n here.variables
+  pub variable_is : (n : ℕ) → cells (place.Variable n) ≡ drop n here.outside.variables
   variable_is n = ap cells (sym (place.rolls-Variable n)) ∙ of_place (t.Variable n)
 
   pub local_is : (n : ℕ) → cells (place.Local n) ≡ values_held (drop n frame)
@@ -246,7 +246,7 @@ module _ (here : Stand) where
       && (has Int (shape from) && (has_written Int limit && (has_written Truths c && (all_true (map typed us) && has_written Truths u))))
 
   layer : (p : PlacePhrase) (from : ValuePhrase) (w : Way) (l c : Option ValuePhrase) (us : List Action) (u : Option ValuePhrase)
-      → action_typed_step here.variables here.bodies here.home
+      → action_typed_step here.outside here.bodies here.home
       (map-Action _ _ _ _ _ _ _ _ _ _ _ _ typed actual_taken cells shape arm_typed arm_shape (t.Count p from w l c us u)) ≡ counts p from l c us u
   layer p from w None None us None = refl
   layer p from w None None us (Some u) = refl

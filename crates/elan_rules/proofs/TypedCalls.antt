@@ -106,7 +106,7 @@ WithinSized (Some v) = AllSized (all_held v.names)
 
 -- The bodies are those that a scope tells of.
 pub record Fits (here : Stand) (s : Scope) (k : Known) : Type 0 where
-  pub level : here.variables ≡ variables_of s.level
+  pub level : here.outside.variables ≡ variables_of s.level
   -- what the level and the routine hold, and that of the level is no place
   pub constant : AllConst (all_held s.level)
   pub sized : AllSized (all_held s.level)
@@ -133,7 +133,7 @@ module _ (here : Stand) where
   -- ---- what stands at places
 
   abbrev home_cells : Home → List Held
-  home_cells of_level = map OfKind here.variables
+  home_cells of_level = map OfKind here.outside.variables
   home_cells of_routine = frame here
 
   -- The cells of what is held begin at this number.
@@ -149,8 +149,8 @@ module _ (here : Stand) where
   place_lies : (home : Home) (n : ℕ) (t : ElanType) (a : Access) → AtHome home n (record { of = t; access = a }) → is_sized_type t ≡ true
       → Stays (shape_in t) (r.place_in home n a)
   place_lies of_level n t Const h z =
-      lies_by (shape_in t) (place.Variable n) _ (variable_is here n ∙ kinds_at (cell_kinds (shape_in t)) here.variables h.0 n h.1) z
-  place_lies of_level n t Var h z = absurd (no_place (cell_kinds (shape_in t)) here.variables h.0 n h.1)
+      lies_by (shape_in t) (place.Variable n) _ (variable_is here n ∙ kinds_at (cell_kinds (shape_in t)) here.outside.variables h.0 n h.1) z
+  place_lies of_level n t Var h z = absurd (no_place (cell_kinds (shape_in t)) here.outside.variables h.0 n h.1)
   place_lies of_routine n t Const h z =
       lies_by (shape_in t) (place.Local n) _ (local_is here n ∙ values_at (cell_kinds (shape_in t)) (frame here) h.0 n h.1) z
   place_lies of_routine n t Var h z =

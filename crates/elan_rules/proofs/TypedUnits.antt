@@ -284,11 +284,11 @@ module _ (here : Stand) where
       by_test false e = unreached_typed t (p.actions m) (ty.actions_typed here m g)
 
   -- the units of a body have the shapes that they ask for
-  pub content_as_good : (o : Option ElanType) (m : Meant) → Good m → is_content_typed here.variables here.bodies here.home (r.content_as o m) ≡ true
+  pub content_as_good : (o : Option ElanType) (m : Meant) → Good m → is_content_typed here.outside here.bodies here.home (r.content_as o m) ≡ true
   content_as_good None m g = ty.actions_typed here m g
   content_as_good (Some t) m g = has_self (shape_in t) _ (value_as_typed t m g)
 
-  pub content_of_good : (m : Meant) → Good m → is_content_typed here.variables here.bodies here.home (r.content_of m) ≡ true
+  pub content_of_good : (m : Meant) → Good m → is_content_typed here.outside here.bodies here.home (r.content_of m) ≡ true
   content_of_good Absent g = refl
   content_of_good (Variable at t x) g = refl
   content_of_good (Value at t v) g = has_self (shape_in t) _ g

@@ -1,12 +1,14 @@
 -- What a command does, from its start on.
-use Rattle.std.specs.Prelude.{ℕ, List, length, map}
+use Rattle.std.specs.Prelude.{ℕ, Bool, ◌&&◌, List, ◌++◌, length, map}
 use Rattle.eu_base.specs.declared.stop.Stop.{Stop}
 use Rattle.eu_base.specs.declared.stop.Stop.TheVariants.{CellRoom}
 use Rattle.eu_base.specs.declared.request.Request.{Request}
 use Rattle.eu_base.specs.declared.request.Reply.{Reply}
+use Rattle.eu_base.specs.declared.value.Kind.{Kind}
 use Rattle.eu_base.specs.Values.{blank_of}
 use Rattle.eu_base.specs.Room.{cells_fit}
 use Rattle.elan_types.specs.declared.core_phrase.Core.{Core}
+use Rattle.elan_types.specs.Typing.{all_packet_kinds}
 use Rattle.elan_types.specs.Eval as outcomes
 use Rattle.elan_types.specs.Eval.{Slot, Holds, World, Outcome, branch, Reach, level, all, act}
 
@@ -24,22 +26,32 @@ ending (outcomes.Stopped s w) = Stopped s w
 ending (outcomes.OutOfMarks w) = OutOfMarks w
 ending (outcomes.Asks q w) = Asks q w
 
--- the variables when the command starts
-abbrev pub blank_store : Core → List Slot
-blank_store core = map (λ k. Holds (blank_of k)) core.variables
+-- variables before anything was stored
+abbrev pub blanks : List Kind → List Slot
+blanks kinds = map (λ k. Holds (blank_of k)) kinds
 
-abbrev pub at_start : Core → ℕ → List Reply → World
-at_start core marks replies = record { store = blank_store core; marks = marks; replies = replies }
+-- a command starts with the variables of the packets of its task. Its own are made, those of a packet that is inserted behind them
+abbrev pub at_start : Core → List Slot → ℕ → List Reply → World
+at_start core packets marks replies = record {
+  store = blanks core.variables;
+  packets = packets ++ blanks core.inserted;
+  marks = marks;
+  replies = replies;
+}
+
+-- the variables of the command have room, and those of all packets
+abbrev pub start_fits : Core → Bool
+start_fits core = cells_fit (length core.variables) && cells_fit (length (all_packet_kinds core))
 
 -- a phrase of the level's units, with as many calls and turns as there are marks, and nothing pending
 abbrev pub from_level : Core → ℕ → Reach
 from_level core marks = record { calls = level core.bodies marks; turns = marks; base = 0; held = 0 }
 
--- the units of a command, where its variables have room
+-- the units of a command, where all variables have room
 abbrev pub evaluate_from : Core → World → Ending
 evaluate_from core w =
-    ending (branch (cells_fit (length core.variables)) (all (map act core.units) (from_level core w.marks)) (outcomes.Stopped CellRoom) w)
+    ending (branch (start_fits core) (all (map act core.units) (from_level core w.marks)) (outcomes.Stopped CellRoom) w)
 
--- a command with so many marks and with these replies
-abbrev pub evaluate : Core → ℕ → List Reply → Ending
-evaluate core marks replies = evaluate_from core (at_start core marks replies)
+-- a command with these variables of packets, with so many marks and with these replies
+abbrev pub evaluate : Core → List Slot → ℕ → List Reply → Ending
+evaluate core packets marks replies = evaluate_from core (at_start core packets marks replies)

@@ -1,10 +1,12 @@
 -- What a program does. Evaluation knows the values of variables, the marks and the replies that are left, and no code. A value is the list
 -- of the values of its cells: that of an INT, BOOL or TEXT has one, that of a row those of its items, one after another, that of a structure
 -- those of its fields.
-use Rattle.std.specs.Prelude.{ℕ, zero, suc, ◌+◌, ◌-◌, ◌*◌, Bool, true, false, not, ◌||◌, List, [], ◌∷◌, ◌++◌, map, length, take, drop, Option, Some, None}
+use Rattle.std.specs.Prelude.{ℕ, zero, suc, ◌+◌, ◌-◌, ◌*◌, Bool, true, false, cond, not, ◌||◌, List, [], ◌∷◌, ◌++◌, map, length, take, drop, Option, Some, None}
 use Rattle.std.specs.Prelude.{Ok, Err}
 use Rattle.std.specs.Prelude.{slice_get, slice_index_or, slice_set, ℤ, pos}
 use Rattle.std.specs.Ordering.{int_eq}
+use Rattle.eu_base.specs.declared.address.Area.{Area}
+use Rattle.eu_base.specs.declared.address.Area.TheVariants as areas
 use Rattle.eu_base.specs.declared.value.Kind.{Kind}
 use Rattle.eu_base.specs.declared.value.Value.{Value}
 use Rattle.eu_base.specs.declared.value.Value.TheVariants.{Int, Truth, Text}
@@ -18,6 +20,7 @@ use Rattle.eu_base.specs.declared.operation.Change.{Change}
 use Rattle.eu_base.specs.declared.operation.Change.TheVariants.{Increase}
 use Rattle.eu_base.specs.declared.operation.Way.{Way}
 use Rattle.eu_base.specs.Values.{number_of, truth_of, text_of, blank_of}
+use Rattle.eu_base.specs.Cells.{same_area}
 use Rattle.eu_base.specs.Shapes.{cell_kinds}
 use Rattle.eu_base.specs.Room.{values_bytes, value_blocks, values_blocks, place_bytes, cells_fit, bytes_fit, texts_fit}
 use Rattle.eu_base.specs.Operations.{Given, result_of, changed, is_past, has_reached, next_number, in_row}
@@ -35,8 +38,9 @@ use Rattle.elan_types.specs.declared.core_phrase.Action.TheOpen as t
 use Rattle.elan_types.specs.declared.core_phrase.Action.TheOpen.{Action-F, PlacePhrase-F, Actual-F, ValuePhrase-F, Arm-F, ValueArm-F}
 use Rattle.elan_types.specs.declared.core_phrase.Action.TheFolds.{fold-Action, fold-ValuePhrase}
 
--- where a value stands: its first slot in the store, by its number
+-- where a value stands: among the slots of the command or of the packets, its first slot by its number
 pub record Place : Type 0 where
+  pub area : Area
   pub variable : ℕ
 
 -- what a store has, one after another in order of making. Each has one cell
@@ -48,9 +52,10 @@ pub data Slot : Type 0 where
   -- a cell that only counts: a call and a refinement have two, a FOR with a limit has one
   Taken : Slot
 
--- the variables, the marks that are left, and the replies that are left
+-- the variables of the command and of its live calls, those of the packets, the marks that are left, and the replies that are left
 pub record World : Type 0 where
   pub store : List Slot
+  pub packets : List Slot
   pub marks : ℕ
   pub replies : List Reply
 
@@ -119,14 +124,19 @@ value_of _ = Int (pos 0)
 
 abbrev pub place_of : Slot → Place
 place_of (Refers x) = x
-place_of _ = record { variable = 0 }
+place_of _ = record { area = areas.Run; variable = 0 }
+
+-- the slots of an area
+abbrev pub slots_in : Area → World → List Slot
+slots_in areas.Run w = w.store
+slots_in areas.Packets w = w.packets
 
 abbrev pub fetch : Place → World → Value
-fetch x w = value_of (slot_at w.store x.variable)
+fetch x w = value_of (slot_at (slots_in x.area w) x.variable)
 
 -- so many slots further on
 abbrev pub beyond : Place → ℕ → Place
-beyond x n = record { variable = x.variable + n }
+beyond x n = record x { variable = x.variable + n }
 
 -- the value of these cells at a place
 abbrev pub fetch_all : List Kind → Place → World → List Value
@@ -142,8 +152,12 @@ abbrev pub stored_from : ℕ → List Value → List Slot → List Slot
 stored_from x [] store = store
 stored_from x (v ∷ vs) store = stored_from (x + 1) vs (slice_set store x (Holds v))
 
+-- the slots of an area, after a value was stored at a place
+abbrev pub stored_in : Area → Place → List Value → List Slot → List Slot
+stored_in area x vs slots = cond (same_area x.area area) (stored_from x.variable vs slots) slots
+
 abbrev pub assign : Place → List Value → World → World
-assign x vs w = record w { store = stored_from x.variable vs w.store }
+assign x vs w = record w { store = stored_in areas.Run x vs w.store; packets = stored_in areas.Packets x vs w.packets }
 
 -- the blocks that the texts of slots take. A pending text stands in none, and takes none
 abbrev pub slot_blocks : Slot → ℕ
@@ -164,7 +178,7 @@ load_all ks x go w = go (fetch_all ks x w) w
 
 abbrev pub save : {A : Type 0} → Place → List Value → (World → Outcome A) → World → Outcome A
 save x vs go w =
-    branch (texts_fit (values_blocks vs) (store_blocks (assign x vs w).store)) (λ w. go (assign x vs w)) (Stopped TextRoom) w
+    branch (texts_fit (values_blocks vs) (store_blocks (slots_in x.area (assign x vs w)))) (λ w. go (assign x vs w)) (Stopped TextRoom) w
 
 -- what calls of bodies do: of a PROC with what its parameters hold, and of a refinement from a body whose variables begin at a
 -- number in the store; each with so many bytes of operands pending. They deliver a value or nothing
@@ -352,8 +366,9 @@ Layer F = F (Run (Unit {0})) (Run Passed) (Run Place) (Run (List Value)) (Labell
 
 -- the place that a phrase names. An index is looked at here, once
 abbrev pub place_step : Layer PlacePhrase-F → Run Place
-place_step (t.Variable k) n w = deliver_place (record { variable = k }) n w
-place_step (t.Local k) n w = deliver_place (record { variable = n.base + k }) n w
+place_step (t.Variable k) n w = deliver_place (record { area = areas.Run; variable = k }) n w
+place_step (t.Packet k) n w = deliver_place (record { area = areas.Packets; variable = k }) n w
+place_step (t.Local k) n w = deliver_place (record { area = areas.Run; variable = n.base + k }) n w
 place_step (t.Parameter k) n w = deliver_place (place_of (slot_at w.store (n.base + k))) n w
 place_step (t.Item p a items) n w =
     bind (p n w) (λ x w. bind (a (holding_place n) w) (λ vs.

@@ -8,6 +8,7 @@ use Rattle.eu_base.specs.declared.shape.Shape.{Shape}
 use Rattle.eu_base.specs.declared.shape.Shape.TheVariants.{Cell, Row}
 use Rattle.eu_base.specs.Values.{same_kind}
 use Rattle.eu_base.specs.Shapes.{cell_kinds, joined, same_shape}
+use Rattle.cell_kinds.specs.Kinds.{packet_kinds}
 use Rattle.eu_base.specs.Operations.{operand_kinds, result_kind, change_kind, in_range}
 use Rattle.eu_base.specs.declared.request.RequestName.{RequestName}
 use Rattle.eu_base.specs.Requests.{request_kinds, request_places}
@@ -218,6 +219,15 @@ module _ (bodies : List Body) where
   left_from exits.Body (Some n) = result_of (body_at n)
   left_from exits.Around (Some n) = around (scope_of (body_at n))
 
+-- the kinds of the cells of the variables of packets, one packet behind the other, that which is inserted last
+abbrev pub all_packet_kinds : Core → List Kind
+all_packet_kinds core = packet_kinds core.packets ++ core.inserted
+
+-- the kinds of the cells of variables that stand outside of PROCs: those of packets, and those of the program
+pub record Outside : Type 0 where
+  pub packets : List Kind
+  pub variables : List Kind
+
 -- cells of these kinds stand first
 abbrev pub begins : List Kind → List Kind → Bool
 begins [] js = true
@@ -243,7 +253,7 @@ abbrev pub has_part : Part → List Kind → Typed → Bool
 has_part part ks None = false
 has_part part ks (Some s) = length (cell_kinds s) == part.of && (length ks == part.cells && begins ks (drop part.before (cell_kinds s)))
 
-module _ (variables : List Kind) (bodies : List Body) (home : Home) where
+module _ (outside : Outside) (bodies : List Body) (home : Home) where
   abbrev pub frame_here : List Held
   frame_here = frame_in bodies (owner bodies home)
 
@@ -252,7 +262,8 @@ module _ (variables : List Kind) (bodies : List Body) (home : Home) where
 
   -- the kinds of the cells that stand at a place and behind it in one variable or frame; none where it is not well typed
   abbrev pub place_kinds_step : Layer PlacePhrase-F → List Kind
-  place_kinds_step (t.Variable n) = drop n variables
+  place_kinds_step (t.Variable n) = drop n outside.variables
+  place_kinds_step (t.Packet n) = drop n outside.packets
   place_kinds_step (t.Local n) = values_held (drop n frame_here)
   place_kinds_step (t.Parameter n) = place_held (slice_get frame_here n)
   place_kinds_step (t.Item p a items) = if_true (has kinds.Int a) (item_kinds items.count items.cells p)
@@ -327,6 +338,9 @@ module _ (variables : List Kind) (bodies : List Body) (home : Home) where
   is_content_typed (contents.Units us) = all_true (map is_typed us)
   is_content_typed (contents.Value s a) = has_shape s (phrase_shape a)
 
+abbrev pub outside_of : Core → Outside
+outside_of core = record { packets = all_packet_kinds core; variables = core.variables }
+
 -- a refinement is one of a PROC, or of the level
 abbrev pub IsScope : List Body → Scope → Type 0
 IsScope bodies (Of p) =
@@ -335,6 +349,6 @@ IsScope bodies _ = Unit {0}
 
 -- the core of a text: each phrase has the kinds that it asks for
 pub record IsWellTyped (core : Core) : Type 0 where
-  pub typed : all_true (map (is_typed core.variables core.bodies None) core.units) ≡ true
+  pub typed : all_true (map (is_typed (outside_of core) core.bodies None) core.units) ≡ true
   pub scopes : (n : ℕ) (b : Body) → slice_get core.bodies n ≡ Some b → IsScope core.bodies b.scope
-  pub bodies : (n : ℕ) (b : Body) → slice_get core.bodies n ≡ Some b → is_content_typed core.variables core.bodies (Some n) b.content ≡ true
+  pub bodies : (n : ℕ) (b : Body) → slice_get core.bodies n ≡ Some b → is_content_typed (outside_of core) core.bodies (Some n) b.content ≡ true

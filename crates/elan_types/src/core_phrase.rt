@@ -1,15 +1,20 @@
 //! What a text means. Every name is resolved and every phrase has the shape of its value, so evaluation and
 //! the making of code go by structure alone. Of types a core knows nothing else.
 
-use cell_kinds::CellKinds;
+use cell_kinds::{CellKinds, Packet};
 use eu_base::{Boxed, Bytes, Change, List, Operation, RequestName, Shape, Way};
 
 /// The meaning of a program.
 #[derive(Drop)]
 pub struct Core {
-    /// The kinds of the cells of the level's variables and constants, in the order of their declarations.
+    /// The packets of the task, in the order in which they were inserted.
+    pub packets: List<Packet>,
+    /// The kinds of the cells of the variables and constants of the packet that the text is, in the order of their declarations; a
+    /// program has none here. They stand behind those of the packets of the task.
+    pub inserted: CellKinds,
+    /// The kinds of the cells of a program's variables and constants; a packet has none here.
     pub variables: CellKinds,
-    /// The PROCs and refinements. Phrases name them by their numbers here.
+    /// The PROCs and refinements, those of the packets first. Phrases name them by their numbers here.
     pub bodies: List<Body>,
     /// What the command does, in text order.
     pub units: List<Action>,
@@ -152,8 +157,10 @@ pub struct ValueArm {
 #[cycle(phrases)]
 #[derive(Drop)]
 pub enum PlacePhrase {
-    /// A variable or constant of the level, by the number of its first cell in `Core::variables`.
+    /// A variable or constant of a program, by the number of its first cell in `Core::variables`.
     Variable(usize),
+    /// A variable or constant of a packet, by the number of its first cell among those of all packets, one packet behind the other.
+    Packet(usize),
     /// A CONST parameter, variable or constant of the PROC, by the number of its first cell in the PROC's frame.
     Local(usize),
     /// What a VAR parameter of the PROC holds, by the number of its cell in the PROC's frame.

@@ -1,72 +1,119 @@
 -- What is known of the cells of a command at its start: its variables hold their first values, and of other cells nothing is known.
-use Rattle.std.proofs.Common.{◌≡◌, ℕ, zero, suc, ◌+◌, ◌<◌, ◌≤◌, Bool, true, false, cond, List, [], ◌∷◌, map, length, Some, refl, ap, ◌∙◌, arith}
+use Rattle.std.proofs.Common.{◌≡◌, ℕ, zero, suc, ◌+◌, ◌<◌, ◌≤◌, Bool, true, false, cond, List, [], ◌∷◌, ◌++◌, map, length, Some, refl, sym, ap, ◌∙◌, subst, arith}
 use Rattle.std.specs.Prelude.{slice_get}
 use Rattle.std.proofs.lemmas.Bool.{eq-eqb}
 use Rattle.std.proofs.lemmas.List.{length-map}
+use Rattle.eu_base.specs.declared.address.Area.{Area}
+use Rattle.eu_base.specs.declared.address.Area.TheVariants.{Run, Packets}
 use Rattle.eu_base.specs.declared.value.Kind.{Kind}
 use Rattle.eu_base.specs.Room.{cells_fit}
 use Rattle.eu_base.specs.Values.{blank_of}
-use Rattle.eu_base.specs.Cells.{Cell, Free, Cells, held_of, run_cell, written, AreBare}
-use Rattle.code_form.specs.Machine.{written_from}
+use Rattle.eu_base.specs.Cells.{Cell, Free, Cells, held_of, area_cell, run_cell, packet_cell, written}
+use Rattle.eu_base.proofs.Places.{same_there}
+use Rattle.cell_kinds.specs.declared.packet.Packet.{Packet}
+use Rattle.cell_kinds.specs.Kinds.{packet_kinds}
+use Rattle.code_form.specs.Program.{Program}
+use Rattle.code_form.specs.Machine.{written_in, made_in, made, CanBeMade}
 use Rattle.elan_types.specs.declared.core_phrase.Core.{Core}
-use Rattle.elan_types.specs.Command.{blank_store}
-use Rattle.place_gen.specs.Correct.{HasVariables}
+use Rattle.elan_types.specs.Eval.{Slot}
+use Rattle.elan_types.specs.Command.{blanks}
+use Rattle.place_gen.specs.Correct.{StandsFor, HasVariables, HasSlots}
 use Rattle.zero_calls.proofs.Written.{at_other, behind}
+use Rattle.code_gen.specs.Program.{program_of}
 use Rattle.code_gen.proofs.Plays.{has_blank}
 
-at_same : (cells : Cells) (k : ℕ) (n : Cell) → written cells (run_cell k) n (run_cell k) ≡ n
-at_same cells k n = ap (λ (b : Bool). cond b n (cells (run_cell k))) (eq-eqb k k refl)
+module _ (area : Area) where
+  at_same : (cells : Cells) (k : ℕ) (n : Cell) → written cells (area_cell area k) n (area_cell area k) ≡ n
+  at_same cells k n = ap (λ (b : Bool). cond b n (cells (area_cell area k))) (same_there area k k ∙ eq-eqb k k refl)
 
-before : (ns : List Cell) (at x : ℕ) (cells : Cells) → x < at → written_from at ns cells (run_cell x) ≡ cells (run_cell x)
-before [] at x cells lt = refl
-before (n ∷ ns) at x cells lt =
-    before ns (suc at) x (written cells (run_cell at) n) (omega (arith, lt)) ∙ at_other cells at x n (λ e. omega (arith, lt, e))
+  before : (ns : List Cell) (at x : ℕ) (cells : Cells) → x < at → written_in area at ns cells (area_cell area x) ≡ cells (area_cell area x)
+  before [] at x cells lt = refl
+  before (n ∷ ns) at x cells lt =
+      before ns (suc at) x (written cells (area_cell area at) n) (omega (arith, lt)) ∙ at_other area cells at x n (λ e. omega (arith, lt, e))
 
-abbrev blanks : List Kind → List Cell
-blanks kinds = map (λ k. held_of (blank_of k)) kinds
+  abbrev contents : List Kind → List Cell
+  contents kinds = map (λ k. held_of (blank_of k)) kinds
 
-made : (kinds : List Kind) (at x : ℕ) (k : Kind) (cells : Cells) → slice_get kinds x ≡ Some k
-    → written_from at (blanks kinds) cells (run_cell (at + x)) ≡ held_of (blank_of k)
-made [] at x k cells is = absurd (cc is)
-made (j ∷ kinds) at zero k cells is =
-    let e : j ≡ k = cc is in
-    let here : at + 0 ≡ at = omega arith in
-    let n = held_of (blank_of j) in
-    ap (λ y. written_from (suc at) (blanks kinds) (written cells (run_cell at) n) (run_cell y)) here
-    ∙ before (blanks kinds) (suc at) at (written cells (run_cell at) n) (omega arith) ∙ at_same cells at n ∙ ap (λ k. held_of (blank_of k)) e
-made (j ∷ kinds) at (suc x) k cells is =
-    let here : at + suc x ≡ suc at + x = omega arith in
-    ap (λ y. written_from (suc at) (blanks kinds) (written cells (run_cell at) (held_of (blank_of j))) (run_cell y)) here
-    ∙ made kinds (suc at) x k (written cells (run_cell at) (held_of (blank_of j))) is
+  each_made : (kinds : List Kind) (at x : ℕ) (k : Kind) (cells : Cells) → slice_get kinds x ≡ Some k
+      → written_in area at (contents kinds) cells (area_cell area (at + x)) ≡ held_of (blank_of k)
+  each_made [] at x k cells is = absurd (cc is)
+  each_made (j ∷ kinds) at zero k cells is =
+      let e : j ≡ k = cc is in
+      let here : at + 0 ≡ at = omega arith in
+      let n = held_of (blank_of j) in
+      ap (λ y. written_in area (suc at) (contents kinds) (written cells (area_cell area at) n) (area_cell area y)) here
+      ∙ before (contents kinds) (suc at) at (written cells (area_cell area at) n) (omega arith) ∙ at_same cells at n ∙ ap (λ k. held_of (blank_of k)) e
+  each_made (j ∷ kinds) at (suc x) k cells is =
+      let here : at + suc x ≡ suc at + x = omega arith in
+      ap (λ y. written_in area (suc at) (contents kinds) (written cells (area_cell area at) (held_of (blank_of j))) (area_cell area y)) here
+      ∙ each_made kinds (suc at) x k (written cells (area_cell area at) (held_of (blank_of j))) is
+
+  -- variables were made where nothing was known of the cells of their area
+  area_begun : (kinds : List Kind) (cells : Cells) → ((x : ℕ) → cells (area_cell area x) ≡ Free) → HasVariables area kinds (blanks kinds) (made_in area 0 kinds cells)
+  area_begun kinds cells free =
+      has_blank area kinds (made_in area 0 kinds cells)
+      (λ room x k is.
+      let here : x ≡ 0 + x = omega arith in
+      let none_before : 0 + length kinds ≡ length kinds = omega arith in
+      ap (λ b. cond b (written_in area 0 (contents kinds) cells) cells (area_cell area x)) (ap cells_fit none_before ∙ room)
+      ∙ ap (λ y. written_in area 0 (contents kinds) cells (area_cell area y)) here ∙ each_made kinds 0 x k cells is)
+      (λ x le. unknown (cells_fit (0 + length kinds)) x le)
+    where
+      unknown : (b : Bool) (x : ℕ) → length kinds ≤ x → cond b (written_in area 0 (contents kinds) cells) cells (area_cell area x) ≡ Free
+      unknown true x le =
+          let e = length-map kinds (λ k. held_of (blank_of k)) in behind area (contents kinds) 0 x cells (omega (arith, e, le)) ∙ free x
+      unknown false x le = free x
+
+  -- so it is where the cells of the area are the same
+  same_variables : (kinds : List Kind) (slots : List Slot) (old new : Cells) → ((x : ℕ) → new (area_cell area x) ≡ old (area_cell area x))
+      → HasVariables area kinds slots old → HasVariables area kinds slots new
+  same_variables kinds slots old new same h = record {
+    as_many = h.as_many;
+    each = h.each;
+    image = λ room x s e. subst (λ (c : Cell). StandsFor c s) (sym (same x)) (h.image room x s e);
+    beyond = λ x past. same x ∙ h.beyond x past;
+  }
+
+-- what is put into cells of one area changes none of the other
+beside_packets : (ns : List Cell) (at x : ℕ) (cells : Cells) → written_in Packets at ns cells (run_cell x) ≡ cells (run_cell x)
+beside_packets [] at x cells = refl
+beside_packets (n ∷ ns) at x cells = beside_packets ns (suc at) x (written cells (packet_cell at) n)
+
+beside_command : (ns : List Cell) (at x : ℕ) (cells : Cells) → written_in Run at ns cells (packet_cell x) ≡ cells (packet_cell x)
+beside_command [] at x cells = refl
+beside_command (n ∷ ns) at x cells = beside_command ns (suc at) x (written cells (run_cell at) n)
 
 -- nothing is known
 abbrev none : Cells
 none = λ _. Free
 
-abbrev begun_if : Bool → List Kind → Cells
-begun_if room kinds = cond room (written_from 0 (blanks kinds) none) none
+abbrev pub begun : Program → Cells
+begun p = made p none
 
-abbrev pub begun : List Kind → Cells
-begun kinds = begun_if (cells_fit (length kinds)) kinds
-
-pub has_begun : (core : Core) → HasVariables core.variables (blank_store core) (begun core.variables)
-has_begun core =
-    let kinds = core.variables in
-    has_blank core (begun kinds)
-    (λ room x k is. let here : x ≡ 0 + x = omega arith in
-    ap (λ b. begun_if b kinds (run_cell x)) room ∙ ap (λ y. written_from 0 (blanks kinds) none (run_cell y)) here ∙ made kinds 0 x k none is)
-    (λ x le. unknown (cells_fit (length kinds)) kinds x le)
+pub has_begun : (core : Core) → core.packets ≡ [] → HasSlots (program_of core) (blanks core.variables) (blanks core.inserted) (begun (program_of core))
+has_begun core alone = record {
+  command =
+      same_variables Run core.variables (blanks core.variables) own (made_in Packets (length (packet_kinds core.packets)) core.inserted own)
+      (λ x. still (cells_fit (length (packet_kinds core.packets) + length core.inserted)) x) (area_begun Run core.variables none (λ x. refl));
+  packets =
+      subst (λ (ps : List Packet). HasVariables Packets (packet_kinds ps ++ core.inserted) (blanks core.inserted)
+      (made_in Packets (length (packet_kinds ps)) core.inserted own)) (sym alone)
+      (area_begun Packets core.inserted own (λ x. unmade (cells_fit (0 + length core.variables)) x));
+}
   where
-    unknown : (b : Bool) (kinds : List Kind) (x : ℕ) → length kinds ≤ x → begun_if b kinds (run_cell x) ≡ Free
-    unknown true kinds x le = let e = length-map kinds (λ k. held_of (blank_of k)) in behind (blanks kinds) 0 x none (omega (arith, e, le))
-    unknown false kinds x le = refl
+    own : Cells
+    own = made_in Run 0 core.variables none
 
--- memory holds it when the variables were made, where they have room
-pub holds_begun : (kinds : List Kind) (before after : Cells → Type 0) → before none
-    → (cells_fit (length kinds) ≡ true → (cells : Cells) → before cells → AreBare 0 (length kinds) cells → after (written_from 0 (blanks kinds) cells))
-    → (cells_fit (length kinds) ≡ false → (cells : Cells) → before cells → after cells) → after (begun kinds)
-holds_begun kinds before after nothing written kept = by (cells_fit (length kinds)) refl
-  where
-    by : (b : Bool) → cells_fit (length kinds) ≡ b → after (begun_if b kinds)
-    by true e = written e none nothing (λ k le lt. refl)
-    by false e = kept e none nothing
+    still : (t : Bool) (x : ℕ)
+        → cond t (written_in Packets (length (packet_kinds core.packets)) (map (λ k. held_of (blank_of k)) core.inserted) own) own (run_cell x) ≡ own (run_cell x)
+    still true x = beside_packets (map (λ k. held_of (blank_of k)) core.inserted) (length (packet_kinds core.packets)) x own
+    still false x = refl
+
+    unmade : (t : Bool) (x : ℕ) → cond t (written_in Run 0 (map (λ k. held_of (blank_of k)) core.variables) none) none (packet_cell x) ≡ Free
+    unmade true x = beside_command (map (λ k. held_of (blank_of k)) core.variables) 0 x none
+    unmade false x = refl
+
+-- memory holds it when the variables were made
+pub holds_begun : (p : Program) (before after : Cells → Type 0) → before none → ((cells : Cells) → before cells → CanBeMade p cells → after (made p cells))
+    → after (begun p)
+holds_begun p before after nothing put = put none nothing ((λ k le lt. refl), (λ k le lt. refl))

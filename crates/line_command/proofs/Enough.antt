@@ -6,7 +6,6 @@ use Rattle.eu_base.specs.declared.stop.Stop.TheVariants.{CellRoom}
 use Rattle.eu_base.specs.declared.request.Request.{Request}
 use Rattle.eu_base.specs.declared.request.Reply.{Reply}
 use Rattle.eu_base.specs.declared.request.Reply.TheVariants as replies
-use Rattle.eu_base.specs.Room.{cells_fit}
 use Rattle.eu_base.specs.Cells.{Cells}
 use Rattle.code_form.specs.declared.halt.Halt.TheVariants as halts
 use Rattle.code_form.specs.declared.waits.Waits.{Waits}
@@ -14,7 +13,7 @@ use Rattle.code_form.specs.declared.waits.Waits.TheVariants.{Nothing, Asked, Giv
 use Rattle.code_form.specs.Program.{Program, instr_of}
 use Rattle.code_form.specs.Machine.{Position, Control, After, To, Stops, Unsaid, Move, Goes, Spends, Halts, Refuses, Ends, Unknown, Stuck, Scene, Rest, step}
 use Rattle.code_form.specs.Machine.{free, given, answered, takes_reply, Stage, On, Over, Lost}
-use Rattle.code_form.specs.Machine.{after_stage, mark_stage, move_stage, reply_stage, stage_at, advance, carry_on, exec, start}
+use Rattle.code_form.specs.Machine.{after_stage, mark_stage, move_stage, reply_stage, stage_at, advance, carry_on, exec, have_room, start}
 use Rattle.code_form.specs.Machine as machine
 use Rattle.place_gen.specs.Correct.{Shows, Comes, scene_of}
 use Rattle.code_gen.specs.Program.{program_of}
@@ -91,23 +90,23 @@ asks_pay p (suc n) c s r q e is = by (advance p c s) (λ c s e. asks_pay p n c s
     by (Over x) ih f e = let same : x ≡ r = cc e in f q (ap (λ (y : Rest). y.how) same ∙ is)
     by Lost ih f e = absurd (cc e)
 
-start_owes : (n : ℕ) → owed (start n).waits ≡ 0
-start_owes n = by (cells_fit n)
+start_owes : (p : Program) → owed (start p).waits ≡ 0
+start_owes p = by (have_room p)
   where
     by : (t : Bool) → owed (cond t Nothing (Refused CellRoom)) ≡ 0
     by true = refl
     by false = refl
 
-module _ (core : Core) (typed : IsWellTyped core) (marks : ℕ) where
+module _ (core : Core) (typed : IsWellTyped core) (alone : core.packets ≡ []) (marks : ℕ) where
   abbrev first : Cells
-  first = begun core.variables
+  first = begun (program_of core)
 
   -- where its evaluation stands at a request, it has spent more marks than it got replies
-  fewer_replies : (replies : List Reply) → AsksOnly (evaluate core marks replies) (λ _. length replies + 1 ≤ marks)
-  fewer_replies replies = by (evaluate core marks replies) comes.shows
+  fewer_replies : (replies : List Reply) → AsksOnly (evaluate core [] marks replies) (λ _. length replies + 1 ≤ marks)
+  fewer_replies replies = by (evaluate core [] marks replies) comes.shows
     where
-      comes : Comes (program_of core) (start (length (program_of core).variables)) (scene_of (at_start core marks replies) first) (evaluate core marks replies)
-      comes = (behaves core typed).ends (at_start core marks replies) first (has_begun core)
+      comes : Comes (program_of core) (start (program_of core)) (scene_of (at_start core [] marks replies) first) (evaluate core [] marks replies)
+      comes = (behaves core typed).ends (at_start core [] marks replies) first (has_begun core alone)
 
       by : (e : Ending) → Shows e comes.rest → AsksOnly e (λ _. length replies + 1 ≤ marks)
       by (Ended w) h = tt
@@ -115,12 +114,12 @@ module _ (core : Core) (typed : IsWellTyped core) (marks : ℕ) where
       by (OutOfMarks w) h = tt
       by (Asks q w) h =
           let p = program_of core in
-          let paid = asks_pay p comes.steps (start (length p.variables)) (scene_of (at_start core marks replies) first) comes.rest q comes.comes h.how in
-          omega (arith, paid, start_owes (length p.variables))
+          let paid = asks_pay p comes.steps (start p) (scene_of (at_start core [] marks replies) first) comes.rest q comes.comes h.how in
+          omega (arith, paid, start_owes p)
 
   suffices : (n : ℕ) (replies : List Reply) → marks + 1 ≤ n + length replies → length replies ≤ marks → Suffices n core marks replies
   suffices zero replies all few = absurd (omega (arith, all, few))
-  suffices (suc n) replies all few = by (evaluate core marks replies) (fewer_replies replies)
+  suffices (suc n) replies all few = by (evaluate core [] marks replies) (fewer_replies replies)
       (λ r more few. suffices n (replies ++ r ∷ []) more few)
     where
       by : (e : Ending) → AsksOnly e (λ _. length replies + 1 ≤ marks)
@@ -137,4 +136,4 @@ module _ (core : Core) (typed : IsWellTyped core) (marks : ℕ) where
 -- what a text means is well typed, and so has as many as it needs
 pub enough : ((env : Env) (t : Tree) (c : Core) → tree.Means env t c → IsWellTyped c) → (text : List ℕ) (core : Core) → Means text core
     → Suffices (line_marks + 1) core line_marks []
-enough typed text core (means t has reads m) = suffices core (typed alone t core m) line_marks (line_marks + 1) [] (omega arith) (omega arith)
+enough typed text core (means t has reads m) = suffices core (typed alone t core m) m.packets line_marks (line_marks + 1) [] (omega arith) (omega arith)

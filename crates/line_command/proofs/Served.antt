@@ -20,7 +20,7 @@ pub record IsServed (core : Core) (p : Program) (first : Cells) (control : Contr
   pub written : List Written
   -- with more replies it comes from here to the rest to which it comes from its start
   pub on : (more : List Reply) (last : Rest)
-      → Rests p (start (length p.variables)) (record { cells = first; marks = line_marks; replies = replies ++ more }) last
+      → Rests p (start p) (record { cells = first; marks = line_marks; replies = replies ++ more }) last
       → Rests p control (record { cells = cells; marks = marks; replies = more }) last
   pub shown : s ≡ put_all blank written
   pub paid : marks + length replies ≤ line_marks

@@ -7,22 +7,21 @@ use Rattle.eu_base.specs.declared.request.Request.{Request}
 use Rattle.eu_base.specs.declared.request.Reply.{Reply}
 use Rattle.eu_base.specs.declared.request.Reply.TheVariants as replies
 use Rattle.eu_base.specs.Cells.{Cells}
-use Rattle.eu_base.specs.Room.{cells_fit}
 use Rattle.code_form.specs.declared.halt.Halt.{Halt}
 use Rattle.code_form.specs.declared.halt.Halt.TheVariants as halts
 use Rattle.code_form.specs.Program.{Program}
-use Rattle.code_form.specs.Machine.{Position, Control, asking, Rest, start, answered}
+use Rattle.code_form.specs.Machine.{Position, Control, asking, Rest, have_room, start, answered}
 use Rattle.code_form.specs.declared.waits.Waits.{Waits}
 use Rattle.code_form.specs.declared.waits.Waits.TheVariants.{Nothing, Asked, Refused}
 use Rattle.code_form.specs.Runs.{Rests, IsPaused, asked}
-use Rattle.place_gen.specs.Correct.{HasVariables, Shows, Comes}
+use Rattle.place_gen.specs.Correct.{HasSlots, Shows, Comes}
 use Rattle.place_gen.specs.Correct as place
 use Rattle.code_gen.specs.Correct.{Behaves}
 use Rattle.zero_state.specs.Stepping.{scene_of}
 use Rattle.zero_machine.specs.Running.{RestsSo}
 use Rattle.elan_types.specs.declared.core_phrase.Core.{Core}
 use Rattle.elan_types.specs.Eval.{World}
-use Rattle.elan_types.specs.Command.{Ending, Ended, Stopped, OutOfMarks, Asks, evaluate, at_start, blank_store}
+use Rattle.elan_types.specs.Command.{Ending, Ended, Stopped, OutOfMarks, Asks, evaluate, at_start, blanks}
 use Rattle.line_command.specs.Screen as screen
 use Rattle.line_command.specs.Screen.{Screen, Written, written_by, blank, put, final}
 use Rattle.line_command.specs.Program as text
@@ -61,8 +60,8 @@ put_all-append s [] more = refl
 put_all-append s (w ∷ ws) more = put_all-append (put s w) ws more
 
 -- a command at its start waits for no reply
-pub start_free : (n : ℕ) → asked (start n).waits ≡ None
-start_free n = by (cells_fit n)
+pub start_free : (p : Program) → asked (start p).waits ≡ None
+start_free p = by (have_room p)
   where
     by : (t : Bool) → asked (cond t Nothing (Refused CellRoom)) ≡ None
     by true = refl
@@ -75,7 +74,7 @@ answered_free q (replies.Text t) c = refl
 answered_free q (replies.Stopped stop) c = refl
 
 -- at the start nothing was answered
-pub served_first : (core : Core) (p : Program) (first : Cells) (control : Control) → control ≡ start (length p.variables)
+pub served_first : (core : Core) (p : Program) (first : Cells) (control : Control) → control ≡ start p
     → IsServed core p first control first line_marks blank
 served_first core p first control is = record {
   replies = [];
@@ -99,10 +98,10 @@ took p w c q r cells marks more last is h =
     by (suc n, e) = (n, e)
 
 module _ (core : Core) (p : Program) (first : Cells) (control : Control) (cells : Cells) (marks : ℕ) (s : Screen)
-    (served : IsServed core p first control cells marks s) (b : Behaves core p) (has : HasVariables p.variables (blank_store core) first) where
+    (served : IsServed core p first control cells marks s) (b : Behaves core p) (has : HasSlots p (blanks core.variables) (blanks core.inserted) first) where
   -- the evaluation with the replies so far, and the rest to which the run comes next
-  pub comes : Comes p (start (length p.variables)) (place.scene_of (at_start core line_marks served.replies) first) (evaluate core line_marks served.replies)
-  comes = b.ends (at_start core line_marks served.replies) first has
+  pub comes : Comes p (start p) (place.scene_of (at_start core [] line_marks served.replies) first) (evaluate core [] line_marks served.replies)
+  comes = b.ends (at_start core [] line_marks served.replies) first has
 
   abbrev pub next : Rest
   next = comes.rest
@@ -110,7 +109,7 @@ module _ (core : Core) (p : Program) (first : Cells) (control : Control) (cells 
   pub rests : Rests p control (scene_of cells marks) next
   rests =
       served.on [] next
-      (subst (λ rs. Rests p (start (length p.variables)) (record { cells = first; marks = line_marks; replies = rs }) next) (sym (append-nil served.replies))
+      (subst (λ rs. Rests p (start p) (record { cells = first; marks = line_marks; replies = rs }) next) (sym (append-nil served.replies))
       (comes.steps, comes.comes))
 
   module _ (holds : Cells → Type 0) (h : Halt) (control' : Control) (marks' : ℕ) (so : RestsSo holds h control' marks' next) where
@@ -118,7 +117,7 @@ module _ (core : Core) (p : Program) (first : Cells) (control : Control) (cells 
     how = ap (λ (r : Rest). r.how) so.1
 
     -- what is left to write where the evaluation stands so; an evaluation is always left
-    whole_output : (e : Ending) (stop : Option Stop) → evaluate core line_marks served.replies ≡ e
+    whole_output : (e : Ending) (stop : Option Stop) → evaluate core [] line_marks served.replies ≡ e
         → ((more : Reply → Output) → output_at e more ≡ ends stop) → output_of core ≡ record { written = served.written; stop = stop }
     whole_output e stop is ended = by (line_marks + 1 - length served.replies) refl
       where
@@ -126,13 +125,13 @@ module _ (core : Core) (p : Program) (first : Cells) (control : Control) (cells 
         by zero all = absurd (omega (arith, all, served.paid))
         by (suc n) all =
             let more : Reply → Output = λ r. output_in n core line_marks (served.replies ++ r ∷ []) in
-            let left : output_at (evaluate core line_marks served.replies) more ≡ ends stop = ap (λ x. output_at x more) is ∙ ended more in
+            let left : output_at (evaluate core [] line_marks served.replies) more ≡ ends stop = ap (λ x. output_at x more) is ∙ ended more in
             served.so_far ∙ ap (λ k. behind served.written (output_in k core line_marks served.replies)) all
             ∙ ap (behind served.written) left
             ∙ ap (λ ws. record { written = ws; stop = stop }) (append-nil served.written)
 
     -- a rest that ends the program
-    whole : (e : Ending) (stop : Option Stop) (out : List ℕ) → evaluate core line_marks served.replies ≡ e
+    whole : (e : Ending) (stop : Option Stop) (out : List ℕ) → evaluate core [] line_marks served.replies ≡ e
         → ((more : Reply → Output) → output_at e more ≡ ends stop) → out ≡ final s stop → text.Shows core out
     whole e stop out is ended out_is =
         out_is ∙ ap (λ x. final x stop) served.shown
@@ -140,17 +139,17 @@ module _ (core : Core) (p : Program) (first : Cells) (control : Control) (cells 
 
     pub served_ended : h ≡ halts.Ended → (out : List ℕ) → out ≡ final s None → text.Shows core out
     served_ended is out out_is =
-        let e = shows_ended (evaluate core line_marks served.replies) next comes.shows (how ∙ is) in
+        let e = shows_ended (evaluate core [] line_marks served.replies) next comes.shows (how ∙ is) in
         whole (Ended e.0) None out e.1 (λ more. refl) out_is
 
     pub served_stopped : (stop : Stop) → h ≡ halts.Stopped stop → (out : List ℕ) → out ≡ final s (Some stop) → text.Shows core out
     served_stopped stop is out out_is =
-        let e = shows_stopped stop (evaluate core line_marks served.replies) next comes.shows (how ∙ is) in
+        let e = shows_stopped stop (evaluate core [] line_marks served.replies) next comes.shows (how ∙ is) in
         whole (Stopped stop e.0) (Some stop) out e.1 (λ more. refl) out_is
 
     pub served_marked : h ≡ halts.Marked → (out : List ℕ) → out ≡ final s (Some LineMarks) → text.Shows core out
     served_marked is out out_is =
-        let e = shows_marked (evaluate core line_marks served.replies) next comes.shows (how ∙ is) in
+        let e = shows_marked (evaluate core [] line_marks served.replies) next comes.shows (how ∙ is) in
         whole (OutOfMarks e.0) (Some LineMarks) out e.1 (λ more. refl) out_is
 
     -- and one at a request, which is answered
@@ -162,8 +161,8 @@ module _ (core : Core) (p : Program) (first : Cells) (control : Control) (cells 
           replies = served.replies ++ reply ∷ [];
           written = served.written ++ written_by q;
           on = λ more last h.
-              let whole : Rests p (start (length p.variables)) (record { cells = first; marks = line_marks; replies = served.replies ++ reply ∷ more }) last =
-              subst (λ rs. Rests p (start (length p.variables)) (record { cells = first; marks = line_marks; replies = rs }) last)
+              let whole : Rests p (start p) (record { cells = first; marks = line_marks; replies = served.replies ++ reply ∷ more }) last =
+              subst (λ rs. Rests p (start p) (record { cells = first; marks = line_marks; replies = rs }) last)
               (append_assoc served.replies (reply ∷ []) more) h in
               let there : Rests p next.control (longer (reply ∷ more) next.scene) last =
               passed p (reply ∷ more) rests.0 control (scene_of cells marks) next last paused rests.1 (served.on (reply ∷ more) last whole) in
@@ -175,7 +174,7 @@ module _ (core : Core) (p : Program) (first : Cells) (control : Control) (cells 
           shown = put_is ∙ (ap (λ x. screen.put_all x (written_by q)) served.shown ∙ sym (put_all-append blank served.written (written_by q)));
           paid = omega (arith, longer_by, served.paid, less);
           so_far =
-              let e = shows_asks q (evaluate core line_marks served.replies) next comes.shows (how ∙ is) in
+              let e = shows_asks q (evaluate core [] line_marks served.replies) next comes.shows (how ∙ is) in
               let n : ℕ = line_marks + 1 - length (served.replies ++ reply ∷ []) in
               let more : Reply → Output = λ r. output_in n core line_marks (served.replies ++ r ∷ []) in
               let one_more : line_marks + 1 - length served.replies ≡ suc n = omega (arith, longer_by, served.paid, less) in

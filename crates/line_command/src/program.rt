@@ -1,12 +1,13 @@
 //! Programs that run.
-ghost use Rattle.std.specs.Prelude.{◌≡◌, length, IfOk};
+ghost use Rattle.std.specs.Prelude.{◌≡◌, [], IfOk};
 ghost use Rattle.eu_base.specs.Cells.{Free, Cells, HasFaultCause};
 ghost use Rattle.code_form.specs.Machine.{start};
 ghost use Rattle.code_form.specs.Valid.{Fits};
-ghost use Rattle.place_gen.specs.Correct.{HasVariables};
+ghost use Rattle.place_gen.specs.Correct.{HasSlots};
+ghost use Rattle.code_gen.specs.Program.{program_of};
 ghost use Rattle.code_gen.specs.Correct.{Behaves};
 ghost use Rattle.elan_types.specs.declared.core_phrase.Core.{Core};
-ghost use Rattle.elan_types.specs.Command.{blank_store};
+ghost use Rattle.elan_types.specs.Command.{blanks};
 ghost use Rattle.elan_types.specs.Typing.{IsWellTyped};
 ghost use Rattle.line_command.specs.Program.{reply_to, Shows};
 
@@ -28,6 +29,7 @@ pub(crate) fn shown<M: Memory>(
     memory: &mut M,
 ) -> Result<Bytes, MemFault>
     requires typed { IsWellTyped core.now }
+    requires alone { core.now.packets ≡ [] }
     requires nothing { M.holds memory.old (λ _. Free) }
     ensures shows { IfOk result (Shows core.now) }
     ensures cause { HasFaultCause (M.faults memory.old) (M.faults memory.new) result }
@@ -41,7 +43,7 @@ pub(crate) fn shown<M: Memory>(
 /// Runs code from its start.
 fn run<M: Memory>(alloc: Global, code: &Code, memory: &mut M) -> Result<Bytes, MemFault>
     requires nothing { M.holds memory.old (λ _. Free) }
-    ensures shows { (core : Core) → code.now.variables ≡ core.variables → Behaves core code.now → IfOk result (Shows core) }
+    ensures shows { (core : Core) → core.packets ≡ [] → code.now ≡ program_of core → Behaves core code.now → IfOk result (Shows core) }
     ensures cause { HasFaultCause (M.faults memory.old) (M.faults memory.new) result }
 {
     let mut command = TaskRun::start(alloc, code, memory)?;
@@ -55,10 +57,10 @@ fn serve<M: Memory>(
     command: &mut TaskRun,
     memory: &mut M,
 ) -> Result<Bytes, MemFault>
-    requires starts { command.old ≡ start (length code.now.variables) }
+    requires starts { command.old ≡ start code.now }
     requires fits { Fits code.now command.old }
     ensures shows { (core : Core) (first : Cells) → M.holds memory.old first → Behaves core code.now →
-        HasVariables code.now.variables (blank_store core) first → IfOk result (Shows core) }
+        HasSlots code.now (blanks core.variables) (blanks core.inserted) first → IfOk result (Shows core) }
     ensures cause { HasFaultCause (M.faults memory.old) (M.faults memory.new) result }
 {
     let mut marks = MARKS;

@@ -8,10 +8,12 @@ use Rattle.eu_base.specs.declared.address.TheConstants.{CELLS}
 use Rattle.eu_base.specs.declared.value.Value.{Value}
 use Rattle.eu_base.specs.declared.value.Value.TheVariants.{Int, Truth, Text}
 use Rattle.eu_base.specs.Room.{value_blocks, total}
-use Rattle.eu_base.specs.Cells.{Cell, Cells, held_of, run_cell, cell_blocks, blocks_in}
+use Rattle.eu_base.specs.declared.address.Area.{Area}
+use Rattle.eu_base.specs.declared.value.Kind.{Kind}
+use Rattle.eu_base.specs.Cells.{Cell, Cells, held_of, area_cell, cell_blocks, area_blocks}
 use Rattle.code_form.specs.Machine.{content_blocks}
-use Rattle.elan_types.specs.Eval.{Slot, Taken, slot_at, slot_blocks, store_blocks}
-use Rattle.place_gen.proofs.Cells.{Use, OfValue, OfPlace, OfLimit, OfNothing, Uses, Kept, Keeps, AllKept}
+use Rattle.elan_types.specs.Eval.{Slot, Taken, World, slots_in, slot_at, slot_blocks, store_blocks}
+use Rattle.place_gen.proofs.Cells.{Use, OfValue, OfPlace, OfLimit, OfNothing, Uses, Kept, KeepsIn, Keeps, kept_in, uses_in, room_in, AllKept}
 
 total_front : (f : ℕ → ℕ) (n : ℕ) → total f (suc n) ≡ f 0 + total (λ k. f (suc k)) n
 unfolding total
@@ -42,34 +44,40 @@ held_blocks (Int z) = refl
 held_blocks (Truth b) = refl
 held_blocks (Text t) = refl
 
-kept_blocks : (L : Uses) (at : ℕ) (k : Use) (s : Slot) (n : Cell) → Kept L at k s n → cell_blocks n ≡ slot_blocks s
-kept_blocks L at (OfValue k) s n g = ap cell_blocks g.3 ∙ held_blocks g.0 ∙ ap slot_blocks (sym g.1)
-kept_blocks L at (OfPlace ks) s n g = ap cell_blocks g.4 ∙ ap slot_blocks (sym g.1)
-kept_blocks L at (OfLimit l) s n g = ap cell_blocks g.2 ∙ ap slot_blocks (sym g.0)
-kept_blocks L at OfNothing s n g = ap cell_blocks g.1 ∙ ap slot_blocks (sym g.0)
+kept_blocks : (P : List Kind) (L : Uses) (at : ℕ) (k : Use) (s : Slot) (n : Cell) → Kept P L at k s n → cell_blocks n ≡ slot_blocks s
+kept_blocks P L at (OfValue k) s n g = ap cell_blocks g.3 ∙ held_blocks g.0 ∙ ap slot_blocks (sym g.1)
+kept_blocks P L at (OfPlace ks) s n g = ap cell_blocks g.4 ∙ ap slot_blocks (sym g.1)
+kept_blocks P L at (OfLimit l) s n g = ap cell_blocks g.2 ∙ ap slot_blocks (sym g.0)
+kept_blocks P L at OfNothing s n g = ap cell_blocks g.1 ∙ ap slot_blocks (sym g.0)
 
 -- the store, and the cells that keep it
-pub same_blocks : (L : Uses) (store : List Slot) (cells : Cells) → length L ≤ CELLS → Keeps L store cells → store_blocks store ≡ blocks_in cells
-same_blocks L store cells room h =
+same_in : (area : Area) (P : List Kind) (L : Uses) (store : List Slot) (cells : Cells) → length L ≤ CELLS → KeepsIn area P L store cells
+    → store_blocks store ≡ area_blocks area cells
+same_in area P L store cells room h =
     store_is store CELLS (omega (arith, room, h.as_many))
-    ∙ total_same (λ x. slot_blocks (slot_at store x)) (λ x. cell_blocks (cells (run_cell x))) CELLS (λ x lt. ⊎_elim
+    ∙ total_same (λ x. slot_blocks (slot_at store x)) (λ x. cell_blocks (cells (area_cell area x))) CELLS (λ x lt. ⊎_elim
     (λ in_use.
     let k = slice_index_or L x OfNothing in
-    sym (kept_blocks L x k (slot_at store x) (cells (run_cell x)) (h.each x k (slice_get-get_or L x OfNothing in_use))))
+    sym (kept_blocks P L x k (slot_at store x) (cells (area_cell area x)) (h.each x k (slice_get-get_or L x OfNothing in_use))))
     (λ past.
     let a : slot_at store x ≡ Taken = get_or_past store x Taken (omega (arith, past, h.as_many)) in
     ap slot_blocks a ∙ sym (ap cell_blocks (h.beyond x past)))
     (cases_lt x (length L)))
 
+pub same_blocks : (area : Area) (P : List Kind) (L : Uses) (w : World) (cells : Cells) → length P ≤ CELLS → length L ≤ CELLS → Keeps P L w cells
+    → store_blocks (slots_in area w) ≡ area_blocks area cells
+same_blocks area P L w cells few room h =
+    same_in area P (uses_in P L area) (slots_in area w) cells (room_in area P L few room) (kept_in area P L w cells h)
+
 -- more slots, and what is put into cells for them
-pub more_blocks : (L : Uses) (at : ℕ) (M : Uses) (more : List Slot) (contents : List Cell) → AllKept L at M more contents
+pub more_blocks : (P : List Kind) (L : Uses) (at : ℕ) (M : Uses) (more : List Slot) (contents : List Cell) → AllKept P L at M more contents
     → store_blocks more ≡ content_blocks contents
-more_blocks L at [] [] [] g = refl
-more_blocks L at [] (s ∷ more) contents g = absurd g
-more_blocks L at [] [] (n ∷ contents) g = absurd g
-more_blocks L at (k ∷ M) [] contents g = absurd g
-more_blocks L at (k ∷ M) (s ∷ more) [] g = absurd g
-more_blocks L at (k ∷ M) (s ∷ more) (n ∷ contents) g =
-    let first = kept_blocks L at k s n g.0 in
-    let rest = more_blocks L (suc at) M more contents g.1 in
+more_blocks P L at [] [] [] g = refl
+more_blocks P L at [] (s ∷ more) contents g = absurd g
+more_blocks P L at [] [] (n ∷ contents) g = absurd g
+more_blocks P L at (k ∷ M) [] contents g = absurd g
+more_blocks P L at (k ∷ M) (s ∷ more) [] g = absurd g
+more_blocks P L at (k ∷ M) (s ∷ more) (n ∷ contents) g =
+    let first = kept_blocks P L at k s n g.0 in
+    let rest = more_blocks P L (suc at) M more contents g.1 in
     omega (arith, first, rest)

@@ -25,7 +25,7 @@ use Rattle.place_gen.specs.Correct.{scene_of}
 use Rattle.place_gen.proofs.Lines.{join_sized}
 use Rattle.place_gen.proofs.Homes.{LeftBy}
 use Rattle.place_gen.proofs.Cells.{Uses, Keeps}
-use Rattle.place_gen.proofs.Carry.{Any, OfShape, Result, result_ops, way_out, reach, holds_operand, Ends, Exits, Carries, Takes, TakeAll, passed_operand, pushed_passed, on_move}
+use Rattle.place_gen.proofs.Carry.{P, Any, OfShape, Result, result_ops, way_out, reach, holds_operand, Ends, Exits, Carries, Takes, TakeAll, passed_operand, pushed_passed, on_move}
 use Rattle.place_gen.proofs.Carry.{then_carries, none_carries, here, ends_at, join_carries}
 use Rattle.place_gen.proofs.Forms.{keep, keep_place, Is, IsValue, IsPlace, IsAction}
 
@@ -54,7 +54,7 @@ module _ (p : Program) where
       on_move p now (scene_of w cells) (way_out p e (result_ops v) c.used c.frames cells) (l e v w)
       (here p pc (leave_instr e k) ks m has c (result_ops v ++ ops) cells ∙ leave_move e k now cells
       ∙ result_taken k v ops (λ result. way_out p e result c.used c.frames cells) r)
-      (hl.by e k d [] tt v w r le now (omega (arith, used)) cells (subst (λ U. Keeps U w.store cells) (sym (append-nil L)) keeps))
+      (hl.by e k d [] tt v w r le now (omega (arith, used)) cells (subst (λ U. Keeps (P p) U w cells) (sym (append-nil L)) keeps))
 
 module _ (p : Program) (body : Option ℕ) where
   -- what a parameter is given, and what parameters are given

@@ -1,5 +1,5 @@
 -- How the machine follows a run, whatever phrase the run comes from.
-use Rattle.std.proofs.Common.{◌≡◌, ℕ, zero, suc, ◌+◌, ◌<◌, ◌≤◌, List, [], ◌∷◌, ◌++◌, length, Option, Some, None, Bool, true, false, cond, refl, sym, ap, ◌∙◌}
+use Rattle.std.proofs.Common.{◌≡◌, ℕ, zero, suc, ◌+◌, ◌<◌, ◌≤◌, List, [], ◌∷◌, ◌++◌, map, length, Option, Some, None, Bool, true, false, cond, refl, sym, ap, ◌∙◌}
 use Rattle.std.proofs.Common.{◌&&◌, subst, arith, append_assoc, length-append}
 use Rattle.std.specs.Prelude.{slice_get, Ok, Err}
 use Rattle.eu_base.specs.declared.address.TheConstants.{CELLS}
@@ -16,7 +16,8 @@ use Rattle.eu_base.specs.declared.shape.Shape.{Shape}
 use Rattle.eu_base.specs.declared.shape.Shape.TheVariants.{Cell}
 use Rattle.eu_base.specs.Shapes.{cell_kinds}
 use Rattle.eu_base.specs.Room.{values_bytes, values_blocks, texts_fit}
-use Rattle.eu_base.specs.Cells.{Cells, held_of, run_cell, written, cell_blocks, blocks_in}
+use Rattle.eu_base.specs.declared.address.Area.TheVariants.{Run, Packets}
+use Rattle.eu_base.specs.Cells.{Cells, held_of, written, cell_blocks, area_blocks}
 use Rattle.code_form.specs.declared.operand.Operand.{Operand}
 use Rattle.code_form.specs.declared.operand.Operand.TheVariants.{Value as Of, Place as At}
 use Rattle.code_form.specs.declared.operand.OperandKind.{OperandKind}
@@ -28,7 +29,7 @@ use Rattle.code_form.specs.declared.instr.Instr.TheVariants.{Call, Refer}
 use Rattle.code_form.specs.declared.code.Spot.{Spot}
 use Rattle.code_form.specs.declared.code.Entry.{Entry}
 use Rattle.code_form.specs.declared.code.Layout.TheVariants as layouts
-use Rattle.code_form.specs.Program.{Program, line_of, instr_of, owner}
+use Rattle.code_form.specs.Program.{Program, kinds_in_packets, line_of, instr_of, owner}
 use Rattle.code_form.specs.Machine.{Frame, Position, Control, free, asking, given, refused, answered, After as AfterMark, To, Asks as AsksFor, Move}
 use Rattle.code_form.specs.Machine.{Goes, Spends, Halts, Refuses, Ends as EndsHere, Unknown, takes, takes_all, written_all, at, operand_of, operand_bytes, bytes_on, bytes_of}
 use Rattle.code_form.specs.Machine.{base_of, back_to, out_to}
@@ -37,18 +38,18 @@ use Rattle.code_form.specs.Machine.{stage, advance, carry_on, exec}
 use Rattle.code_form.specs.Valid.{IsRefinement}
 use Rattle.elan_types.specs.declared.core_phrase.Exit.{Exit}
 use Rattle.elan_types.specs.declared.core_phrase.Exit.TheVariants as exits
-use Rattle.elan_types.specs.Eval.{Place, Slot, World, Outcome, Gives, Left, Stopped, OutOfMarks, Asks, bind, spend_at, spend}
-use Rattle.elan_types.specs.Eval.{heed, ask_at, ask, branch, or_stop, or_outside, the, assign, save, store_blocks, turns, Calls, Reach, holding}
+use Rattle.elan_types.specs.Eval.{Place, World, Outcome, Gives, Left, Stopped, OutOfMarks, Asks, bind, spend_at, spend}
+use Rattle.elan_types.specs.Eval.{heed, ask_at, ask, branch, or_stop, or_outside, the, slots_in, assign, save, store_blocks, turns, Calls, Reach, holding}
 use Rattle.elan_types.specs.Eval.{Passed, AsValue, AsPlace, all_slots}
 use Rattle.elan_types.specs.Command as endings
 use Rattle.elan_types.specs.Command.{Ending}
 use Rattle.place_gen.specs.Stretch.{Stretch, join}
-use Rattle.place_gen.specs.Correct.{RestsAs, Shows, Comes, scene_of}
+use Rattle.place_gen.specs.Correct.{addr_of, RestsAs, Shows, Comes, scene_of}
 use Rattle.place_gen.proofs.Lines.{HasAt, has_front, has_rest}
 use Rattle.elan_types.proofs.Shapes.{cell_is}
 use Rattle.place_gen.proofs.Homes.{LeftBy, frame_uses}
-use Rattle.place_gen.proofs.Cells.{Use, OfValue, Uses, AtKinds, AreCounts, counts_append, Keeps, image, writes}
-use Rattle.place_gen.proofs.Spans.{AreOf, at_this, writes_all, takes_values}
+use Rattle.place_gen.proofs.Cells.{Use, OfValue, Uses, AtKinds, AtPlace, uses_in, AreCounts, counts_append, Keeps, image}
+use Rattle.place_gen.proofs.Spans.{AreOf, place_this, writes_all, takes_values}
 use Rattle.place_gen.proofs.Blocks.{held_blocks, same_blocks}
 
 -- what an outcome goes on to, after a result and by an exit
@@ -75,11 +76,11 @@ Any L a = Unit {0}
 abbrev pub OfShape : Shape → Uses → List Value → Type 0
 OfShape s L vs = AreOf (cell_kinds s) vs
 
-abbrev pub AtShape : Shape → Uses → Place → Type 0
-AtShape s L x = AtKinds (cell_kinds s) L x.variable
+abbrev pub AtAll : List Kind → List Kind → Uses → Place → Type 0
+AtAll P ks L x = AtPlace P ks L x
 
-abbrev pub AtAll : List Kind → Uses → Place → Type 0
-AtAll ks L x = AtKinds ks L x.variable
+abbrev pub AtShape : List Kind → Shape → Uses → Place → Type 0
+AtShape P s L x = AtPlace P (cell_kinds s) L x
 
 -- those of one cell
 pub record IsOne (k : Kind) (vs : List Value) : Type 0 where
@@ -98,8 +99,8 @@ is_one k L vs h = one_of k vs (subst (λ ks. AreOf ks vs) (cell_is k) h)
 pub of_one : (k : Kind) (L : Uses) (v : Value) → IsOf k v → OfShape (Cell k) L (v ∷ [])
 of_one k L v ok = subst (λ ks. AreOf ks (v ∷ [])) (sym (cell_is k)) (ok, tt)
 
-pub at_one : (k : Kind) (L : Uses) (x : Place) → AtShape (Cell k) L x → slice_get L x.variable ≡ Some (OfValue k)
-at_one k L x h = (subst (λ ks. AtKinds ks L x.variable) (cell_is k) h).0
+pub at_one : (P : List Kind) (k : Kind) (L : Uses) (x : Place) → AtShape P (Cell k) L x → slice_get (uses_in P L x.area) x.variable ≡ Some (OfValue k)
+at_one P k L x h = (subst (λ ks. AtKinds ks (uses_in P L x.area) x.variable) (cell_is k) h.0).0
 
 -- what a body delivers
 abbrev pub Result : Option Shape → Option (List Value) → Type 0
@@ -114,7 +115,7 @@ result_ops (Some vs) = operand_of vs ∷ []
 -- the operand of what a parameter is given
 abbrev pub passed_operand : Passed → Operand
 passed_operand (AsValue vs) = operand_of vs
-passed_operand (AsPlace x) = At (run_cell x.variable)
+passed_operand (AsPlace x) = At (addr_of x)
 
 -- the bytes of an operand are those of its value
 pub operand_size : (vs : List Value) → operand_bytes (operand_of vs) ≡ values_bytes vs
@@ -137,13 +138,16 @@ pub holds_operand : (calls : Calls) (n : ℕ) (c : Position) (vs : List Value) (
 holds_operand calls n c vs ops = ap (λ b. record (reach calls n c ops) { held = b + bytes_on ops (bytes_of c.frames) }) (sym (operand_size vs))
 
 module _ (p : Program) where
+  abbrev pub P : List Kind
+  P = kinds_in_packets p
+
   -- the machine comes so to rest from any cells that keep the store
   abbrev pub Ends : Uses → Position → World → Ending → Type 0
-  Ends L c w e = (cells : Cells) → Keeps L w.store cells → Comes p (free c) (scene_of w cells) e
+  Ends L c w e = (cells : Cells) → Keeps P L w cells → Comes p (free c) (scene_of w cells) e
 
   -- a rest where the cells keep the store
-  pub resting : {L : Uses} (h : Halt) (d : Control) (w : World) (cells : Cells) → Keeps L w.store cells → RestsAs h w (rest_at h d (scene_of w cells))
-  resting {L} h d w cells keeps = record { how = refl; marks = refl; replies = refl; cells = image L w.store cells keeps }
+  pub resting : {L : Uses} (h : Halt) (d : Control) (w : World) (cells : Cells) → Keeps P L w cells → RestsAs h w (rest_at h d (scene_of w cells))
+  resting {L} h d w cells keeps = record { how = refl; marks = refl; replies = refl; command = image Run P L w.store cells keeps.command; packets = image Packets P (map OfValue P) w.packets cells keeps.packets }
 
   -- what a step leads to comes to rest so
   pub record After (st : Stage) (e : Ending) : Type 0 where
@@ -188,7 +192,7 @@ module _ (p : Program) where
   pub lead_ends : (L : Uses) (c c' : Position) (w : World) (e : Ending) → Leads c c' → Ends L c' w e → Ends L c w e
   lead_ends L c c' w e l a = λ cells h. on_step c c' (scene_of w cells) cells e (l cells) (a cells h)
 
-  pub stop_comes : (L : Uses) (d : Control) (w : World) (s : Stop) (cells : Cells) → Keeps L w.store cells → Does d (scene_of w cells) (Halts s)
+  pub stop_comes : (L : Uses) (d : Control) (w : World) (s : Stop) (cells : Cells) → Keeps P L w cells → Does d (scene_of w cells) (Halts s)
       → Comes p d (scene_of w cells) (endings.Stopped s w)
   stop_comes L d w s cells keeps h = on_does d (scene_of w cells) (Halts s) (endings.Stopped s w) h (record {
     steps = 0;
@@ -219,21 +223,22 @@ module _ (p : Program) where
   })
 
   read_ends : {L : Uses} {A : Type 0} (c : Position) (a : A) (t : Bool) (to : A → Position) (k : A → World → Ending) (l : Exit → Option (List Value) → World → Ending)
-      (w : World) (cells : Cells) → Keeps L w.store cells → Ends L (to a) w (k a w) → step p c cells ≡ cond t (Goes (to a) cells) (Halts OperandRoom)
+      (w : World) (cells : Cells) → Keeps P L w cells → Ends L (to a) w (k a w) → step p c cells ≡ cond t (Goes (to a) cells) (Halts OperandRoom)
       → Comes p (free c) (scene_of w cells) (finish (branch t (Gives a) (Stopped OperandRoom) w) k l)
   read_ends c a true to k l w cells h next e = on_step c (to a) (scene_of w cells) cells _ e (next cells h)
   read_ends {L} c a false to k l w cells h next e = stop_comes L (free c) w OperandRoom cells h (does c (scene_of w cells) (Halts OperandRoom) e)
 
   -- an instruction that writes to the cell of a variable
-  pub write_ends : {L : Uses} (c c' : Position) (w : World) (x : Place) (k : Kind) (v : Value) (e : Ending) (cells : Cells)
-      → slice_get L x.variable ≡ Some (OfValue k) → IsOf k v → Keeps L w.store cells
-      → step p c cells ≡ Goes c' (written cells (run_cell x.variable) (held_of v)) → Ends L c' (assign x (v ∷ []) w) e → Comes p (free c) (scene_of w cells) e
-  write_ends {L} c c' w x k v e cells is ok h m a =
-      on_step c c' (scene_of w cells) (written cells (run_cell x.variable) (held_of v)) e m (a _ (writes L w.store cells x.variable k v h is ok))
+  pub write_ends : {L : Uses} (c c' : Position) (w : World) (x : Place) (k : Kind) (v : Value) (e : Ending) (cells : Cells) → length P ≤ CELLS → length L ≤ CELLS
+      → slice_get (uses_in P L x.area) x.variable ≡ Some (OfValue k) → IsOf k v → Keeps P L w cells
+      → step p c cells ≡ Goes c' (written cells (addr_of x) (held_of v)) → Ends L c' (assign x (v ∷ []) w) e → Comes p (free c) (scene_of w cells) e
+  write_ends {L} c c' w x k v e cells few room is ok h m a =
+      on_step c c' (scene_of w cells) (written cells (addr_of x) (held_of v)) e m
+      (a _ (writes_all P (k ∷ []) (v ∷ []) L w cells x few room h (place_this P k L x few room is) (ok, tt)))
 
   put_by : {L : Uses} {A : Type 0} (d : Control) (c' : Position) (w : World) (x : Place) (vs : List Value) (go : World → Outcome A)
-      (k : A → World → Ending) (l : Exit → Option (List Value) → World → Ending) (cells now : Cells) (t : Bool) → Keeps L w.store cells
-      → Keeps L (assign x vs w).store now
+      (k : A → World → Ending) (l : Exit → Option (List Value) → World → Ending) (cells now : Cells) (t : Bool) → Keeps P L w cells
+      → Keeps P L (assign x vs w) now
       → Does d (scene_of w cells) (cond t (Goes c' now) (Halts TextRoom)) → Ends L c' (assign x vs w) (finish (go (assign x vs w)) k l)
       → Comes p d (scene_of w cells) (finish (branch t (λ w. go (assign x vs w)) (Stopped TextRoom) w) k l)
   put_by d c' w x vs go k l cells now true h later m next = does_go d c' (scene_of w cells) now _ m (next now later)
@@ -241,37 +246,37 @@ module _ (p : Program) where
 
   -- what stores a value at a place, where its texts have room: both sides count the same blocks
   pub put_all_ends : {L : Uses} {A : Type 0} (d : Control) (c' : Position) (w : World) (x : Place) (kinds : List Kind) (vs : List Value)
-      (go : World → Outcome A) (k : A → World → Ending) (l : Exit → Option (List Value) → World → Ending) (cells : Cells) → length L ≤ CELLS
-      → AtAll kinds L x → AreOf kinds vs → Keeps L w.store cells
-      → Does d (scene_of w cells) (cond (takes_all vs (run_cell x.variable) cells)
-      (cond (texts_fit (values_blocks vs) (blocks_in (written_all cells (run_cell x.variable) vs)))
-      (Goes c' (written_all cells (run_cell x.variable) vs)) (Halts TextRoom)) Unknown)
+      (go : World → Outcome A) (k : A → World → Ending) (l : Exit → Option (List Value) → World → Ending) (cells : Cells) → length P ≤ CELLS → length L ≤ CELLS
+      → AtAll P kinds L x → AreOf kinds vs → Keeps P L w cells
+      → Does d (scene_of w cells) (cond (takes_all vs (addr_of x) cells)
+      (cond (texts_fit (values_blocks vs) (area_blocks x.area (written_all cells (addr_of x) vs)))
+      (Goes c' (written_all cells (addr_of x) vs)) (Halts TextRoom)) Unknown)
       → Ends L c' (assign x vs w) (finish (go (assign x vs w)) k l) → Comes p d (scene_of w cells) (finish (save x vs go w) k l)
-  put_all_ends {L} d c' w x kinds vs go k l cells room is ok h m next =
-      let now = written_all cells (run_cell x.variable) vs in
-      let later = writes_all kinds vs L w.store cells x.variable room h is ok in
+  put_all_ends {L} d c' w x kinds vs go k l cells few room is ok h m next =
+      let now = written_all cells (addr_of x) vs in
+      let later = writes_all P kinds vs L w cells x few room h is ok in
       let move = λ (all : ℕ). cond (texts_fit (values_blocks vs) all) (Goes c' now) (Halts TextRoom) in
-      put_by d c' w x vs go k l cells now (texts_fit (values_blocks vs) (store_blocks (assign x vs w).store)) h later
+      put_by d c' w x vs go k l cells now (texts_fit (values_blocks vs) (store_blocks (slots_in x.area (assign x vs w)))) h later
       (m ∙ ap (λ m. move_stage m d (scene_of w cells))
-      (ap (λ t. cond t (move (blocks_in now)) Unknown) (takes_values kinds vs L w.store cells x.variable room h is ok)
-      ∙ ap move (sym (same_blocks L (assign x vs w).store now room later)))) next
+      (ap (λ t. cond t (move (area_blocks x.area now)) Unknown) (takes_values P kinds vs L w cells x few room h is ok)
+      ∙ ap move (sym (same_blocks x.area P L (assign x vs w) now few room later)))) next
 
   -- a value of one cell
   pub put_ends : {L : Uses} {A : Type 0} (d : Control) (c' : Position) (w : World) (x : Place) (kind : Kind) (v : Value) (go : World → Outcome A)
-      (k : A → World → Ending) (l : Exit → Option (List Value) → World → Ending) (cells : Cells) → length L ≤ CELLS
-      → slice_get L x.variable ≡ Some (OfValue kind) → IsOf kind v → Keeps L w.store cells
-      → Does d (scene_of w cells) (cond (takes (held_of v) (cells (run_cell x.variable)))
-      (cond (texts_fit (cell_blocks (held_of v)) (blocks_in (written cells (run_cell x.variable) (held_of v))))
-      (Goes c' (written cells (run_cell x.variable) (held_of v))) (Halts TextRoom)) Unknown)
+      (k : A → World → Ending) (l : Exit → Option (List Value) → World → Ending) (cells : Cells) → length P ≤ CELLS → length L ≤ CELLS
+      → slice_get (uses_in P L x.area) x.variable ≡ Some (OfValue kind) → IsOf kind v → Keeps P L w cells
+      → Does d (scene_of w cells) (cond (takes (held_of v) (cells (addr_of x)))
+      (cond (texts_fit (cell_blocks (held_of v)) (area_blocks x.area (written cells (addr_of x) (held_of v))))
+      (Goes c' (written cells (addr_of x) (held_of v))) (Halts TextRoom)) Unknown)
       → Ends L c' (assign x (v ∷ []) w) (finish (go (assign x (v ∷ []) w)) k l) → Comes p d (scene_of w cells) (finish (save x (v ∷ []) go w) k l)
-  put_ends {L} d c' w x kind v go k l cells room is ok h m next =
-      let now = written cells (run_cell x.variable) (held_of v) in
-      let move = λ (t : Bool) (own : ℕ). cond t (cond (texts_fit own (blocks_in now)) (Goes c' now) (Halts TextRoom)) Unknown in
-      let takes_it = takes (held_of v) (cells (run_cell x.variable)) in
-      let same : takes_it ≡ takes_all (v ∷ []) (run_cell x.variable) cells = and_true takes_it in
+  put_ends {L} d c' w x kind v go k l cells few room is ok h m next =
+      let now = written cells (addr_of x) (held_of v) in
+      let move = λ (t : Bool) (own : ℕ). cond t (cond (texts_fit own (area_blocks x.area now)) (Goes c' now) (Halts TextRoom)) Unknown in
+      let takes_it = takes (held_of v) (cells (addr_of x)) in
+      let same : takes_it ≡ takes_all (v ∷ []) (addr_of x) cells = and_true takes_it in
       let own : cell_blocks (held_of v) ≡ values_blocks (v ∷ []) = omega (arith, held_blocks v) in
-      put_all_ends d c' w x (kind ∷ []) (v ∷ []) go k l cells room (at_this kind L x.variable is) (ok, tt) h
-      (m ∙ ap (λ m. move_stage m d (scene_of w cells)) (ap (λ t. move t (cell_blocks (held_of v))) same ∙ ap (move (takes_all (v ∷ []) (run_cell x.variable) cells)) own))
+      put_all_ends d c' w x (kind ∷ []) (v ∷ []) go k l cells few room (place_this P kind L x few room is) (ok, tt) h
+      (m ∙ ap (λ m. move_stage m d (scene_of w cells)) (ap (λ t. move t (cell_blocks (held_of v))) same ∙ ap (move (takes_all (v ∷ []) (addr_of x) cells)) own))
       next
     where
       and_true : (t : Bool) → t ≡ (t && true)
@@ -281,7 +286,7 @@ module _ (p : Program) where
   -- where a body is left, the machine goes to the frame below, and on as the exit says, whatever cells were taken meanwhile to count
   pub record Exits (L : Uses) (b : ℕ) (body : Option ℕ) (fs : List Frame) (l : Exit → Option (List Value) → World → Ending) : Type 0 where
     pub by : (e : Exit) (s : Option Shape) → LeftBy p body e s → (more : Uses) → AreCounts more → (v : Option (List Value)) (w : World) → Result s v → w.marks ≤ b
-        → (c : Position) → c.used ≡ length L + length more → (cells : Cells) → Keeps (L ++ more) w.store cells
+        → (c : Position) → c.used ≡ length L + length more → (cells : Cells) → Keeps P (L ++ more) w cells
         → After (stage (way_out p e (result_ops v) c.used fs cells) c (scene_of w cells)) (l e v w)
 
   pub fewer : {L : Uses} {b b' : ℕ} {body : Option ℕ} {fs : List Frame} {l : Exit → Option (List Value) → World → Ending} → b' ≤ b → Exits L b body fs l
@@ -294,7 +299,7 @@ module _ (p : Program) where
   wider L M all h = record {
     by = λ e k d more counts v w r m c used cells keeps.
         h.by e k d (M ++ more) (counts_append M more all counts) v w r m c (omega (arith, used, length-append L M, length-append M more)) cells
-        (subst (λ U. Keeps U w.store cells) (append_assoc L M more) keeps);
+        (subst (λ U. Keeps P U w cells) (append_assoc L M more) keeps);
   }
 
   -- where the cells are in use so, with at most b marks and in a body over these frames, the machine goes from a place as the phrase
@@ -308,16 +313,16 @@ module _ (p : Program) where
   pub record Answers {A : Type 0} (L : Uses) (Good : Uses → A → Type 0) (b : ℕ) (c : Position) (r : Reply) (run : World → Outcome A) (to : A → Position)
       : Type 0 where
     pub by : (k : A → World → Ending) (l : Exit → Option (List Value) → World → Ending) → ((a : A) (w : World) → Good L a → w.marks ≤ b → Ends L (to a) w (k a w))
-        → (w : World) → w.marks ≤ b → (cells : Cells) → Keeps L w.store cells → Comes p (given c r) (scene_of w cells) (finish (run w) k l)
+        → (w : World) → w.marks ≤ b → (cells : Cells) → Keeps P L w cells → Comes p (given c r) (scene_of w cells) (finish (run w) k l)
 
   -- a mark, and what follows it: it goes on so, or stops
   pub record Goes' {A : Type 0} (L : Uses) (body : Option ℕ) (fs : List Frame) (Good : Uses → A → Type 0) (b : ℕ) (c : Position) (a : Cells → AfterMark)
       (run : World → Outcome A) (to : A → Position) : Type 0 where
     pub by : (k : A → World → Ending) (l : Exit → Option (List Value) → World → Ending) → ((a : A) (w : World) → Good L a → w.marks ≤ b → Ends L (to a) w (k a w))
-        → Exits L b body fs l → (w : World) → w.marks ≤ b → (cells : Cells) → Keeps L w.store cells
+        → Exits L b body fs l → (w : World) → w.marks ≤ b → (cells : Cells) → Keeps P L w cells
         → After (after_stage (a cells) (free c) (scene_of w cells)) (finish (run w) k l)
 
-  no_turns : {L : Uses} (m : ℕ) (a : AfterMark) (c : Position) (w : World) (cells : Cells) → m ≤ 0 → Keeps L w.store cells
+  no_turns : {L : Uses} (m : ℕ) (a : AfterMark) (c : Position) (w : World) (cells : Cells) → m ≤ 0 → Keeps P L w cells
       → After (mark_stage m a (free c) (scene_of w cells)) (endings.OutOfMarks w)
   no_turns {L} zero a c w cells le h = record {
     steps = 0;
@@ -330,7 +335,7 @@ module _ (p : Program) where
   -- a reply is heeded: it stops, or its instruction goes on with it
   heeded : {L : Uses} {A : Type 0} {Good : Uses → A → Type 0} (b : ℕ) (r : Reply) (q : Request) (c : Position) (run : Reply → World → Outcome A)
       (to : A → Position) → ((r : Reply) → Answers L Good b c r (run r) to) → (k : A → World → Ending) (l : Exit → Option (List Value) → World → Ending)
-      → ((a : A) (w : World) → Good L a → w.marks ≤ b → Ends L (to a) w (k a w)) → (w : World) → w.marks ≤ b → (cells : Cells) → Keeps L w.store cells
+      → ((a : A) (w : World) → Good L a → w.marks ≤ b → Ends L (to a) w (k a w)) → (w : World) → w.marks ≤ b → (cells : Cells) → Keeps P L w cells
       → Comes p (answered q r c) (scene_of w cells) (finish (heed r run w) k l)
   heeded b replies.Done q c run to h k l hk w le cells keeps = (h replies.Done).by k l hk w le cells keeps
   heeded b (replies.Text t) q c run to h k l hk w le cells keeps = (h (replies.Text t)).by k l hk w le cells keeps
@@ -343,7 +348,7 @@ module _ (p : Program) where
 
   replied : {L : Uses} {A : Type 0} {Good : Uses → A → Type 0} (b : ℕ) (rs : List Reply) (q : Request) (c : Position) (run : Reply → World → Outcome A)
       (to : A → Position) → ((r : Reply) → Answers L Good b c r (run r) to) → (k : A → World → Ending) (l : Exit → Option (List Value) → World → Ending)
-      → ((a : A) (w : World) → Good L a → w.marks ≤ b → Ends L (to a) w (k a w)) → (w : World) → w.marks ≤ b → (cells : Cells) → Keeps L w.store cells
+      → ((a : A) (w : World) → Good L a → w.marks ≤ b → Ends L (to a) w (k a w)) → (w : World) → w.marks ≤ b → (cells : Cells) → Keeps P L w cells
       → After (reply_stage rs q c (scene_of w cells)) (finish (ask_at rs q w run) k l)
   replied {L} b [] q c run to h k l hk w le cells keeps = record {
     steps = 0;
@@ -395,7 +400,7 @@ module _ (p : Program) where
 
     -- an instruction that delivers what it reads in the cells, where it has room
     pub reads_carries : {A : Type 0} {Good : Uses → A → Type 0} (b : ℕ) (c : Position) (give : World → A) (fits : World → Bool) (to : A → Position)
-        → ((w : World) (cells : Cells) → Keeps L w.store cells
+        → ((w : World) (cells : Cells) → Keeps P L w cells
         → Good L (give w) × (step p c cells ≡ cond (fits w) (Goes (to (give w)) cells) (Halts OperandRoom)))
         → Carries L body fs Good b c (λ w. branch (fits w) (Gives (give w)) (Stopped OperandRoom) w) to
     reads_carries b c give fits to e =
@@ -413,7 +418,7 @@ module _ (p : Program) where
     spent : {A : Type 0} {Good : Uses → A → Type 0} (b m : ℕ) (c : Position) (a : Cells → AfterMark) (run : World → Outcome A) (to : A → Position)
         → ((b' : ℕ) → b' < b → Goes' L body fs Good b' c a run to) → (k : A → World → Ending) (l : Exit → Option (List Value) → World → Ending)
         → ((a : A) (w : World) → Good L a → w.marks ≤ b → Ends L (to a) w (k a w)) → Exits L b body fs l → (w : World) → m ≤ b → (cells : Cells)
-        → Keeps L w.store cells → m ≡ w.marks → After (mark_stage m (a cells) (free c) (scene_of w cells)) (finish (spend_at m w run) k l)
+        → Keeps P L w cells → m ≡ w.marks → After (mark_stage m (a cells) (free c) (scene_of w cells)) (finish (spend_at m w run) k l)
     spent b zero c a run to r k l hk hl w le cells h is = record {
       steps = 0;
       rest = rest_at halts.Marked (free c) (scene_of w cells);
@@ -526,7 +531,7 @@ module _ (p : Program) where
   -- what a parameter takes
   abbrev pub Takes : OperandKind → Uses → Passed → Type 0
   Takes (operand.Value s) L a = (vs : List Value) × (a ≡ AsValue vs) × AreOf (cell_kinds s) vs
-  Takes (operand.Place s) L a = (x : Place) × (a ≡ AsPlace x) × AtShape s L x
+  Takes (operand.Place s) L a = (x : Place) × (a ≡ AsPlace x) × AtShape P s L x
 
   abbrev pub TakeAll : List OperandKind → Uses → List Passed → Type 0
   TakeAll [] L [] = Unit {0}
@@ -537,6 +542,7 @@ module _ (p : Program) where
   pub record Stands (L : Uses) (m : Spot) (c : Position) : Type 0 where
     pub used : c.used ≡ length L
     pub room : length L ≤ CELLS
+    pub packets : length P ≤ CELLS
     pub level : (x : ℕ) (k : Kind) → slice_get p.variables x ≡ Some k → slice_get L x ≡ Some (OfValue k)
     pub frame : (x : ℕ) (u : Use) → slice_get (frame_uses p m.body) x ≡ Some u → slice_get L (base_of c.frames + x) ≡ Some u
 

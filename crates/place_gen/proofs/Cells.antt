@@ -1,9 +1,9 @@
 -- What the cells in use hold, and how it changes when a variable is written and when cells are taken and given back.
-use Rattle.std.proofs.Common.{◌≡◌, ℕ, zero, suc, ◌+◌, ◌<◌, ◌≤◌, ◌%◌, List, [], ◌∷◌, ◌++◌, length, take, Some, Bool, true, false, cond}
+use Rattle.std.proofs.Common.{◌≡◌, ℕ, zero, suc, ◌+◌, ◌<◌, ◌≤◌, ◌%◌, List, [], ◌∷◌, ◌++◌, map, length, take, Some, Bool, true, false, cond}
 use Rattle.std.proofs.Common.{nat_le, nat_lt, ◌&&◌, refl, sym, ap, ◌∙◌, subst, arith, append_assoc, get_or-set_other, get_or-set_same}
 use Rattle.std.proofs.Common.{length-set, length-append, ⊎_elim}
-use Rattle.std.specs.Prelude.{slice_get, slice_set, slice_index_or, ℤ}
-use Rattle.std.proofs.lemmas.List.{append-nil, length-take-le, get_or-take, get_or_append_left}
+use Rattle.std.specs.Prelude.{◌==◌, slice_get, slice_set, slice_index_or, ℤ}
+use Rattle.std.proofs.lemmas.List.{append-nil, length-map, length-take-le, get_or-take, get_or_append_left}
 use Rattle.std.proofs.lemmas.Bool.{cases_lt}
 use Rattle.std.proofs.Math.Seq.{get_or-append_seam}
 use Rattle.std.proofs.lemmas.Option.{slice_get_within, slice_get-get_or}
@@ -13,15 +13,19 @@ use Rattle.std.specs.Int.{cast_signed, cast_unsigned, w16}
 use Rattle.std.specs.Int.RustNames.{FitsSigned}
 use Rattle.eu_base.specs.declared.address.TheConstants.{CELLS}
 use Rattle.eu_base.specs.declared.address.Addr.{Addr}
+use Rattle.eu_base.specs.declared.address.Area.{Area}
+use Rattle.eu_base.specs.declared.address.Area.TheVariants.{Run, Packets}
 use Rattle.eu_base.specs.declared.value.Kind.{Kind}
 use Rattle.eu_base.specs.declared.value.Kind.TheVariants as kinds
 use Rattle.eu_base.specs.declared.value.Value.{Value}
 use Rattle.eu_base.specs.declared.value.Value.TheVariants.{Int, Truth, Text}
 use Rattle.eu_base.specs.Values.{IsOf, number_in}
-use Rattle.eu_base.specs.Cells.{Cell, Free, Word, Cells, held_of, run_cell, written, forgotten, place_in}
+use Rattle.eu_base.specs.Cells.{Cell, Free, Word, Cells, held_of, IsCell, area_cell, run_cell, packet_cell, same_cell, written, forgotten, is_between}
+use Rattle.eu_base.specs.Cells.{place_number, place_in}
+use Rattle.eu_base.proofs.Places.{place_back, same_there}
 use Rattle.code_form.specs.Machine.{Move, on_word, on_number, on_cell, takes, written_from, is_free, are_free}
-use Rattle.elan_types.specs.Eval.{Place, Slot, Holds, Refers, Taken, slot_at, value_of, place_of}
-use Rattle.place_gen.specs.Correct.{StandsFor, Image}
+use Rattle.elan_types.specs.Eval.{Place, Slot, Holds, Refers, Taken, World, slots_in, slot_at, value_of, place_of}
+use Rattle.place_gen.specs.Correct.{addr_of, StandsFor, Image}
 
 bits : (z : ℤ) → FitsSigned w16 z → cast_unsigned w16 z < 65536
 bits z f = omega (arith, ints)
@@ -93,18 +97,50 @@ abbrev pub AtKinds : List Kind → Uses → ℕ → Type 0
 AtKinds [] L x = x ≤ length L
 AtKinds (k ∷ ks) L x = (slice_get L x ≡ Some (OfValue k)) × AtKinds ks L (x + 1)
 
--- a slot with this number, and what its cell holds. A VAR parameter refers to a variable before it
-abbrev pub Kept : Uses → ℕ → Use → Slot → Cell → Type 0
-Kept L at (OfValue k) s n = (v : Value) × (s ≡ Holds v) × IsOf k v × (n ≡ held_of v)
-Kept L at (OfPlace ks) s n = (x : Place) × (s ≡ Refers x) × (x.variable + length ks ≤ at) × AtKinds ks L x.variable × (n ≡ Word x.variable)
-Kept L at (OfLimit l) s n = (s ≡ Taken) × FitsSigned w16 l × (n ≡ held_of (Int l))
-Kept L at OfNothing s n = (s ≡ Taken) × (n ≡ Word 0)
+-- the cells in use of an area: these of the command, and those of packets, which hold values of these kinds
+abbrev pub uses_in : List Kind → Uses → Area → Uses
+uses_in P L Run = L
+uses_in P L Packets = map OfValue P
 
--- the store has what the cells in use are for, the cells hold it, and nothing is known of the others
-pub record Keeps (L : Uses) (store : List Slot) (cells : Cells) : Type 0 where
-  pub as_many : length store ≡ length L
-  pub each : (x : ℕ) (k : Use) → slice_get L x ≡ Some k → Kept L x k (slot_at store x) (cells (run_cell x))
-  pub beyond : (x : ℕ) → length L ≤ x → cells (run_cell x) ≡ Free
+-- values of these kinds stand in the cells from a place on
+abbrev pub AtPlace : List Kind → List Kind → Uses → Place → Type 0
+AtPlace P ks L x = AtKinds ks (uses_in P L x.area) x.variable × IsCell (addr_of x)
+
+-- what ends with a cell of an area stands before one of the command
+abbrev pub StandsBefore : ℕ → Area → ℕ → Type 0
+StandsBefore at Run end = end ≤ at
+StandsBefore at Packets end = Unit {0}
+
+-- a slot with this number, and what its cell holds. A VAR parameter refers to a variable before it, or to one of a packet
+abbrev pub Kept : List Kind → Uses → ℕ → Use → Slot → Cell → Type 0
+Kept P L at (OfValue k) s n = (v : Value) × (s ≡ Holds v) × IsOf k v × (n ≡ held_of v)
+Kept P L at (OfPlace ks) s n =
+    (x : Place) × (s ≡ Refers x) × StandsBefore at x.area (x.variable + length ks) × AtPlace P ks L x × (n ≡ Word (place_number (addr_of x)))
+Kept P L at (OfLimit l) s n = (s ≡ Taken) × FitsSigned w16 l × (n ≡ held_of (Int l))
+Kept P L at OfNothing s n = (s ≡ Taken) × (n ≡ Word 0)
+
+-- slots have what the cells in use of an area are for, the cells hold it, and nothing is known of the others
+pub record KeepsIn (area : Area) (P : List Kind) (L : Uses) (slots : List Slot) (cells : Cells) : Type 0 where
+  pub as_many : length slots ≡ length L
+  pub each : (x : ℕ) (k : Use) → slice_get L x ≡ Some k → Kept P L x k (slot_at slots x) (cells (area_cell area x))
+  pub beyond : (x : ℕ) → length L ≤ x → cells (area_cell area x) ≡ Free
+
+-- so it is in both areas
+pub record KeepsAll (P : List Kind) (L : Uses) (store others : List Slot) (cells : Cells) : Type 0 where
+  pub command : KeepsIn Run P L store cells
+  pub packets : KeepsIn Packets P (map OfValue P) others cells
+
+abbrev pub Keeps : List Kind → Uses → World → Cells → Type 0
+Keeps P L w cells = KeepsAll P L w.store w.packets cells
+
+pub kept_in : (area : Area) (P : List Kind) (L : Uses) (w : World) (cells : Cells) → Keeps P L w cells → KeepsIn area P (uses_in P L area) (slots_in area w) cells
+kept_in Run P L w cells h = h.command
+kept_in Packets P L w cells h = h.packets
+
+-- both areas have room
+pub room_in : (area : Area) (P : List Kind) (L : Uses) → length P ≤ CELLS → length L ≤ CELLS → length (uses_in P L area) ≤ CELLS
+room_in Run P L few room = room
+room_in Packets P L few room = omega (arith, few, length-map P OfValue)
 
 pub get_left : {A : Type 0} (xs ys : List A) (i : ℕ) (x : A) → slice_get xs i ≡ Some x → slice_get (xs ++ ys) i ≡ Some x
 get_left [] ys i x e = let f : ⊥ = cc in absurd f
@@ -132,46 +168,45 @@ pub at_front : (ks : List Kind) (L M : Uses) (x : ℕ) → x + length ks ≤ len
 at_front [] L M x le h = omega (arith, le)
 at_front (k ∷ ks) L M x le h = (sym (get_back L M x (omega (arith, le))) ∙ h.0, at_front ks L M (x + 1) (omega (arith, le)) h.1)
 
--- so the cells hold the store
-pub image : (L : Uses) (store : List Slot) (cells : Cells) → Keeps L store cells → Image store cells
-image L store cells h room x s e =
-    let within : x < length L = omega (arith, slice_get_within store x s e, h.as_many) in
+-- so the cells hold the slots
+pub image : (area : Area) (P : List Kind) (L : Uses) (slots : List Slot) (cells : Cells) → KeepsIn area P L slots cells → Image area slots cells
+image area P L slots cells h room x s e =
+    let within : x < length L = omega (arith, slice_get_within slots x s e, h.as_many) in
     let k = slice_index_or L x OfNothing in
-    let same : slot_at store x ≡ s = some_is _ s (sym (slice_get-get_or store x Taken (slice_get_within store x s e)) ∙ e) in
-    by k (subst (λ s. Kept L x k s (cells (run_cell x))) same (h.each x k (slice_get-get_or L x OfNothing within)))
+    let same : slot_at slots x ≡ s = some_is _ s (sym (slice_get-get_or slots x Taken (slice_get_within slots x s e)) ∙ e) in
+    by k (subst (λ s. Kept P L x k s (cells (area_cell area x))) same (h.each x k (slice_get-get_or L x OfNothing within)))
   where
-    by : (k : Use) → Kept L x k s (cells (run_cell x)) → StandsFor (cells (run_cell x)) s
-    by (OfValue k) g = subst (StandsFor (cells (run_cell x))) (sym g.1) g.3
-    by (OfPlace ks) g = subst (StandsFor (cells (run_cell x))) (sym g.1) g.4
-    by (OfLimit l) g = subst (StandsFor (cells (run_cell x))) (sym g.0) tt
-    by OfNothing g = subst (StandsFor (cells (run_cell x))) (sym g.0) tt
+    by : (k : Use) → Kept P L x k s (cells (area_cell area x)) → StandsFor (cells (area_cell area x)) s
+    by (OfValue k) g = subst (StandsFor (cells (area_cell area x))) (sym g.1) g.3
+    by (OfPlace ks) g = subst (StandsFor (cells (area_cell area x))) (sym g.1) g.4
+    by (OfLimit l) g = subst (StandsFor (cells (area_cell area x))) (sym g.0) tt
+    by OfNothing g = subst (StandsFor (cells (area_cell area x))) (sym g.0) tt
 
 -- what a variable holds is read out of its cell
-pub reads : (L : Uses) (store : List Slot) (cells : Cells) (x : ℕ) (k : Kind) (go : Value → Move) → Keeps L store cells → slice_get L x ≡ Some (OfValue k)
-    → IsOf k (value_of (slot_at store x)) × (on_cell k (cells (run_cell x)) go ≡ go (value_of (slot_at store x)))
-reads L store cells x k go h e =
+pub reads : (area : Area) (P : List Kind) (L : Uses) (slots : List Slot) (cells : Cells) (x : ℕ) (k : Kind) (go : Value → Move) → KeepsIn area P L slots cells
+    → slice_get L x ≡ Some (OfValue k)
+    → IsOf k (value_of (slot_at slots x)) × (on_cell k (cells (area_cell area x)) go ≡ go (value_of (slot_at slots x)))
+reads area P L slots cells x k go h e =
     let g = h.each x (OfValue k) e in
-    let same : value_of (slot_at store x) ≡ g.0 = ap value_of g.1 in
+    let same : value_of (slot_at slots x) ≡ g.0 = ap value_of g.1 in
     (subst (IsOf k) (sym same) g.2, ap (λ c. on_cell k c go) g.3 ∙ value_back k g.0 go g.2 ∙ ap go (sym same))
 
 -- and the place that a VAR parameter holds
-pub refers : (L : Uses) (store : List Slot) (cells : Cells) (x : ℕ) (ks : List Kind) (go : Addr → Move) → length L ≤ CELLS → Keeps L store cells
-    → slice_get L x ≡ Some (OfPlace ks) → AtKinds ks L (place_of (slot_at store x)).variable
-    × (on_word (cells (run_cell x)) (λ n. go (place_in n)) ≡ go (run_cell (place_of (slot_at store x)).variable))
-refers L store cells x ks go room h e =
+pub refers : (P : List Kind) (L : Uses) (store : List Slot) (cells : Cells) (x : ℕ) (ks : List Kind) (go : Addr → Move) → KeepsIn Run P L store cells
+    → slice_get L x ≡ Some (OfPlace ks) → AtPlace P ks L (place_of (slot_at store x))
+    × (on_word (cells (run_cell x)) (λ n. go (place_in n)) ≡ go (addr_of (place_of (slot_at store x))))
+refers P L store cells x ks go h e =
     let g = h.each x (OfPlace ks) e in
-    let same : place_of (slot_at store x) ≡ g.0 = ap place_of g.1 in
-    let is : AtKinds ks L (place_of (slot_at store x)).variable = subst (λ (y : Place). AtKinds ks L y.variable) (sym same) g.3 in
-    let at : (place_of (slot_at store x)).variable ≡ g.0.variable = ap (λ (y : Place). y.variable) same in
-    let small : (place_of (slot_at store x)).variable < CELLS = omega (arith, slice_get_within L x (OfPlace ks) e, room, g.2, at) in
-    let n : cells (run_cell x) ≡ Word (place_of (slot_at store x)).variable = g.4 ∙ ap (λ (y : Place). Word y.variable) (sym same) in
-    let m : (place_of (slot_at store x)).variable % CELLS ≡ (place_of (slot_at store x)).variable = omega arith in
-    (is, ap (λ c. on_word c (λ n. go (place_in n))) n ∙ ap (λ n. go (run_cell n)) m)
+    let y = place_of (slot_at store x) in
+    let same : y ≡ g.0 = ap place_of g.1 in
+    let is : AtPlace P ks L y = subst (AtPlace P ks L) (sym same) g.3 in
+    let n : cells (run_cell x) ≡ Word (place_number (addr_of y)) = g.4 ∙ ap (λ (y : Place). Word (place_number (addr_of y))) (sym same) in
+    (is, ap (λ c. on_word c (λ n. go (place_in n))) n ∙ ap go (place_back (addr_of y) is.1))
 
 -- and a limit
-pub reads_limit : (L : Uses) (store : List Slot) (cells : Cells) (x : ℕ) (l : ℤ) (go : ℤ → Move) → Keeps L store cells
+pub reads_limit : (P : List Kind) (L : Uses) (store : List Slot) (cells : Cells) (x : ℕ) (l : ℤ) (go : ℤ → Move) → KeepsIn Run P L store cells
     → slice_get L x ≡ Some (OfLimit l) → on_number (cells (run_cell x)) go ≡ go l
-reads_limit L store cells x l go h e =
+reads_limit P L store cells x l go h e =
     let g = h.each x (OfLimit l) e in
     ap (λ c. on_number c go) g.2 ∙ ap go (number_back l g.1)
 
@@ -182,44 +217,64 @@ free_beyond (n ∷ ns) at cells h =
     ap (λ c. is_free c && are_free (suc at) ns cells) (h at (omega arith)) ∙ free_beyond ns (suc at) cells (λ x le. h x (omega (arith, le)))
 
 -- a value of its kind is written to a variable
-pub writes : (L : Uses) (store : List Slot) (cells : Cells) (x : ℕ) (k : Kind) (v : Value) → Keeps L store cells → slice_get L x ≡ Some (OfValue k) → IsOf k v
-    → Keeps L (slice_set store x (Holds v)) (written cells (run_cell x) (held_of v))
-writes L store cells x k v h e ok =
-    let within : x < length store = omega (arith, slice_get_within L x (OfValue k) e, h.as_many) in
+pub writes : (area : Area) (P : List Kind) (L : Uses) (slots : List Slot) (cells : Cells) (x : ℕ) (k : Kind) (v : Value) → KeepsIn area P L slots cells
+    → slice_get L x ≡ Some (OfValue k) → IsOf k v → KeepsIn area P L (slice_set slots x (Holds v)) (written cells (area_cell area x) (held_of v))
+writes area P L slots cells x k v h e ok =
+    let within : x < length slots = omega (arith, slice_get_within L x (OfValue k) e, h.as_many) in
+    let now = written cells (area_cell area x) (held_of v) in
+    let tell : (y : ℕ) → now (area_cell area y) ≡ cond (y == x) (held_of v) (cells (area_cell area y)) =
+    λ y. ap (λ b. cond b (held_of v) (cells (area_cell area y))) (same_there area y x) in
     record {
-      as_many = length-set store x (Holds v) ∙ h.as_many;
+      as_many = length-set slots x (Holds v) ∙ h.as_many;
       each = λ y k' e'. ⊎_elim
           (λ t.
           let used_for : OfValue k ≡ k' = some_is (OfValue k) k' (sym e ∙ ap (slice_get L) (sym t.1) ∙ e') in
-          let slot : slot_at (slice_set store x (Holds v)) y ≡ Holds v =
-          ap (slot_at (slice_set store x (Holds v))) t.1 ∙ get_or-set_same store x (Holds v) Taken within in
-          let number : written cells (run_cell x) (held_of v) (run_cell y) ≡ held_of v = ap (λ b. cond b (held_of v) (cells (run_cell y))) t.0 in
-          subst (λ k'. Kept L y k' (slot_at (slice_set store x (Holds v)) y) (written cells (run_cell x) (held_of v) (run_cell y))) used_for
-          (v, slot, ok, number))
+          let slot : slot_at (slice_set slots x (Holds v)) y ≡ Holds v =
+          ap (slot_at (slice_set slots x (Holds v))) t.1 ∙ get_or-set_same slots x (Holds v) Taken within in
+          let number : now (area_cell area y) ≡ held_of v = tell y ∙ ap (λ b. cond b (held_of v) (cells (area_cell area y))) t.0 in
+          subst (λ k'. Kept P L y k' (slot_at (slice_set slots x (Holds v)) y) (now (area_cell area y))) used_for (v, slot, ok, number))
           (λ t.
-          let slot : slot_at (slice_set store x (Holds v)) y ≡ slot_at store y = get_or-set_other store x y (Holds v) Taken t.1 in
-          let number : written cells (run_cell x) (held_of v) (run_cell y) ≡ cells (run_cell y) = ap (λ b. cond b (held_of v) (cells (run_cell y))) t.0 in
-          subst (λ n. Kept L y k' (slot_at (slice_set store x (Holds v)) y) n) (sym number)
-          (subst (λ s. Kept L y k' s (cells (run_cell y))) (sym slot) (h.each y k' e')))
+          let slot : slot_at (slice_set slots x (Holds v)) y ≡ slot_at slots y = get_or-set_other slots x y (Holds v) Taken t.1 in
+          let number : now (area_cell area y) ≡ cells (area_cell area y) = tell y ∙ ap (λ b. cond b (held_of v) (cells (area_cell area y))) t.0 in
+          subst (λ n. Kept P L y k' (slot_at (slice_set slots x (Holds v)) y) n) (sym number)
+          (subst (λ s. Kept P L y k' s (cells (area_cell area y))) (sym slot) (h.each y k' e')))
           (eqb_tells y x);
       beyond = λ y past. ⊎_elim (λ t. absurd (omega (arith, past, within, h.as_many, t.1)))
-          (λ t. ap (λ b. cond b (held_of v) (cells (run_cell y))) t.0 ∙ h.beyond y past) (eqb_tells y x);
+          (λ t. tell y ∙ ap (λ b. cond b (held_of v) (cells (area_cell area y))) t.0 ∙ h.beyond y past) (eqb_tells y x);
     }
 
 -- a variable's cell takes each value of its kind
-pub takes_value : (L : Uses) (store : List Slot) (cells : Cells) (x : ℕ) (k : Kind) (v : Value) → Keeps L store cells → slice_get L x ≡ Some (OfValue k)
-    → IsOf k v → takes (held_of v) (cells (run_cell x)) ≡ true
-takes_value L store cells x k v h e ok = let g = h.each x (OfValue k) e in ap (takes (held_of v)) g.3 ∙ takes_held k v g.0 ok g.2
+pub takes_value : (area : Area) (P : List Kind) (L : Uses) (slots : List Slot) (cells : Cells) (x : ℕ) (k : Kind) (v : Value) → KeepsIn area P L slots cells
+    → slice_get L x ≡ Some (OfValue k) → IsOf k v → takes (held_of v) (cells (area_cell area x)) ≡ true
+takes_value area P L slots cells x k v h e ok = let g = h.each x (OfValue k) e in ap (takes (held_of v)) g.3 ∙ takes_held k v g.0 ok g.2
+
+-- what is known of the cells of packets, where they are as before
+pub packets_stay : (P : List Kind) (L : Uses) (slots : List Slot) (cells now : Cells) → ((x : ℕ) → now (packet_cell x) ≡ cells (packet_cell x))
+    → KeepsIn Packets P L slots cells → KeepsIn Packets P L slots now
+packets_stay P L slots cells now same h = record {
+  as_many = h.as_many;
+  each = λ x k e. subst (Kept P L x k (slot_at slots x)) (sym (same x)) (h.each x k e);
+  beyond = λ x past. same x ∙ h.beyond x past;
+}
+
+-- and of the command
+pub command_stays : (P : List Kind) (L : Uses) (slots : List Slot) (cells now : Cells) → ((x : ℕ) → now (run_cell x) ≡ cells (run_cell x))
+    → KeepsIn Run P L slots cells → KeepsIn Run P L slots now
+command_stays P L slots cells now same h = record {
+  as_many = h.as_many;
+  each = λ x k e. subst (Kept P L x k (slot_at slots x)) (sym (same x)) (h.each x k e);
+  beyond = λ x past. same x ∙ h.beyond x past;
+}
 
 -- the cells from one up to another, after they were given back
 abbrev pub emptied : (Cell → Cell) → ℕ → ℕ → Cells → Cells
-emptied gone from until cells = λ a. cond (nat_le from a.cell && nat_lt a.cell until) (gone (cells a)) (cells a)
+emptied gone from until cells = λ a. cond (is_between from until a) (gone (cells a)) (cells a)
 
 -- the cells behind some are given back, where nothing is known then of what was kept in them
-pub cuts : (gone : Cell → Cell) (L M : Uses) (store : List Slot) (cells : Cells) (n from used : ℕ) → n ≡ length L → from ≡ length L → used ≡ length (L ++ M)
-    → ((x : ℕ) (k : Use) (s : Slot) (c : Cell) → length L ≤ x → slice_get (L ++ M) x ≡ Some k → Kept (L ++ M) x k s c → gone c ≡ Free)
-    → Keeps (L ++ M) store cells → Keeps L (take n store) (emptied gone from used cells)
-cuts gone L M store cells n from used is from_is used_is lost h =
+cuts_command : (gone : Cell → Cell) (P : List Kind) (L M : Uses) (store : List Slot) (cells : Cells) (n from used : ℕ) → n ≡ length L → from ≡ length L → used ≡ length (L ++ M)
+    → ((x : ℕ) (k : Use) (s : Slot) (c : Cell) → length L ≤ x → slice_get (L ++ M) x ≡ Some k → Kept P (L ++ M) x k s c → gone c ≡ Free)
+    → KeepsIn Run P (L ++ M) store cells → KeepsIn Run P L (take n store) (emptied gone from used cells)
+cuts_command gone P L M store cells n from used is from_is used_is lost h =
     let long : length L ≤ length store = omega (arith, h.as_many, length-append L M) in
     record {
       as_many = length-take-le n store (omega arith) ∙ is;
@@ -229,16 +284,21 @@ cuts gone L M store cells n from used is from_is used_is lost h =
           let low : nat_le from x ≡ false = grind (arith, nat_tests) in
           let same : emptied gone from used cells (run_cell x) ≡ cells (run_cell x) =
           ap (λ b. cond (b && nat_lt x used) (gone (cells (run_cell x))) (cells (run_cell x))) low in
-          subst (Kept L x k (slot_at (take n store) x)) (sym same)
-          (subst (λ s. Kept L x k s (cells (run_cell x))) (sym slot) (by x k within (h.each x k (get_left L M x k e))));
+          subst (Kept P L x k (slot_at (take n store) x)) (sym same)
+          (subst (λ s. Kept P L x k s (cells (run_cell x))) (sym slot) (by x k within (h.each x k (get_left L M x k e))));
       beyond = λ x past.
           let high : nat_le from x ≡ true = grind (arith, nat_tests) in
           ap (λ b. cond (b && nat_lt x used) (gone (cells (run_cell x))) (cells (run_cell x))) high ∙ behind x past (nat_lt x used) refl;
     }
   where
-    by : (x : ℕ) (k : Use) → x < length L → Kept (L ++ M) x k (slot_at store x) (cells (run_cell x)) → Kept L x k (slot_at store x) (cells (run_cell x))
+    front : (ks : List Kind) (area : Area) (x y : ℕ) → x < length L → StandsBefore x area (y + length ks) → AtKinds ks (uses_in P (L ++ M) area) y
+        → AtKinds ks (uses_in P L area) y
+    front ks Run x y lt low at_y = at_front ks L M y (omega (arith, low, lt)) at_y
+    front ks Packets x y lt low at_y = at_y
+
+    by : (x : ℕ) (k : Use) → x < length L → Kept P (L ++ M) x k (slot_at store x) (cells (run_cell x)) → Kept P L x k (slot_at store x) (cells (run_cell x))
     by x (OfValue k) lt g = g
-    by x (OfPlace ks) lt g = (g.0, g.1, g.2, at_front ks L M g.0.variable (omega (arith, g.2, lt)) g.3, g.4)
+    by x (OfPlace ks) lt g = (g.0, g.1, g.2, (front ks g.0.area x g.0.variable lt g.2 g.3.0, g.3.1), g.4)
     by x (OfLimit l) lt g = g
     by x OfNothing lt g = g
 
@@ -250,50 +310,66 @@ cuts gone L M store cells n from used is from_is used_is lost h =
         lost x k (slot_at store x) (cells (run_cell x)) past is_for (h.each x k is_for)
     behind x past false e = let after : used ≤ x = grind (arith, nat_tests, e) in h.beyond x (omega (arith, after, used_is))
 
+pub cuts : (gone : Cell → Cell) (P : List Kind) (L M : Uses) (w : World) (cells : Cells) (n from used : ℕ) → n ≡ length L → from ≡ length L
+    → used ≡ length (L ++ M)
+    → ((x : ℕ) (k : Use) (s : Slot) (c : Cell) → length L ≤ x → slice_get (L ++ M) x ≡ Some k → Kept P (L ++ M) x k s c → gone c ≡ Free)
+    → Keeps P (L ++ M) w cells → Keeps P L (record w { store = take n w.store }) (emptied gone from used cells)
+cuts gone P L M w cells n from used is from_is used_is lost h = record {
+  command = cuts_command gone P L M w.store cells n from used is from_is used_is lost h.command;
+  packets = packets_stay P (map OfValue P) w.packets cells (emptied gone from used cells) (λ x. refl) h.packets;
+}
+
 -- a limit is a number, which can be forgotten
-pub limit_forgotten : (L : Uses) (l : ℤ) (x : ℕ) (k : Use) (s : Slot) (c : Cell) → length L ≤ x → slice_get (L ++ OfLimit l ∷ []) x ≡ Some k
-    → Kept (L ++ OfLimit l ∷ []) x k s c → forgotten c ≡ Free
-limit_forgotten L l x k s c past e g =
+pub limit_forgotten : (P : List Kind) (L : Uses) (l : ℤ) (x : ℕ) (k : Use) (s : Slot) (c : Cell) → length L ≤ x → slice_get (L ++ OfLimit l ∷ []) x ≡ Some k
+    → Kept P (L ++ OfLimit l ∷ []) x k s c → forgotten c ≡ Free
+limit_forgotten P L l x k s c past e g =
     let U = L ++ OfLimit l ∷ [] in
     let n : x ≡ length L + 0 = omega (arith, slice_get_within U x k e, past, length-append L (OfLimit l ∷ [])) in
     let is : OfLimit l ≡ k = some_is (OfLimit l) k (sym (get_right L (OfLimit l ∷ []) 0) ∙ ap (slice_get U) (sym n) ∙ e) in
-    let kept : Kept U x (OfLimit l) s c = subst (λ k. Kept U x k s c) (sym is) g in
+    let kept : Kept P U x (OfLimit l) s c = subst (λ k. Kept P U x k s c) (sym is) g in
     ap forgotten kept.2
 
 -- more cells are taken, and hold what is for them
-abbrev pub AllKept : Uses → ℕ → Uses → List Slot → List Cell → Type 0
-AllKept L at [] [] [] = Unit {0}
-AllKept L at (k ∷ M) (s ∷ more) (n ∷ numbers) = Kept L at k s n × AllKept L (suc at) M more numbers
-AllKept L at _ _ _ = ⊥
+abbrev pub AllKept : List Kind → Uses → ℕ → Uses → List Slot → List Cell → Type 0
+AllKept P L at [] [] [] = Unit {0}
+AllKept P L at (k ∷ M) (s ∷ more) (n ∷ numbers) = Kept P L at k s n × AllKept P L (suc at) M more numbers
+AllKept P L at _ _ _ = ⊥
 
-kept_wider : (L M : Uses) (at : ℕ) (k : Use) (s : Slot) (n : Cell) → Kept L at k s n → Kept (L ++ M) at k s n
-kept_wider L M at (OfValue k) s n g = g
-kept_wider L M at (OfPlace ks) s n g = (g.0, g.1, g.2, at_wider ks L M g.0.variable g.3, g.4)
-kept_wider L M at (OfLimit l) s n g = g
-kept_wider L M at OfNothing s n g = g
+wider_in : (ks : List Kind) (P : List Kind) (L M : Uses) (area : Area) (x : ℕ) → AtKinds ks (uses_in P L area) x → AtKinds ks (uses_in P (L ++ M) area) x
+wider_in ks P L M Run x h = at_wider ks L M x h
+wider_in ks P L M Packets x h = h
 
-pub extends_one : (L : Uses) (store : List Slot) (cells : Cells) (k : Use) (s : Slot) (n : Cell) → Keeps L store cells → Kept L (length L) k s n
-    → Keeps (L ++ k ∷ []) (store ++ s ∷ []) (written cells (run_cell (length L)) n)
-extends_one L store cells k s n h g = record {
+pub place_wider : (ks : List Kind) (P : List Kind) (L M : Uses) (x : Place) → AtPlace P ks L x → AtPlace P ks (L ++ M) x
+place_wider ks P L M x h = (wider_in ks P L M x.area x.variable h.0, h.1)
+
+kept_wider : (P : List Kind) (L M : Uses) (at : ℕ) (k : Use) (s : Slot) (n : Cell) → Kept P L at k s n → Kept P (L ++ M) at k s n
+kept_wider P L M at (OfValue k) s n g = g
+kept_wider P L M at (OfPlace ks) s n g = (g.0, g.1, g.2, place_wider ks P L M g.0 g.3, g.4)
+kept_wider P L M at (OfLimit l) s n g = g
+kept_wider P L M at OfNothing s n g = g
+
+extends_command : (P : List Kind) (L : Uses) (store : List Slot) (cells : Cells) (k : Use) (s : Slot) (n : Cell) → KeepsIn Run P L store cells
+    → Kept P L (length L) k s n → KeepsIn Run P (L ++ k ∷ []) (store ++ s ∷ []) (written cells (run_cell (length L)) n)
+extends_command P L store cells k s n h g = record {
   as_many = omega (arith, h.as_many, length-append store (s ∷ []), length-append L (k ∷ []));
   each = λ x k' e. ⊎_elim
       (λ t.
       let used_for : k ≡ k' = some_is k k' (sym (ap (slice_get (L ++ k ∷ [])) t.1 ∙ last L k) ∙ e) in
       let slot : slot_at (store ++ s ∷ []) x ≡ s = ap (slot_at (store ++ s ∷ [])) (t.1 ∙ sym h.as_many) ∙ get_or-append_seam store s [] Taken in
       let number : written cells (run_cell (length L)) n (run_cell x) ≡ n = ap (λ b. cond b n (cells (run_cell x))) t.0 in
-      let kept = kept_wider L (k ∷ []) (length L) k s n g in
-      subst (λ k'. Kept (L ++ k ∷ []) x k' (slot_at (store ++ s ∷ []) x) (written cells (run_cell (length L)) n (run_cell x))) used_for
-      (subst (λ m. Kept (L ++ k ∷ []) x k (slot_at (store ++ s ∷ []) x) m) (sym number)
-      (subst (λ s'. Kept (L ++ k ∷ []) x k s' n) (sym slot) (subst (λ at. Kept (L ++ k ∷ []) at k s n) (sym t.1) kept))))
+      let kept = kept_wider P L (k ∷ []) (length L) k s n g in
+      subst (λ k'. Kept P (L ++ k ∷ []) x k' (slot_at (store ++ s ∷ []) x) (written cells (run_cell (length L)) n (run_cell x))) used_for
+      (subst (λ m. Kept P (L ++ k ∷ []) x k (slot_at (store ++ s ∷ []) x) m) (sym number)
+      (subst (λ s'. Kept P (L ++ k ∷ []) x k s' n) (sym slot) (subst (λ at. Kept P (L ++ k ∷ []) at k s n) (sym t.1) kept))))
       (λ t.
       let most : x < length L + 1 = omega (arith, slice_get_within (L ++ k ∷ []) x k' e, length-append L (k ∷ [])) in
       let within : x < length L = less x (length L) t.1 most in
       let old : slice_get L x ≡ Some k' = sym (get_back L (k ∷ []) x within) ∙ e in
       let slot : slot_at (store ++ s ∷ []) x ≡ slot_at store x = get_or_append_left store (s ∷ []) Taken x (omega (arith, within, h.as_many)) in
       let number : written cells (run_cell (length L)) n (run_cell x) ≡ cells (run_cell x) = ap (λ b. cond b n (cells (run_cell x))) t.0 in
-      subst (λ m. Kept (L ++ k ∷ []) x k' (slot_at (store ++ s ∷ []) x) m) (sym number)
-      (subst (λ s'. Kept (L ++ k ∷ []) x k' s' (cells (run_cell x))) (sym slot)
-      (kept_wider L (k ∷ []) x k' (slot_at store x) (cells (run_cell x)) (h.each x k' old))))
+      subst (λ m. Kept P (L ++ k ∷ []) x k' (slot_at (store ++ s ∷ []) x) m) (sym number)
+      (subst (λ s'. Kept P (L ++ k ∷ []) x k' s' (cells (run_cell x))) (sym slot)
+      (kept_wider P L (k ∷ []) x k' (slot_at store x) (cells (run_cell x)) (h.each x k' old))))
       (eqb_tells x (length L));
   beyond = λ x past. ⊎_elim (λ t. absurd (omega (arith, past, length-append L (k ∷ []), t.1)))
       (λ t. ap (λ b. cond b n (cells (run_cell x))) t.0 ∙ h.beyond x (omega (arith, past, length-append L (k ∷ [])))) (eqb_tells x (length L));
@@ -305,28 +381,48 @@ extends_one L store cells k s n h g = record {
     less : (a b : ℕ) → (a ≡ b → ⊥) → a < b + 1 → a < b
     less a b ne lt = ⊎_elim (λ l. l) (λ le. let e : a ≡ b = omega (arith, lt, le) in absurd (ne e)) (cases_lt a b)
 
-pub extends : (M : Uses) (L : Uses) (store more : List Slot) (cells : Cells) (numbers : List Cell) → Keeps L store cells → AllKept L (length L) M more numbers
-    → Keeps (L ++ M) (store ++ more) (written_from (length L) numbers cells)
-extends [] L store [] cells [] h g = subst (λ U. Keeps U (store ++ []) cells) (sym (append-nil L)) (subst (λ t. Keeps L t cells) (sym (append-nil store)) h)
-extends [] L store (s ∷ more) cells ns h g = absurd g
-extends [] L store [] cells (n ∷ ns) h g = absurd g
-extends (k ∷ M) L store [] cells ns h g = absurd g
-extends (k ∷ M) L store (s ∷ more) cells [] h g = absurd g
-extends (k ∷ M) L store (s ∷ more) cells (n ∷ ns) h g =
-    let one = extends_one L store cells k s n h g.0 in
+extends_all : (P : List Kind) (M : Uses) (L : Uses) (store more : List Slot) (cells : Cells) (numbers : List Cell) → KeepsIn Run P L store cells
+    → AllKept P L (length L) M more numbers → KeepsIn Run P (L ++ M) (store ++ more) (written_from (length L) numbers cells)
+extends_all P [] L store [] cells [] h g =
+    subst (λ U. KeepsIn Run P U (store ++ []) cells) (sym (append-nil L)) (subst (λ t. KeepsIn Run P L t cells) (sym (append-nil store)) h)
+extends_all P [] L store (s ∷ more) cells ns h g = absurd g
+extends_all P [] L store [] cells (n ∷ ns) h g = absurd g
+extends_all P (k ∷ M) L store [] cells ns h g = absurd g
+extends_all P (k ∷ M) L store (s ∷ more) cells [] h g = absurd g
+extends_all P (k ∷ M) L store (s ∷ more) cells (n ∷ ns) h g =
+    let one = extends_command P L store cells k s n h g.0 in
     let size : length (L ++ k ∷ []) ≡ suc (length L) = omega (arith, length-append L (k ∷ [])) in
     let rest =
-    extends M (L ++ k ∷ []) (store ++ s ∷ []) more (written cells (run_cell (length L)) n) ns one
-    (subst (λ at. AllKept (L ++ k ∷ []) at M more ns) (sym size) (wider M (suc (length L)) more ns g.1)) in
-    let rest' = subst (λ at. Keeps ((L ++ k ∷ []) ++ M) ((store ++ s ∷ []) ++ more) (written_from at ns (written cells (run_cell (length L)) n))) size rest in
-    subst (λ U. Keeps U (store ++ s ∷ more) (written_from (suc (length L)) ns (written cells (run_cell (length L)) n))) (append_assoc L (k ∷ []) M)
-    (subst (λ t. Keeps ((L ++ k ∷ []) ++ M) t (written_from (suc (length L)) ns (written cells (run_cell (length L)) n))) (append_assoc store (s ∷ []) more)
+    extends_all P M (L ++ k ∷ []) (store ++ s ∷ []) more (written cells (run_cell (length L)) n) ns one
+    (subst (λ at. AllKept P (L ++ k ∷ []) at M more ns) (sym size) (wider M (suc (length L)) more ns g.1)) in
+    let rest' = subst (λ at. KeepsIn Run P ((L ++ k ∷ []) ++ M) ((store ++ s ∷ []) ++ more) (written_from at ns (written cells (run_cell (length L)) n))) size rest in
+    subst (λ U. KeepsIn Run P U (store ++ s ∷ more) (written_from (suc (length L)) ns (written cells (run_cell (length L)) n))) (append_assoc L (k ∷ []) M)
+    (subst (λ t. KeepsIn Run P ((L ++ k ∷ []) ++ M) t (written_from (suc (length L)) ns (written cells (run_cell (length L)) n))) (append_assoc store (s ∷ []) more)
     rest')
   where
-    wider : (M : Uses) (at : ℕ) (more : List Slot) (ns : List Cell) → AllKept L at M more ns → AllKept (L ++ k ∷ []) at M more ns
+    wider : (M : Uses) (at : ℕ) (more : List Slot) (ns : List Cell) → AllKept P L at M more ns → AllKept P (L ++ k ∷ []) at M more ns
     wider [] at [] [] g = tt
     wider [] at (s ∷ more) ns g = absurd g
     wider [] at [] (n ∷ ns) g = absurd g
     wider (j ∷ M) at [] ns g = absurd g
     wider (j ∷ M) at (s ∷ more) [] g = absurd g
-    wider (j ∷ M) at (s ∷ more) (n ∷ ns) g = (kept_wider L (k ∷ []) at j s n g.0, wider M (suc at) more ns g.1)
+    wider (j ∷ M) at (s ∷ more) (n ∷ ns) g = (kept_wider P L (k ∷ []) at j s n g.0, wider M (suc at) more ns g.1)
+
+-- what is put into cells of the command changes no cell of packets
+beside_frame : (ns : List Cell) (at x : ℕ) (cells : Cells) → written_from at ns cells (packet_cell x) ≡ cells (packet_cell x)
+beside_frame [] at x cells = refl
+beside_frame (n ∷ ns) at x cells = beside_frame ns (suc at) x (written cells (run_cell at) n)
+
+pub extends_one : (P : List Kind) (L : Uses) (w : World) (cells : Cells) (k : Use) (s : Slot) (n : Cell) → Keeps P L w cells → Kept P L (length L) k s n
+    → Keeps P (L ++ k ∷ []) (record w { store = w.store ++ s ∷ [] }) (written cells (run_cell (length L)) n)
+extends_one P L w cells k s n h g = record {
+  command = extends_command P L w.store cells k s n h.command g;
+  packets = packets_stay P (map OfValue P) w.packets cells (written cells (run_cell (length L)) n) (λ x. refl) h.packets;
+}
+
+pub extends : (P : List Kind) (M : Uses) (L : Uses) (w : World) (more : List Slot) (cells : Cells) (numbers : List Cell) → Keeps P L w cells
+    → AllKept P L (length L) M more numbers → Keeps P (L ++ M) (record w { store = w.store ++ more }) (written_from (length L) numbers cells)
+extends P M L w more cells numbers h g = record {
+  command = extends_all P M L w.store more cells numbers h.command g;
+  packets = packets_stay P (map OfValue P) w.packets cells (written_from (length L) numbers cells) (λ x. beside_frame numbers (length L) x cells) h.packets;
+}

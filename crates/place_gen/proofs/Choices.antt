@@ -12,7 +12,7 @@ use Rattle.eu_base.specs.declared.stop.Stop.TheVariants.{Own}
 use Rattle.eu_base.specs.declared.operation.Change.{Change}
 use Rattle.eu_base.specs.Values.{IsOf, number_of, truth_of, text_of}
 use Rattle.eu_base.specs.Operations.{Given, change_kind, changed}
-use Rattle.eu_base.specs.Cells.{Cells, run_cell}
+use Rattle.eu_base.specs.Cells.{Cells}
 use Rattle.code_form.specs.declared.operand.Operand.{Operand}
 use Rattle.code_form.specs.declared.operand.Operand.TheVariants.{Value as Of}
 use Rattle.code_form.specs.declared.operand.OperandKind.{OperandKind}
@@ -25,11 +25,12 @@ use Rattle.elan_types.specs.Eval.{Place, World, Outcome, Gives, Stopped, bind, s
 use Rattle.elan_types.specs.Eval.{Calls, Run, holds}
 use Rattle.elan_types.specs.Command.{Ending}
 use Rattle.place_gen.specs.Stretch.{Stretch, one, keeps, join, if_code, whens, arm_code}
-use Rattle.place_gen.specs.Correct.{Comes, scene_of}
+use Rattle.place_gen.specs.Correct.{addr_of, Comes, scene_of}
+use Rattle.place_gen.proofs.Spans.{reads_one}
 use Rattle.place_gen.proofs.Lines.{HasAt, has_front, has_rest, join_sized}
-use Rattle.place_gen.proofs.Cells.{OfValue, Uses, Keeps, reads}
+use Rattle.place_gen.proofs.Cells.{OfValue, Uses, uses_in, Keeps}
 use Rattle.eu_base.proofs.Results.{changed_gives}
-use Rattle.place_gen.proofs.Carry.{finish, Any, at_one, reach, Ends, Carries, Within, less, stop_comes, refuse_ends, then_carries, lead_carries, carries_lead}
+use Rattle.place_gen.proofs.Carry.{P, finish, Any, at_one, reach, Ends, Carries, Within, less, stop_comes, refuse_ends, lead_carries, carries_lead}
 use Rattle.place_gen.proofs.Carry.{does, put_ends, branch_carries, mark_carries, one_then, here, ends_at, join_carries, join_one}
 use Rattle.place_gen.proofs.Forms.{keep, keep_place, Is, IsValue, IsPlace, IsAction}
 
@@ -163,27 +164,28 @@ module _ (p : Program) (body : Option ℕ) where
 
   -- a change, at the instruction
   modified : {A : Type 0} {L : Uses} (g : Given) (kind : Kind) (x : Place) (a : A) (c : Position) (ops : List Operand) (w : World) (cells : Cells)
-      (k : A → World → Ending) (l : Exit → Option (List Value) → World → Ending) → length L ≤ CELLS → slice_get L x.variable ≡ Some (OfValue kind)
-      → ((v : Value) → g ≡ Ok v → IsOf kind v) → Keeps L w.store cells → step p c cells ≡ or_halt g (λ v. puts c (run_cell x.variable) v ops cells)
+      (k : A → World → Ending) (l : Exit → Option (List Value) → World → Ending) → length (P p) ≤ CELLS → length L ≤ CELLS
+      → slice_get (uses_in (P p) L x.area) x.variable ≡ Some (OfValue kind)
+      → ((v : Value) → g ≡ Ok v → IsOf kind v) → Keeps (P p) L w cells → step p c cells ≡ or_halt g (λ v. puts c (addr_of x) v ops cells)
       → ((v : Value) → Ends p L (at c (c.pc + 1) ops) (assign x (v ∷ []) w) (k a (assign x (v ∷ []) w)))
       → Comes p (free c) (scene_of w cells) (finish (or_stop g (λ v. save x (v ∷ []) (Gives a)) w) k l)
-  modified {A} {L} (Ok v) kind x a c ops w cells k l room is gives kept e hk =
-      put_ends p (free c) (at c (c.pc + 1) ops) w x kind v (Gives a) k l cells room is (gives v refl) kept (does p c (scene_of w cells) _ e) (hk v)
-  modified {A} {L} (Err s) kind x a c ops w cells k l room is gives kept e hk =
+  modified {A} {L} (Ok v) kind x a c ops w cells k l few room is gives kept e hk =
+      put_ends p (free c) (at c (c.pc + 1) ops) w x kind v (Gives a) k l cells few room is (gives v refl) kept (does p c (scene_of w cells) _ e) (hk v)
+  modified {A} {L} (Err s) kind x a c ops w cells k l few room is gives kept e hk =
       stop_comes p L (free c) w s cells kept (does p c (scene_of w cells) (Halts s) e)
 
   -- INCR, DECR and CAT where value and place are on top
   pub modify_carries : {A : Type 0} {L : Uses} (change : Change) (x : Place) (v : Value) (a : A) (b q : ℕ) (ks : List OperandKind) (m : Spot) (c : Position)
-      (ops : List Operand) (to : A → Position) → to a ≡ at c (q + 1) ops → length L ≤ CELLS
-      → slice_get L x.variable ≡ Some (OfValue (change_kind change))
+      (ops : List Operand) (to : A → Position) → to a ≡ at c (q + 1) ops → length (P p) ≤ CELLS → length L ≤ CELLS
+      → slice_get (uses_in (P p) L x.area) x.variable ≡ Some (OfValue (change_kind change))
       → HasAt p.lines q ((one (Modify change) (drop 2)).lines ks m q)
       → Carries p L m.body c.frames Any b (at c q (Of v ∷ keep_place x ops)) (modify change x v a) to
-  modify_carries {A} {L} change x v a b q ks m c ops to to_is room is has = record {
+  modify_carries {A} {L} change x v a b q ks m c ops to to_is few room is has = record {
     by = λ k l hk hl w le cells keeps.
         let now = at c q (Of v ∷ keep_place x ops) in
-        let go = λ (y : Value). or_halt (changed change y v) (λ z. puts now (run_cell x.variable) z ops cells) in
-        let r = reads L w.store cells x.variable (change_kind change) go keeps is in
-        modified (changed change (fetch x w) v) (change_kind change) x a now ops w cells k l room is (λ z e. changed_gives change _ _ z e) keeps
+        let go = λ (y : Value). or_halt (changed change y v) (λ z. puts now (addr_of x) z ops cells) in
+        let r = reads_one (P p) L w cells x (change_kind change) go keeps is in
+        modified (changed change (fetch x w) v) (change_kind change) x a now ops w cells k l few room is (λ z e. changed_gives change _ _ z e) keeps
         (here p q (Modify change) ks m has.0 c (Of v ∷ keep_place x ops) cells ∙ r.1)
         (λ z. subst (λ d. Ends p L d (assign x (z ∷ []) w) (k a (assign x (z ∷ []) w))) to_is (hk a (assign x (z ∷ []) w) tt le));
   }
@@ -205,7 +207,7 @@ module _ (p : Program) (body : Option ℕ) where
             (λ v. modify change x v (tt {0})) (λ _. ops) i.sized h
             (λ h. i.goes calls n b (pc + e.size) L (e.leaves ks) m c (keep_place x ops) home le h) (λ h v ok.
             modify_carries change x v (tt {0}) b (pc + e.size + f.size) (f.leaves (e.leaves ks)) m c ops (λ _. at c (pc + e.size + f.size + 1) ops) refl
-            le.stands.room (at_one kind L x at_x) h));
+            le.stands.packets le.stands.room (at_one (P p) kind L x at_x) h));
       }
 
   -- a stop with a text

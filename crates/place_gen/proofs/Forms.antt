@@ -1,10 +1,10 @@
 -- What each form of phrase does, whatever its parts are.
-use Rattle.std.proofs.Common.{◌≡◌, ℕ, suc, ◌+◌, ◌*◌, ◌<◌, ◌≤◌, ◌%◌, List, [], ◌∷◌, ◌++◌, length, take, drop, replicate, Option, Some, None}
+use Rattle.std.proofs.Common.{◌≡◌, ℕ, suc, ◌+◌, ◌*◌, ◌<◌, ◌≤◌, ◌%◌, List, [], ◌∷◌, ◌++◌, length, take, drop, replicate, Option, Some}
 use Rattle.std.proofs.Common.{Bool, true, false, cond, refl, sym, ap, ◌∙◌, subst, arith}
-use Rattle.std.specs.Prelude.{slice_get, ℤ}
-use Rattle.std.proofs.lemmas.Option.{slice_get_within}
+use Rattle.std.specs.Prelude.{slice_get, option_map, map, ℤ}
+use Rattle.std.proofs.lemmas.Option.{slice_get_within, slice_get-map}
 use Rattle.std.proofs.lemmas.Bool.Decides.{nat_tests}
-use Rattle.std.proofs.lemmas.List.{append-nil}
+use Rattle.std.proofs.lemmas.List.{append-nil, length-map}
 use Rattle.eu_base.specs.declared.value.Kind.{Kind}
 use Rattle.eu_base.specs.declared.value.Kind.TheVariants as kinds
 use Rattle.eu_base.specs.declared.value.Value.{Value}
@@ -19,13 +19,14 @@ use Rattle.eu_base.specs.Shapes.{cell_kinds, joined}
 use Rattle.eu_base.specs.Values.{number_of}
 use Rattle.eu_base.specs.Room.{values_bytes, place_bytes, bytes_fit}
 use Rattle.eu_base.specs.Operations.{operand_kinds, result_kind, result_of, in_row}
-use Rattle.eu_base.specs.Cells.{Cells, run_cell}
+use Rattle.eu_base.specs.declared.address.Area.TheVariants as areas
+use Rattle.eu_base.specs.Cells.{Cells, area_cell, packet_cell}
 use Rattle.code_form.specs.declared.operand.Operand.{Operand}
 use Rattle.code_form.specs.declared.operand.Operand.TheVariants.{Value as Of, Place as At}
 use Rattle.code_form.specs.declared.operand.OperandKind.{OperandKind}
 use Rattle.code_form.specs.declared.operand.OperandKind.TheVariants as operand
 use Rattle.code_form.specs.declared.instr.Instr.{Instr}
-use Rattle.code_form.specs.declared.instr.Instr.TheVariants.{Number, Truth, Text, Outer, Local, Param, Index, Field, Pick, Take, Load, Store, Do}
+use Rattle.code_form.specs.declared.instr.Instr.TheVariants.{Number, Truth, Text, Outer, Packet, Local, Param, Index, Field, Pick, Take, Load, Store, Do}
 use Rattle.code_form.specs.declared.code.Spot.{Spot}
 use Rattle.code_form.specs.Program.{Program}
 use Rattle.code_form.specs.Valid.{cell_value}
@@ -37,13 +38,13 @@ use Rattle.elan_types.specs.Eval.{Place, slot_at, place_of, Gives, bind, or_stop
 use Rattle.elan_types.specs.Eval.{deliver_place, holding, holding_place, stored, part_of, Calls, Run}
 use Rattle.elan_types.specs.Eval.{all, values}
 use Rattle.place_gen.specs.Stretch.{Stretch, none, one, pushes, join}
-use Rattle.place_gen.specs.Correct.{scene_of}
+use Rattle.place_gen.specs.Correct.{addr_of, scene_of}
 use Rattle.place_gen.proofs.Lines.{HasAt, join_sized}
 use Rattle.place_gen.proofs.Homes.{use_of, frame_uses}
-use Rattle.place_gen.proofs.Cells.{Use, OfValue, OfPlace, Uses, AtKinds, refers}
+use Rattle.place_gen.proofs.Cells.{Use, OfValue, OfPlace, Uses, AtKinds, uses_in, room_in, refers}
 use Rattle.place_gen.proofs.Spans.{AreOf, AreOf-length, reads_all, most_cells, are_part, variables_at, held_at, get_dropped, at_begins, at_item, at_dropped, in_row_low}
 use Rattle.eu_base.proofs.Results.{result_gives}
-use Rattle.place_gen.proofs.Carry.{Any, OfShape, AtShape, AtAll, IsOne, is_one, of_one, reach, holds_operand, operand_size, Carries, Stands, Within, stop_ends}
+use Rattle.place_gen.proofs.Carry.{P, Any, OfShape, AtShape, AtAll, is_one, of_one, reach, holds_operand, operand_size, Carries, Stands, Within, stop_ends}
 use Rattle.place_gen.proofs.Carry.{then_carries, none_carries, reads_carries, weaker_carries, outside_carries, does, put_all_ends, or_carries, here, ends_at}
 use Rattle.place_gen.proofs.Carry.{join_carries}
 
@@ -51,7 +52,7 @@ abbrev pub keep : List Value → List Operand → List Operand
 keep vs ops = operand_of vs ∷ ops
 
 abbrev pub keep_place : Place → List Operand → List Operand
-keep_place x ops = At (run_cell x.variable) ∷ ops
+keep_place x ops = At (addr_of x) ∷ ops
 
 abbrev pub no_more : Unit {0} → List Operand → List Operand
 no_more _ ops = ops
@@ -119,10 +120,10 @@ module _ (p : Program) (body : Option ℕ) where
 
   -- where a value of a shape stands, and where cells of these kinds do
   abbrev pub IsPlace : Shape → Run Place → Stretch → Type 0
-  IsPlace s = Is (AtShape s) keep_place
+  IsPlace s = Is (AtShape (P p) s) keep_place
 
   abbrev pub IsPlaceOf : List Kind → Run Place → Stretch → Type 0
-  IsPlaceOf ks = Is (AtAll ks) keep_place
+  IsPlaceOf ks = Is (AtAll (P p) ks) keep_place
 
   abbrev pub IsAction : Run (Unit {0}) → Stretch → Type 0
   IsAction = Is Any no_more
@@ -174,29 +175,50 @@ module _ (p : Program) (body : Option ℕ) where
 
   -- places of variables and parameters
   pub variable_is : (x : ℕ) (s : Shape) (k : Kind) → slice_get p.variables x ≡ Some k
-      → IsPlaceOf (drop x p.variables) (deliver_place (record { variable = x })) (one (Outer x) (pushes (operand.Place s)))
+      → IsPlaceOf (drop x p.variables) (deliver_place (record { area = areas.Run; variable = x })) (one (Outer x) (pushes (operand.Place s)))
   variable_is x s k is = record {
     sized = λ ks m pc. refl;
     goes = λ calls n b pc L ks m c ops home le has.
-        let low : x ≤ length L = omega (arith, slice_get_within L x (OfValue k) (le.stands.level x k is)) in
+        let within = slice_get_within L x (OfValue k) (le.stands.level x k is) in
+        let low : x ≤ length L = omega (arith, within) in
+        let small : x < CELLS = omega (arith, within, le.stands.room) in
         let at_x = variables_at (drop x p.variables) L x low (λ y k e. le.stands.level (x + y) k (sym (get_dropped x y p.variables) ∙ e)) in
-        reads_carries p b (at c pc ops) (λ w. record { variable = x }) (λ w. bytes_fit (place_bytes + bytes_on ops (bytes_of c.frames)))
-        (λ x. at c (pc + 1) (keep_place x ops)) (λ w cells h. (at_x, here p pc (Outer x) ks m has.0 c ops cells));
+        reads_carries p b (at c pc ops) (λ w. record { area = areas.Run; variable = x }) (λ w. bytes_fit (place_bytes + bytes_on ops (bytes_of c.frames)))
+        (λ x. at c (pc + 1) (keep_place x ops)) (λ w cells h. ((at_x, small), here p pc (Outer x) ks m has.0 c ops cells));
+  }
+
+  pub packet_is : (x : ℕ) (s : Shape) (k : Kind) → slice_get (P p) x ≡ Some k
+      → IsPlaceOf (drop x (P p)) (deliver_place (record { area = areas.Packets; variable = x })) (one (Packet x) (pushes (operand.Place s)))
+  packet_is x s k is = record {
+    sized = λ ks m pc. refl;
+    goes = λ calls n b pc L ks m c ops home le has.
+        let U = map OfValue (P p) in
+        let used : (y : ℕ) (k : Kind) → slice_get (P p) y ≡ Some k → slice_get U y ≡ Some (OfValue k) =
+        λ y k e. slice_get-map OfValue (P p) y ∙ ap (option_map OfValue) e in
+        let within = slice_get_within (P p) x k is in
+        let small : x < CELLS = omega (arith, within, le.stands.packets) in
+        let same : x % CELLS ≡ x = omega (arith, small) in
+        let low : x ≤ length U = omega (arith, within, length-map (P p) OfValue) in
+        let at_x = variables_at (drop x (P p)) U x low (λ y k e. used (x + y) k (sym (get_dropped x y (P p)) ∙ e)) in
+        reads_carries p b (at c pc ops) (λ w. record { area = areas.Packets; variable = x }) (λ w. bytes_fit (place_bytes + bytes_on ops (bytes_of c.frames)))
+        (λ x. at c (pc + 1) (keep_place x ops)) (λ w cells h.
+        ((at_x, small), here p pc (Packet x) ks m has.0 c ops cells ∙ ap (λ y. push_move (at c pc ops) (At (packet_cell y)) ops cells) same));
   }
 
   pub local_is : (x : ℕ) (s : Shape) (k : Kind) (hs : List Held) → slice_get hs x ≡ Some (typing.OfKind k) → ((y : ℕ) (h : Held) → slice_get hs y ≡ Some h → slice_get (frame_uses p body) y ≡ Some (use_of h))
-      → IsPlaceOf (values_held (drop x hs)) (λ r. deliver_place (record { variable = r.base + x }) r) (one (Local x) (pushes (operand.Place s)))
+      → IsPlaceOf (values_held (drop x hs)) (λ r. deliver_place (record { area = areas.Run; variable = r.base + x }) r) (one (Local x) (pushes (operand.Place s)))
   local_is x s k hs here_is is = record {
     sized = λ ks m pc. refl;
     goes = λ calls n b pc L ks m c ops home le has.
         let base = base_of c.frames in
-        let low : base + x ≤ length L =
-        omega (arith, slice_get_within L (base + x) (OfValue k) (in_frame m c L x (OfValue k) home le.stands (is x (typing.OfKind k) here_is))) in
+        let within = slice_get_within L (base + x) (OfValue k) (in_frame m c L x (OfValue k) home le.stands (is x (typing.OfKind k) here_is)) in
+        let low : base + x ≤ length L = omega (arith, within) in
+        let small : base + x < CELLS = omega (arith, within, le.stands.room) in
         let at_x = held_at (drop x hs) L (base + x) low (λ y h e.
         subst (λ z. slice_get L z ≡ Some (use_of h)) (add_assoc base x y)
         (in_frame m c L (x + y) (use_of h) home le.stands (is (x + y) h (sym (get_dropped x y hs) ∙ e)))) in
-        reads_carries p b (at c pc ops) (λ w. record { variable = base + x }) (λ w. bytes_fit (place_bytes + bytes_on ops (bytes_of c.frames)))
-        (λ x. at c (pc + 1) (keep_place x ops)) (λ w cells h. (at_x, here p pc (Local x) ks m has.0 c ops cells));
+        reads_carries p b (at c pc ops) (λ w. record { area = areas.Run; variable = base + x }) (λ w. bytes_fit (place_bytes + bytes_on ops (bytes_of c.frames)))
+        (λ x. at c (pc + 1) (keep_place x ops)) (λ w cells h. ((at_x, small), here p pc (Local x) ks m has.0 c ops cells));
   }
 
   pub parameter_is : (x : ℕ) (s : Shape) (js : List Kind) → slice_get (frame_uses p body) x ≡ Some (OfPlace js)
@@ -208,21 +230,23 @@ module _ (p : Program) (body : Option ℕ) where
         reads_carries p b (at c pc ops) (λ w. place_of (slot_at w.store (base_of c.frames + x)))
         (λ w. bytes_fit (place_bytes + bytes_on ops (bytes_of c.frames))) (λ x. at c (pc + 1) (keep_place x ops)) (λ w cells h.
         let r =
-        refers L w.store cells (base_of c.frames + x) js (λ a. push_move (at c pc ops) (At a) ops cells) le.stands.room h
+        refers (P p) L w.store cells (base_of c.frames + x) js (λ a. push_move (at c pc ops) (At a) ops cells) h.command
         (in_frame m c L x (OfPlace js) home le.stands is) in
         (r.0, here p pc (Param x) ks m has.0 c ops cells ∙ r.1));
   }
 
   -- a place further on, of an item whose index is looked at, and of a field
   further_carries : (calls : Calls) (n b pc : ℕ) (L : Uses) (m : Spot) (c : Position) (old ops : List Operand) (x : Place) (d j : ℕ) (k : Kind) (js : List Kind)
-      → length L ≤ CELLS → AtKinds (k ∷ js) L (x.variable + d)
-      → ((cells : Cells) → step p (at c pc old) cells ≡ push_move (at c pc old) (At (further (run_cell x.variable) d)) ops cells)
-      → Carries p L m.body c.frames (AtAll (k ∷ js)) b (at c pc old) (deliver_place (beyond x d) (reach calls n c ops)) (λ y. at c (pc + 1) (keep_place y ops))
-  further_carries calls n b pc L m c old ops x d j k js room at_d does =
+      → length (P p) ≤ CELLS → length L ≤ CELLS → AtKinds (k ∷ js) (uses_in (P p) L x.area) (x.variable + d)
+      → ((cells : Cells) → step p (at c pc old) cells ≡ push_move (at c pc old) (At (further (addr_of x) d)) ops cells)
+      → Carries p L m.body c.frames (AtAll (P p) (k ∷ js)) b (at c pc old) (deliver_place (beyond x d) (reach calls n c ops)) (λ y. at c (pc + 1) (keep_place y ops))
+  further_carries calls n b pc L m c old ops x d j k js few room at_d does =
       let now = at c pc old in
-      let small : (x.variable + d) % CELLS ≡ x.variable + d = omega (arith, slice_get_within L (x.variable + d) (OfValue k) at_d.0, room) in
+      let U = uses_in (P p) L x.area in
+      let small : x.variable + d < CELLS = omega (arith, slice_get_within U (x.variable + d) (OfValue k) at_d.0, room_in x.area (P p) L few room) in
+      let same : (x.variable + d) % CELLS ≡ x.variable + d = omega (arith, small) in
       reads_carries p b now (λ w. beyond x d) (λ w. bytes_fit (place_bytes + bytes_on ops (bytes_of c.frames))) (λ y. at c (pc + 1) (keep_place y ops))
-      (λ w cells h. (at_d, does cells ∙ ap (λ y. push_move now (At (run_cell y)) ops cells) small))
+      (λ w cells h. ((at_d, small), does cells ∙ ap (λ y. push_move now (At (area_cell x.area y)) ops cells) same))
 
   pub item_is : {q : Run Place} {t : Run (List Value)} {f g : Stretch} (ks : List Kind) (count cells : ℕ) (k : Kind) (js : List Kind) (s : Shape)
       → IsPlaceOf ks q f → IsValue (Cell kinds.Int) t g → length (k ∷ js) ≡ cells → begins (joined (replicate count (k ∷ js))) ks ≡ true
@@ -250,12 +274,12 @@ module _ (p : Program) (body : Option ℕ) where
             let now = at c z (Of one_v.value ∷ keep_place x ops) in
             let does =
             λ (cells' : Cells). here p z (Index count cells) (g.leaves (f.leaves ls)) m h.0 c (Of one_v.value ∷ keep_place x ops) cells' in
-            let move = λ (o : Option ℕ) (cells' : Cells). on_item o (λ i. push_move now (At (further (run_cell x.variable) (i * cells))) ops cells') in
-            subst (λ vs. Carries p L m.body c.frames (AtAll (k ∷ js)) b (at c z (keep vs (keep_place x ops))) (run vs) to) (sym one_v.is)
+            let move = λ (o : Option ℕ) (cells' : Cells). on_item o (λ i. push_move now (At (further (addr_of x) (i * cells))) ops cells') in
+            subst (λ vs. Carries p L m.body c.frames (AtAll (P p) (k ∷ js)) b (at c z (keep vs (keep_place x ops))) (run vs) to) (sym one_v.is)
             (outside_carries p b now o (λ i. deliver_place (beyond x (i * cells)) r) to
             (λ none w. stop_ends p L now w OutsideRow (λ cells'. does cells' ∙ ap (λ o. move o cells') none))
-            (λ i some. further_carries calls n b z L m c (Of one_v.value ∷ keep_place x ops) ops x (i * cells) i k js le.stands.room
-            (at_item ks count cells i k js L x.variable size fits (in_row_low count (number_of one_v.value) i some) at_x)
+            (λ i some. further_carries calls n b z L m c (Of one_v.value ∷ keep_place x ops) ops x (i * cells) i k js le.stands.packets le.stands.room
+            (at_item ks count cells i k js (uses_in (P p) L x.area) x.variable size fits (in_row_low count (number_of one_v.value) i some) at_x.0)
             (λ cells'. does cells' ∙ ap (λ o. move o cells') some)))));
       }
 
@@ -270,8 +294,8 @@ module _ (p : Program) (body : Option ℕ) where
             let r = reach calls n c ops in
             join_carries p f last b pc ls m c ops (q r) (λ x. deliver_place (beyond x before) r) (λ x. keep_place x ops) (λ y. keep_place y ops) i.sized has
             (λ h. i.goes calls n b pc L ls m c ops home le h) (λ h x at_x.
-            further_carries calls n b (pc + f.size) L m c (keep_place x ops) ops x before 0 k js le.stands.room
-            (at_dropped before ks k js L x.variable is at_x)
+            further_carries calls n b (pc + f.size) L m c (keep_place x ops) ops x before 0 k js le.stands.packets le.stands.room
+            (at_dropped before ks k js (uses_in (P p) L x.area) x.variable is at_x.0)
             (λ cells. here p (pc + f.size) (Field before) (f.leaves ls) m h.0 c (keep_place x ops) cells));
       }
 
@@ -282,7 +306,7 @@ module _ (p : Program) (body : Option ℕ) where
     goes =
         λ calls n b pc L ls m c ops home le has.
         weaker_carries p b (at c pc ops) (q (reach calls n c ops)) (λ x. at c (pc + f.size) (keep_place x ops))
-        (λ x at_x. at_begins (cell_kinds s) ks L x.variable fits at_x) (i.goes calls n b pc L ls m c ops home le has);
+        (λ x at_x. (at_begins (cell_kinds s) ks (uses_in (P p) L x.area) x.variable fits at_x.0, at_x.1)) (i.goes calls n b pc L ls m c ops home le has);
   }
 
   pub load_is : {q : Run Place} {f : Stretch} (s : Shape) → IsPlace s q f
@@ -299,7 +323,7 @@ module _ (p : Program) (body : Option ℕ) where
             let held = bytes_on ops (bytes_of c.frames) in
             reads_carries p b now (fetch_all (cell_kinds s) x) (λ w. bytes_fit (values_bytes (fetch_all (cell_kinds s) x w) + held))
             (λ vs. at c (z + 1) (keep vs ops)) (λ w cells keeps.
-            let r = reads_all (cell_kinds s) L w cells x (λ vs. push_move now (operand_of vs) ops cells) le.stands.room keeps at_x in
+            let r = reads_all (P p) (cell_kinds s) L w cells x (λ vs. push_move now (operand_of vs) ops cells) le.stands.packets le.stands.room keeps at_x in
             let vs = fetch_all (cell_kinds s) x w in (
               r.0,
               here p z (Load s) (f.leaves ks) m h.0 c (keep_place x ops) cells
@@ -325,7 +349,7 @@ module _ (p : Program) (body : Option ℕ) where
               by =
                   λ k' l hk hl w le' cells keeps.
                   let now = at c z (keep vs (keep_place x ops)) in
-                  put_all_ends p (free now) (at c (z + 1) ops) w x (cell_kinds s) vs (Gives (tt {0})) k' l cells le.stands.room at_x ok keeps
+                  put_all_ends p (free now) (at c (z + 1) ops) w x (cell_kinds s) vs (Gives (tt {0})) k' l cells le.stands.packets le.stands.room at_x ok keeps
                   (does p now (scene_of w cells) _ (here p z (Store s) (f.leaves (e.leaves ks)) m h.0 c (keep vs (keep_place x ops)) cells
                   ∙ all_on vs (keep_place x ops) (λ vs ops. on_place ops (λ a ops. puts_all now a vs ops cells))))
                   (hk tt (assign x vs w) tt le');

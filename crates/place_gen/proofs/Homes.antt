@@ -15,7 +15,7 @@ use Rattle.code_form.specs.declared.code.Entry.{Entry}
 use Rattle.code_form.specs.declared.code.Layout.{Layout}
 use Rattle.code_form.specs.declared.code.Layout.TheVariants as layouts
 use Rattle.code_form.specs.Program as program
-use Rattle.code_form.specs.Program.{Program, CellUse, HoldsValue, HoldsPlace, cell_uses, cells_of, cells_in, frame_cells}
+use Rattle.code_form.specs.Program.{Program, kinds_in_packets, CellUse, HoldsValue, HoldsPlace, cell_uses, cells_of, cells_in, frame_cells}
 use Rattle.code_form.specs.Valid.{IsRefinement, cell_value, cell_place}
 use Rattle.elan_types.specs.declared.core_phrase.Access.{Access}
 use Rattle.elan_types.specs.declared.core_phrase.Access.TheVariants.{Const, Var}
@@ -27,7 +27,7 @@ use Rattle.elan_types.specs.declared.core_phrase.Formal.{Formal}
 use Rattle.elan_types.specs.declared.core_phrase.Body.{Body}
 use Rattle.place_gen.specs.Layouts.{taken_as, parameter_kind, layout_of}
 use Rattle.elan_types.specs.Typing as typing
-use Rattle.elan_types.specs.Typing.{Typed, Held, held_as, has, has_shape, agree, takes, only_if, same_access, frame_of, frame_at}
+use Rattle.elan_types.specs.Typing.{Outside, Typed, Held, held_as, has, has_shape, agree, takes, only_if, same_access, frame_of, frame_at}
 use Rattle.elan_types.specs.Typing.{frame_in, scope_of, result_of, result_of_content, delivered_by, taken_by, take_all, Taken, refines, around, left_from}
 use Rattle.elan_types.specs.Typing.{leaves_without, leaves_with, is_none, formal, Home}
 use Rattle.elan_types.proofs.Shapes.{same_shape_is}
@@ -74,8 +74,9 @@ pub record HasEntry (p : Program) (n : ℕ) (b : Body) : Type 0 where
   pub delivers : entry.delivers ≡ result_of_content b.content
 
 -- the tables have a cell for each variable, and an entry for each body
-pub record Agrees (p : Program) (variables : List Kind) (bodies : List Body) : Type 0 where
-  pub level : p.variables ≡ variables
+pub record Agrees (p : Program) (outside : Outside) (bodies : List Body) : Type 0 where
+  pub level : p.variables ≡ outside.variables
+  pub packets : kinds_in_packets p ≡ outside.packets
   pub each : (n : ℕ) (b : Body) → slice_get bodies n ≡ Some b → HasEntry p n b
 
 -- a phrase stands in the level, or in a body that there is
@@ -185,7 +186,7 @@ owner_same n (scopes.Own ps vs) = refl
 owner_same n (scopes.Of q) = refl
 owner_same n scopes.Level = refl
 
-module _ (p : Program) (variables : List Kind) (bodies : List Body) (agrees : Agrees p variables bodies) where
+module _ (p : Program) (outside : Outside) (bodies : List Body) (agrees : Agrees p outside bodies) where
   -- the PROC whose cells a body uses
   pub owner_is : (home : Home) → IsHome bodies home → program.owner p home ≡ typing.owner bodies home
   owner_is None is = refl

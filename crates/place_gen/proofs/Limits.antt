@@ -1,10 +1,8 @@
 -- What loops with a counter do, whatever their parts are. A limit has a cell meanwhile.
-use Rattle.std.proofs.Common.{◌≡◌, ℕ, ◌+◌, ◌-◌, ◌<◌, ◌≤◌, List, [], ◌∷◌, ◌++◌, length, drop, Option, Some, None, Bool, true, false, cond, refl, sym, ap, ◌∙◌}
+use Rattle.std.proofs.Common.{◌≡◌, ℕ, ◌+◌, ◌-◌, ◌≤◌, List, [], ◌∷◌, ◌++◌, length, drop, Option, Some, None, Bool, true, false, cond, refl, sym, ap, ◌∙◌}
 use Rattle.std.proofs.Common.{subst, arith, length-append}
 use Rattle.std.specs.Prelude.{ℤ, pos, slice_get}
 use Rattle.std.proofs.lemmas.Bool.{leb-true}
-use Rattle.std.proofs.lemmas.List.{get_or_append_left}
-use Rattle.std.proofs.lemmas.Option.{slice_get_within}
 use Rattle.std.specs.Int.{w16}
 use Rattle.std.specs.Int.RustNames.{FitsSigned}
 use Rattle.eu_base.specs.declared.address.TheConstants.{CELLS}
@@ -26,15 +24,16 @@ use Rattle.code_form.specs.declared.code.Spot.{Spot}
 use Rattle.code_form.specs.Program.{Program, line_of, deeper}
 use Rattle.code_form.specs.Machine.{Position, free, Goes, Halts, Unknown, at, using, on_cell, is_free, base_of, step}
 use Rattle.elan_types.specs.declared.core_phrase.Exit.{Exit as Exit'}
-use Rattle.elan_types.specs.Eval.{Place, Taken, value_of, World, Outcome, Gives, Stopped, bind, branch, fetch, the, holding_place, cut, Calls, Run, turns}
+use Rattle.elan_types.specs.Eval.{Place, Taken, World, Outcome, Gives, Stopped, bind, branch, fetch, the, holding_place, cut, Calls, Run, turns}
 use Rattle.elan_types.specs.Eval.{step as step_on, step_to, limited, counted}
 use Rattle.elan_types.specs.Command.{Ending}
 use Rattle.place_gen.specs.Stretch.{Stretch, PlaceCode, join, Exit, step_code, step_to_code, turns_code, limit_code, counted_code}
-use Rattle.place_gen.specs.Correct.{Comes, scene_of}
+use Rattle.place_gen.specs.Correct.{addr_of, Comes, scene_of}
+use Rattle.place_gen.proofs.Spans.{reads_one, fetch_wider}
 use Rattle.place_gen.proofs.Lines.{HasAt, has_front, has_rest, join_sized}
-use Rattle.place_gen.proofs.Cells.{Use, OfValue, OfLimit, Uses, Keeps, get_left, reads, cuts, limit_forgotten, extends_one}
+use Rattle.place_gen.proofs.Cells.{Use, OfValue, OfLimit, Uses, Keeps, uses_in, get_left, cuts, limit_forgotten, extends_one}
 use Rattle.eu_base.proofs.Results.{fits_in_range}
-use Rattle.place_gen.proofs.Carry.{finish, finish_bind, Any, at_one, reach, Ends, wider, Carries, Stands, Within, on_step, stop_comes, branch_carries}
+use Rattle.place_gen.proofs.Carry.{P, finish, finish_bind, Any, at_one, reach, Ends, wider, Carries, Stands, Within, on_step, stop_comes, branch_carries}
 use Rattle.place_gen.proofs.Carry.{does, none_carries, here, ends_at, join_carries, join_one}
 use Rattle.place_gen.proofs.Forms.{keep_place, IsValue, IsPlace, IsAction}
 use Rattle.place_gen.proofs.Loops.{IsExit, Under, number_fits, turns_are, turns_sized}
@@ -48,12 +47,13 @@ module _ (p : Program) (body : Option ℕ) where
         used = omega (arith, h.used, length-append L (k ∷ []));
         room = omega (arith, h.used, length-append L (k ∷ []), most);
         level = λ x k' e. get_left L (k ∷ []) x (OfValue k') (h.level x k' e);
+        packets = h.packets;
         frame = λ x u e. get_left L (k ∷ []) (base_of c.frames + x) u (h.frame x u e);
       }
 
   -- a cell is taken for the limit, where it has room
   taken : {L : Uses} (t : Bool) (c c' : Position) (w : World) (cells now : Cells) (go : World → Outcome (Unit {0})) (k : Unit {0} → World → Ending)
-      (l : Exit' → Option (List Value) → World → Ending) → Keeps L w.store cells → step p c cells ≡ cond t (Goes c' now) (Halts CellRoom)
+      (l : Exit' → Option (List Value) → World → Ending) → Keeps (P p) L w cells → step p c cells ≡ cond t (Goes c' now) (Halts CellRoom)
       → (t ≡ true → Comes p (free c') (scene_of w now) (finish (go (record w { store = w.store ++ Taken ∷ [] })) k l))
       → Comes p (free c) (scene_of w cells) (finish (branch t (λ w. go (record w { store = w.store ++ Taken ∷ [] })) (Stopped CellRoom) w) k l)
   taken {L} true c c' w cells now go k l keeps e h = on_step p c c' (scene_of w cells) now _ e (h refl)
@@ -66,11 +66,11 @@ module _ (p : Program) (body : Option ℕ) where
       → ((a : Unit {0}) (w : World) → Any L a → w.marks ≤ b → Ends p L (at c (end + 1) ops) w (k a w)) → (a : Unit {0}) (w : World)
       → Any (L ++ OfLimit limit ∷ []) a → w.marks ≤ b → Ends p (L ++ OfLimit limit ∷ []) (at c1 end ops) w (k tt (cut (length w.store - 1) w))
   given_back L limit b end c c1 ops k e e' used s hk a w good le cells keeps =
-      let n : length w.store - 1 ≡ length L = omega (arith, keeps.as_many, length-append L (OfLimit limit ∷ [])) in
+      let n : length w.store - 1 ≡ length L = omega (arith, keeps.command.as_many, length-append L (OfLimit limit ∷ [])) in
       let m : c.used + 1 ≡ length (L ++ OfLimit limit ∷ []) = omega (arith, used, length-append L (OfLimit limit ∷ [])) in
       on_step p (at c1 end ops) (at c (end + 1) ops) (scene_of w cells) (without c.used (c.used + 1) cells) _ (s cells)
       (hk tt (cut (length w.store - 1) w) tt le (without c.used (c.used + 1) cells)
-      (cuts forgotten L (OfLimit limit ∷ []) w.store cells (length w.store - 1) c.used (c.used + 1) n used m (limit_forgotten L limit) keeps))
+      (cuts forgotten (P p) L (OfLimit limit ∷ []) w cells (length w.store - 1) c.used (c.used + 1) n used m (limit_forgotten (P p) L limit) keeps))
 
   limit_sized : (way : Way) (ts : Stretch) → ((ks : List OperandKind) (m : Spot) (pc : ℕ) → length (ts.lines ks m pc) ≡ ts.size)
       → (ks : List OperandKind) (m : Spot) (pc : ℕ) → length ((limit_code way ts).lines ks m pc) ≡ (limit_code way ts).size
@@ -80,7 +80,7 @@ module _ (p : Program) (body : Option ℕ) where
   -- the turns under a limit
   limited_carries : {t : Run Bool} {f : Exit} (way : Way) (v : Value) (x : Place) → IsOf kinds.Int v → IsExit p body (Under p body (number_of v)) t f
       → (calls : Calls) (n b pc : ℕ) (L : Uses) (ks : List OperandKind) (m : Spot) (c : Position) (ops : List Operand) → m.body ≡ body
-      → Within p calls n b L m c → slice_get L x.variable ≡ Some (OfValue kinds.Int) → HasAt p.lines pc ((limit_code way (turns_code f)).lines ks m pc)
+      → Within p calls n b L m c → slice_get (uses_in (P p) L x.area) x.variable ≡ Some (OfValue kinds.Int) → HasAt p.lines pc ((limit_code way (turns_code f)).lines ks m pc)
       → Carries p L m.body c.frames Any b (at c pc (Of v ∷ keep_place x ops)) (limited x way (number_of v) t (reach calls n c ops))
       (λ _. at c (pc + 1 + (turns_code f).size + 1) ops)
   limited_carries {t} {f} way v x ok i calls n b pc L ks m c ops home le at_x has =
@@ -95,26 +95,25 @@ module _ (p : Program) (body : Option ℕ) where
       record {
         by = λ k l hk hl w lw cells keeps.
             let used : c.used ≡ length L = le.stands.used in
-            let same : length w.store + 1 ≡ c.used + 1 = omega (arith, used, keeps.as_many) in
+            let same : length w.store + 1 ≡ c.used + 1 = omega (arith, used, keeps.command.as_many) in
             let past = is_past way z (number_of (fetch x w)) in
             let now_cells = written cells (run_cell c.used) (held_of (item.Int z)) in
             let w' : World = record w { store = w.store ++ Taken ∷ [] } in
             let goes_on =
             λ (u : Value). Goes (using (at c (cond (is_past way z (number_of u)) end (pc + 1)) ops) (c.used + 1)) now_cells in
-            let read = reads L w.store cells x.variable kinds.Int goes_on keeps at_x in
-            let is_free' : is_free (cells (run_cell c.used)) ≡ true = ap is_free (keeps.beyond c.used (omega (arith, used))) in
+            let read = reads_one (P p) L w cells x kinds.Int goes_on keeps at_x in
+            let is_free' : is_free (cells (run_cell c.used)) ≡ true = ap is_free (keeps.command.beyond c.used (omega (arith, used))) in
             let does : step p now cells ≡ cond (cells_fit (c.used + 1)) (goes_on (fetch x w)) (Halts CellRoom) =
             here p pc (Limit way end) ks m has.0 c (Of v ∷ keep_place x ops) cells
-            ∙ ap (λ t. cond (cells_fit (c.used + 1)) (cond t (on_cell kinds.Int (cells (run_cell x.variable)) goes_on) Unknown)
+            ∙ ap (λ t. cond (cells_fit (c.used + 1)) (cond t (on_cell kinds.Int (cells (addr_of x)) goes_on) Unknown)
             (Halts CellRoom)) is_free' ∙ ap (λ go. cond (cells_fit (c.used + 1)) go (Halts CellRoom)) read.1 in
             let run =
             λ (w : World). bind (branch (is_past way z (number_of (fetch x w))) (Gives (tt {0})) (turns n (t r)) w)
             (λ _ w. Gives (tt {0}) (cut (length w.store - 1) w)) in
-            let within : x.variable < length w.store = omega (arith, slice_get_within L x.variable (OfValue kinds.Int) at_x, keeps.as_many) in
-            let kept : Keeps M w'.store now_cells =
-            subst (λ n. Keeps M w'.store (written cells (run_cell n) (held_of (item.Int z)))) (sym used)
-            (extends_one L w.store cells (OfLimit z) Taken (held_of (item.Int z)) keeps (refl, number_fits p body v ok, refl)) in
-            let same_x : fetch x w' ≡ fetch x w = ap value_of (get_or_append_left w.store (Taken ∷ []) Taken x.variable within) in
+            let kept : Keeps (P p) M w' now_cells =
+            subst (λ n. Keeps (P p) M w' (written cells (run_cell n) (held_of (item.Int z)))) (sym used)
+            (extends_one (P p) L w cells (OfLimit z) Taken (held_of (item.Int z)) keeps (refl, number_fits p body v ok, refl)) in
+            let same_x : fetch x w' ≡ fetch x w = fetch_wider (P p) L w cells x kinds.Int (Taken ∷ []) keeps at_x in
             let fuller = λ (e : cells_fit (c.used + 1) ≡ true).
             let le' : Within p calls n b M (deeper m) c1 = record { turns = le.turns; stands = stands_wider L (OfLimit z) m c e le.stands; carry = le.carry } in
             let inner =
@@ -170,5 +169,5 @@ module _ (p : Program) (body : Option ℕ) where
             i.sized h (λ h. i.goes calls n b z0 L kp m c (keep_place x ops) home le h) (λ h v ok.
             let z = z0 + f.size in
             ends_at p b (at c z (Of v ∷ keep_place x ops)) c (rest x v) (z + 1 + ts.size + 1) (z + (1 + (ts.size + 1))) (λ _. ops) (omega arith)
-            (limited_carries way v x ok (j (number_of v) (number_fits p body v ok)) calls n b z L (f.leaves kp) m c ops home le (at_one kinds.Int L x at_x) h)));
+            (limited_carries way v x ok (j (number_of v) (number_fits p body v ok)) calls n b z L (f.leaves kp) m c ops home le (at_one (P p) kinds.Int L x at_x) h)));
       }

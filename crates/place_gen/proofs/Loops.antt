@@ -25,15 +25,18 @@ use Rattle.code_form.specs.Program.{Program, line_of}
 use Rattle.code_form.specs.Valid.{cell_value}
 use Rattle.code_form.specs.Machine.{Frame, Position, Move, To, free, Goes, Spends, at, on_number, limit_cell, step}
 use Rattle.elan_types.specs.declared.core_phrase.Exit.{Exit as Exit'}
-use Rattle.elan_types.specs.Eval.{Place, Slot, World, Outcome, Gives, Stopped, bind, branch, fetch, the, assign, save, store_blocks, deliver, holding_place, modify, Calls, Run, turns}
+use Rattle.elan_types.specs.Eval.{slots_in, Place, Slot, World, Outcome, Gives, Stopped, bind, branch, fetch, the, assign, save, store_blocks, deliver, holding_place, modify, Calls, Run, turns}
 use Rattle.elan_types.specs.Eval.{while_true, until_true, then_on, done, turn, go_on, forever, step as step_on, step_to, step_from}
 use Rattle.elan_types.specs.Command.{Ending}
 use Rattle.place_gen.specs.Stretch.{Stretch, PlaceCode, never_code, none, one, pushes, join, Exit, stays, exit_join, while_code, until_code, step_code, step_to_code, turn_code, turns_code}
-use Rattle.place_gen.specs.Correct.{Comes, scene_of}
+use Rattle.place_gen.specs.Correct.{addr_of, Comes, scene_of}
+use Rattle.place_gen.proofs.Spans.{reads_one}
+use Rattle.eu_base.specs.declared.address.Area.TheVariants as areas
+use Rattle.eu_base.specs.declared.address.TheConstants.{CELLS}
 use Rattle.place_gen.proofs.Lines.{HasAt, has_front, has_rest, join_sized}
-use Rattle.place_gen.proofs.Cells.{OfValue, OfLimit, Uses, Keeps, reads, reads_limit, get_right}
+use Rattle.place_gen.proofs.Cells.{OfValue, OfLimit, Uses, uses_in, KeepsIn, Keeps, reads_limit, get_right}
 use Rattle.eu_base.proofs.Results.{next_fits, fits_in_range}
-use Rattle.place_gen.proofs.Carry.{finish, Any, at_one, reach, Ends, Carries, Within, less, on_step, lead_ends, then_carries, lead_carries, write_ends}
+use Rattle.place_gen.proofs.Carry.{P, finish, Any, at_one, reach, Ends, Carries, Within, less, on_step, lead_ends, then_carries, lead_carries, write_ends}
 use Rattle.place_gen.proofs.Carry.{branch_carries, none_carries, turns_carries, mark_carries, out_carries, one_then, here, ends_at}
 use Rattle.place_gen.proofs.Forms.{keep, keep_place, IsValue, IsPlace, IsAction, number_is}
 use Rattle.place_gen.proofs.Choices.{modify_carries}
@@ -233,7 +236,7 @@ module _ (p : Program) (body : Option ℕ) where
             (λ vs. at c (z + 1) (keep vs (keep_place x ops))) (λ v. modify Increase x v true) to
             (i.goes calls n b z U (f.leaves ks) m c (keep_place x ops) home le (rest.0, tt)) (λ v ok.
             modify_carries p body Increase x v true b (z + 1) (cell_value kinds.Int ∷ f.leaves ks) m c ops to refl
-            le.stands.room (at_one kinds.Int U x at_x) rest.1)));
+            le.stands.packets le.stands.room (at_one (P p) kinds.Int U x at_x) rest.1)));
       }
 
   -- the last cell in use keeps this limit
@@ -247,22 +250,23 @@ module _ (p : Program) (body : Option ℕ) where
 
   -- the limit is read out of its cell
   limit_read : (limit : ℤ) (U : Uses) (c : Position) (store : List Slot) (cells : Cells) (go : ℤ → Move) → Under limit U → c.used ≡ length U
-      → Keeps U store cells → on_number (limit_cell c cells) go ≡ go limit
+      → KeepsIn areas.Run (P p) U store cells → on_number (limit_cell c cells) go ≡ go limit
   limit_read limit U c store cells go l used h =
       let n : c.used - 1 ≡ length l.0 = omega (arith, used, ap length l.1, length-append l.0 (OfLimit limit ∷ [])) in
       let is : slice_get U (length l.0) ≡ Some (OfLimit limit) =
       ap (λ U. slice_get U (length l.0)) l.1
       ∙ (let e : length l.0 ≡ length l.0 + 0 = omega arith in ap (slice_get (l.0 ++ OfLimit limit ∷ [])) e ∙ get_right l.0 (OfLimit limit ∷ []) 0) in
-      ap (λ n. on_number (cells (run_cell n)) go) n ∙ reads_limit U store cells (length l.0) limit go h is
+      ap (λ n. on_number (cells (run_cell n)) go) n ∙ reads_limit (P p) U store cells (length l.0) limit go h is
 
   stepped : {U : Uses} (t : Bool) (way : Way) (limit z : ℤ) (x : Place) (b : ℕ) (c next exit : Position) (k : Bool → World → Ending)
       (l : Exit' → Option (List Value) → World → Ending) → ((a : Bool) (w : World) → Any U a → w.marks ≤ b → Ends p U (cond a next exit) w (k a w)) → (w : World)
-      → w.marks ≤ b → (cells : Cells) → Keeps U w.store cells → slice_get U x.variable ≡ Some (OfValue kinds.Int) → FitsSigned w16 limit → FitsSigned w16 z → has_reached way limit z ≡ t
-      → step p c cells ≡ cond t (Goes exit cells) (Goes next (written cells (run_cell x.variable) (held_of (item.Int (next_number way z)))))
+      → w.marks ≤ b → (cells : Cells) → length (P p) ≤ CELLS → length U ≤ CELLS → Keeps (P p) U w cells
+      → slice_get (uses_in (P p) U x.area) x.variable ≡ Some (OfValue kinds.Int) → FitsSigned w16 limit → FitsSigned w16 z → has_reached way limit z ≡ t
+      → step p c cells ≡ cond t (Goes exit cells) (Goes next (written cells (addr_of x) (held_of (item.Int (next_number way z)))))
       → Comes p (free c) (scene_of w cells) (finish (branch t (Gives false) (λ w. Gives true (assign x (item.Int (next_number way z) ∷ []) w)) w) k l)
-  stepped true way limit z x b c next exit k l hk w le cells h is f g t e = on_step p c exit (scene_of w cells) cells _ e (hk false w tt le cells h)
-  stepped {U} false way limit z x b c next exit k l hk w le cells h is f g t e =
-      write_ends p c next w x kinds.Int (item.Int (next_number way z)) _ cells is (next_fits way limit z f g t) h e
+  stepped true way limit z x b c next exit k l hk w le cells few room h is f g t e = on_step p c exit (scene_of w cells) cells _ e (hk false w tt le cells h)
+  stepped {U} false way limit z x b c next exit k l hk w le cells few room h is f g t e =
+      write_ends p c next w x kinds.Int (item.Int (next_number way z)) _ cells few room is (next_fits way limit z f g t) h e
       (hk true (assign x (item.Int (next_number way z) ∷ []) w) tt le)
 
   pub step_to_is : {q : Run Place} (x : PlaceCode) (way : Way) (limit : ℤ) → IsPlace p body (Cell kinds.Int) q (x (Cell kinds.Int)) → FitsSigned w16 limit
@@ -282,17 +286,17 @@ module _ (p : Program) (body : Option ℕ) where
                   let next = at c (q1 + 1) ops in
                   let exit = at c end ops in
                   let z = number_of (fetch x w) in
-                  let at_one_x = at_one kinds.Int U x at_x in
+                  let at_one_x = at_one (P p) kinds.Int U x at_x in
                   let go =
                   λ (lim z : ℤ).
                   cond (has_reached way lim z) (Goes exit cells)
-                  (Goes next (written cells (run_cell x.variable) (held_of (item.Int (next_number way z))))) in
-                  let read = reads U w.store cells x.variable kinds.Int (λ v. go limit (number_of v)) h at_one_x in
+                  (Goes next (written cells (addr_of x) (held_of (item.Int (next_number way z))))) in
+                  let read = reads_one (P p) U w cells x kinds.Int (λ v. go limit (number_of v)) h at_one_x in
                   let more = reached (has_reached way limit z) x (next_number way z) w in
                   subst (λ o. Comes p (free now) (scene_of w cells) (finish o k e)) (sym more)
-                  (stepped (has_reached way limit z) way limit z x b now next exit k e hk w le' cells h at_one_x fits (number_fits (fetch x w) read.0) refl
+                  (stepped (has_reached way limit z) way limit z x b now next exit k e hk w le' cells le.stands.packets le.stands.room h at_one_x fits (number_fits (fetch x w) read.0) refl
                   (here p q1 (Step way end) (f.leaves ks) m rest.0 c (keep_place x ops) cells
-                  ∙ limit_read limit U now w.store cells (λ lim. on_number (cells (run_cell x.variable)) (go lim)) l le.stands.used h ∙ read.1));
+                  ∙ limit_read limit U now w.store cells (λ lim. on_number (cells (addr_of x)) (go lim)) l le.stands.used h.command ∙ read.1));
             }));
       }
     where
@@ -300,7 +304,7 @@ module _ (p : Program) (body : Option ℕ) where
       reached : (t : Bool) (x : Place) (z : ℤ) (w : World)
           → branch t (Gives false) (save x (item.Int z ∷ []) (Gives true)) w ≡ branch t (Gives false) (λ w. Gives true (assign x (item.Int z ∷ []) w)) w
       reached true x z w = refl
-      reached false x z w = ap (λ n. branch (texts_fit n (store_blocks (assign x (item.Int z ∷ []) w).store)) (λ w. Gives true (assign x (item.Int z ∷ []) w)) (Stopped TextRoom) w) none
+      reached false x z w = ap (λ n. branch (texts_fit n (store_blocks (slots_in x.area (assign x (item.Int z ∷ []) w)))) (λ w. Gives true (assign x (item.Int z ∷ []) w)) (Stopped TextRoom) w) none
         where
           none : values_blocks (item.Int z ∷ []) ≡ 0
           none = omega arith

@@ -1,11 +1,11 @@
 -- What the tests of places and of parts of values tell.
-use Rattle.std.proofs.Common.{◌≡◌, ℕ, zero, suc, ◌+◌, ◌*◌, ◌<◌, ◌==◌, List, [], ◌∷◌, ◌++◌, map, length, take, drop, replicate, Option, Some, None, Bool, true, false}
-use Rattle.std.proofs.Common.{◌&&◌, refl, sym, ap, ◌∙◌, subst, arith, length-append}
+use Rattle.std.proofs.Common.{◌≡◌, ℕ, zero, suc, ◌+◌, ◌*◌, ◌<◌, List, [], ◌∷◌, ◌++◌, length, take, drop, replicate, Option, Some, None, Bool, true, false}
+use Rattle.std.proofs.Common.{refl, sym, ap, ◌∙◌, subst, arith, length-append}
 use Rattle.std.specs.Prelude.{slice_get}
 use Rattle.std.proofs.lemmas.Bool.{eqb-true}
 use Rattle.std.proofs.lemmas.List.Concat.{flat_map-cons}
 use Rattle.eu_base.specs.declared.value.Kind.{Kind}
-use Rattle.eu_base.specs.declared.shape.Shape.{Shape, roll-Shape}
+use Rattle.eu_base.specs.declared.shape.Shape.{Shape}
 use Rattle.eu_base.specs.declared.shape.Shape.TheVariants as shape
 use Rattle.eu_base.specs.declared.shape.Shape.TheOpen as open_shape
 use Rattle.eu_base.specs.declared.shape.Shape.TheFolds.{fold-roll-Shape}

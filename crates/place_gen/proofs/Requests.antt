@@ -25,15 +25,15 @@ use Rattle.place_gen.specs.Correct.{Comes, scene_of}
 use Rattle.place_gen.proofs.Lines.{join_sized}
 use Rattle.place_gen.proofs.Tables.{size_is}
 use Rattle.place_gen.proofs.Cells.{Uses, Keeps}
-use Rattle.place_gen.proofs.Carry.{finish, reach, Ends, Does, does_given, does_go, stop_comes, put_ends, at_one, TakeAll, passed_operand, pushed_passed, here}
+use Rattle.place_gen.proofs.Carry.{P, finish, reach, Ends, Does, does_given, does_go, stop_comes, put_ends, at_one, TakeAll, passed_operand, pushed_passed, here}
 use Rattle.place_gen.proofs.Carry.{ask_carries, join_carries}
 use Rattle.place_gen.proofs.Slots.{values_same, all_taken, behind}
 use Rattle.place_gen.proofs.Forms.{IsAction}
 use Rattle.place_gen.proofs.Calls.{AreActuals}
 
 -- where a reply was given, and a run goes on behind the request
-module _ (p : Program) (L : Uses) (room : length L ≤ CELLS) (c : Position) (r : Reply) (ops : List Operand) (w : World) (cells : Cells)
-    (k : Unit {0} → World → Ending) (l : Exit → Option (List Value) → World → Ending) (kept : Keeps L w.store cells)
+module _ (p : Program) (L : Uses) (few : length (P p) ≤ CELLS) (room : length L ≤ CELLS) (c : Position) (r : Reply) (ops : List Operand) (w : World) (cells : Cells)
+    (k : Unit {0} → World → Ending) (l : Exit → Option (List Value) → World → Ending) (kept : Keeps (P p) L w cells)
     (go : (w' : World) → w'.marks ≤ w.marks → Ends p L (at c (c.pc + 1) ops) w' (k tt w')) where
   -- the value goes into the variable, where there is one
   keep_ends : (ks : List Kind) (ss : List Passed) (v : Value) → TakeAll p (map cell_place ks) L ss → ((k : Kind) (ks' : List Kind) → ks ≡ k ∷ ks' → IsOf k v)
@@ -45,7 +45,7 @@ module _ (p : Program) (L : Uses) (room : length L ≤ CELLS) (c : Position) (r 
       let x = t.0.0 in
       let does' = subst (λ s. Does p (given c r) (scene_of w cells) (keeps c (map passed_operand (s ∷ ss)) v ops cells)) t.0.1 does in
       subst (λ s. Comes p (given c r) (scene_of w cells) (finish (keep (s ∷ ss) v w) k l)) (sym t.0.1)
-      (put_ends p (given c r) (at c (c.pc + 1) ops) w x k' v (Gives (tt {0})) k l cells room (at_one k' L x t.0.2) (is k' ks refl) kept does' (go (assign x (v ∷ []) w) (omega arith)))
+      (put_ends p (given c r) (at c (c.pc + 1) ops) w x k' v (Gives (tt {0})) k l cells few room (at_one (P p) k' L x t.0.2) (is k' ks refl) kept does' (go (assign x (v ∷ []) w) (omega arith)))
 
   -- what the reply brings is read, or it stops
   reply_ends : (g : Given) (ks : List Kind) (ss : List Passed) → TakeAll p (map cell_place ks) L ss
@@ -81,7 +81,7 @@ module _ (p : Program) (body : Option ℕ) where
               by = λ k l hk w le' cells kept.
                   let read = read_as name (reply_text r) in
                   let move = λ (os : List Operand). or_halt read (λ v. keeps now os v ops cells) in
-                  reply_ends p L le.stands.room now r ops w cells k l kept (λ w' fewer. hk tt w' tt (omega (arith, le', fewer))) read (request_places name)
+                  reply_ends p L le.stands.packets le.stands.room now r ops w cells k l kept (λ w' fewer. hk tt w' tt (omega (arith, le', fewer))) read (request_places name)
                   (drop n ss) places (λ v e k' ks' is. read_gives name k' ks' (reply_text r) is v e)
                   (does_given p now r (scene_of w cells) _ (ap (λ o. takes_reply (instr_of o) r now cells) h.0
                   ∙ all_taken p L (request_operands name) (request_size name) ss ops

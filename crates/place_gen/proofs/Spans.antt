@@ -4,6 +4,7 @@ use Rattle.std.proofs.Common.{◌&&◌, ◌-◌, replicate, None, nat_le, refl, 
 use Rattle.std.specs.Prelude.{slice_get, ℤ, pos, negsuc}
 use Rattle.std.proofs.lemmas.Bool.Decides.{nat_tests}
 use Rattle.std.proofs.lemmas.List.Concat.{flat_map-cons}
+use Rattle.std.proofs.lemmas.List.{get_or_append_left}
 use Rattle.eu_base.specs.Shapes.{joined}
 use Rattle.eu_base.specs.Operations.{in_row}
 use Rattle.elan_types.specs.Typing.{Held, OfKind, OfPlace, values_held, begins}
@@ -12,15 +13,18 @@ use Rattle.place_gen.proofs.Homes.{both, use_of}
 use Rattle.std.proofs.lemmas.Option.{slice_get_within}
 use Rattle.eu_base.specs.declared.address.TheConstants.{CELLS}
 use Rattle.eu_base.specs.declared.value.Kind.{Kind}
-use Rattle.eu_base.specs.declared.value.Kind.TheVariants as kinds
 use Rattle.eu_base.specs.declared.value.Value.{Value}
 use Rattle.eu_base.specs.declared.value.Value.TheVariants.{Int, Truth, Text}
 use Rattle.eu_base.specs.Values.{IsOf}
 use Rattle.eu_base.specs.Room.{value_bytes, values_bytes}
-use Rattle.eu_base.specs.Cells.{Cell, Cells, held_of, run_cell, written, place_number}
-use Rattle.code_form.specs.Machine.{Move, on_cell, on_cells, takes, takes_all, written_all, next, further}
-use Rattle.elan_types.specs.Eval.{Place, Slot, Holds, World, fetch, fetch_all, beyond, stored_from, value_of, slot_at}
-use Rattle.place_gen.proofs.Cells.{Uses, OfValue, AtKinds, Keeps, reads, writes, takes_value}
+use Rattle.eu_base.specs.declared.address.Area.{Area}
+use Rattle.eu_base.specs.declared.address.Area.TheVariants.{Run, Packets}
+use Rattle.eu_base.specs.Cells.{Cells, held_of, area_cell, run_cell, packet_cell, written}
+use Rattle.code_form.specs.Machine.{Move, on_cell, on_cells, takes_all, written_all, next}
+use Rattle.elan_types.specs.Eval.{Place, Slot, Taken, World, slots_in, fetch, fetch_all, beyond, assign, stored_from, value_of, slot_at}
+use Rattle.place_gen.specs.Correct.{addr_of}
+use Rattle.place_gen.proofs.Cells.{Uses, OfValue, AtKinds, AtPlace, uses_in, KeepsIn, Keeps, kept_in, room_in, reads, writes, takes_value}
+use Rattle.place_gen.proofs.Cells.{packets_stay, command_stays}
 
 -- values of these kinds, one each
 abbrev pub AreOf : List Kind → List Value → Type 0
@@ -35,61 +39,112 @@ AreOf-length (k ∷ ks) [] h = absurd h
 AreOf-length (k ∷ ks) (v ∷ vs) h = ap suc (AreOf-length ks vs h.1)
 
 -- the cell behind one is the next, where there are more
-next_is : (ks : List Kind) (L : Uses) (x : ℕ) (cells : Cells) (go : List Value → Move) → length L ≤ CELLS → AtKinds ks L (x + 1)
-    → on_cells ks (next (run_cell x)) cells go ≡ on_cells ks (run_cell (x + 1)) cells go
-next_is [] L x cells go room h = refl
-next_is (k ∷ ks) L x cells go room h =
+next_is : (area : Area) (ks : List Kind) (L : Uses) (x : ℕ) (cells : Cells) (go : List Value → Move) → length L ≤ CELLS → AtKinds ks L (x + 1)
+    → on_cells ks (next (area_cell area x)) cells go ≡ on_cells ks (area_cell area (x + 1)) cells go
+next_is area [] L x cells go room h = refl
+next_is area (k ∷ ks) L x cells go room h =
     let small : (x + 1) % CELLS ≡ x + 1 = omega (arith, slice_get_within L (x + 1) (OfValue k) h.0, room) in
-    ap (λ n. on_cells (k ∷ ks) (run_cell n) cells go) small
+    ap (λ n. on_cells (k ∷ ks) (area_cell area n) cells go) small
+
+-- the values in cells of an area
+abbrev fetched : List Kind → ℕ → List Slot → List Value
+fetched [] x slots = []
+fetched (k ∷ ks) x slots = value_of (slot_at slots x) ∷ fetched ks (x + 1) slots
+
+fetched_is : (ks : List Kind) (x : Place) (w : World) → fetched ks x.variable (slots_in x.area w) ≡ fetch_all ks x w
+fetched_is [] x w = refl
+fetched_is (k ∷ ks) x w = ap (λ vs. fetch x w ∷ vs) (fetched_is ks (beyond x 1) w)
+
+reads_there : (area : Area) (P : List Kind) (ks : List Kind) (L : Uses) (slots : List Slot) (cells : Cells) (x : ℕ) (go : List Value → Move) → length L ≤ CELLS
+    → KeepsIn area P L slots cells → AtKinds ks L x
+    → AreOf ks (fetched ks x slots) × (on_cells ks (area_cell area x) cells go ≡ go (fetched ks x slots))
+reads_there area P [] L slots cells x go room h at = (tt, refl)
+reads_there area P (k ∷ ks) L slots cells x go room h at =
+    let more = λ (v : Value). on_cells ks (next (area_cell area x)) cells (λ vs. go (v ∷ vs)) in
+    let one = reads area P L slots cells x k more h at.0 in
+    let go' = λ (vs : List Value). go (value_of (slot_at slots x) ∷ vs) in
+    let rest = reads_there area P ks L slots cells (x + 1) go' room h at.1 in
+    ((one.0, rest.0), one.1 ∙ next_is area ks L x cells go' room at.1 ∙ rest.1)
 
 -- the value at a place is read out of its cells
-pub reads_all : (ks : List Kind) (L : Uses) (w : World) (cells : Cells) (x : Place) (go : List Value → Move) → length L ≤ CELLS → Keeps L w.store cells
-    → AtKinds ks L x.variable → AreOf ks (fetch_all ks x w) × (on_cells ks (run_cell x.variable) cells go ≡ go (fetch_all ks x w))
-reads_all [] L w cells x go room h at = (tt, refl)
-reads_all (k ∷ ks) L w cells x go room h at =
-    let more = λ (v : Value). on_cells ks (next (run_cell x.variable)) cells (λ vs. go (v ∷ vs)) in
-    let one = reads L w.store cells x.variable k more h at.0 in
-    let go' = λ (vs : List Value). go (fetch x w ∷ vs) in
-    let rest = reads_all ks L w cells (beyond x 1) go' room h at.1 in
-    ((one.0, rest.0), one.1 ∙ next_is ks L x.variable cells go' room at.1 ∙ rest.1)
+pub reads_all : (P : List Kind) (ks : List Kind) (L : Uses) (w : World) (cells : Cells) (x : Place) (go : List Value → Move) → length P ≤ CELLS
+    → length L ≤ CELLS → Keeps P L w cells → AtPlace P ks L x → AreOf ks (fetch_all ks x w) × (on_cells ks (addr_of x) cells go ≡ go (fetch_all ks x w))
+reads_all P ks L w cells x go few room h at =
+    subst (λ vs. AreOf ks vs × (on_cells ks (addr_of x) cells go ≡ go vs)) (fetched_is ks x w)
+    (reads_there x.area P ks (uses_in P L x.area) (slots_in x.area w) cells x.variable go (room_in x.area P L few room) (kept_in x.area P L w cells h) at.0)
+
+-- the value of one cell
+pub reads_one : (P : List Kind) (L : Uses) (w : World) (cells : Cells) (x : Place) (k : Kind) (go : Value → Move) → Keeps P L w cells
+    → slice_get (uses_in P L x.area) x.variable ≡ Some (OfValue k) → IsOf k (fetch x w) × (on_cell k (cells (addr_of x)) go ≡ go (fetch x w))
+reads_one P L w cells x k go h is = reads x.area P (uses_in P L x.area) (slots_in x.area w) cells x.variable k go (kept_in x.area P L w cells h) is
 
 -- the same with what is written and taken
-written_next : (ks : List Kind) (vs : List Value) (L : Uses) (x : ℕ) (cells : Cells) → length L ≤ CELLS → AtKinds ks L (x + 1) → AreOf ks vs
-    → written_all cells (next (run_cell x)) vs ≡ written_all cells (run_cell (x + 1)) vs
-written_next [] [] L x cells room h ok = refl
-written_next [] (v ∷ vs) L x cells room h ok = absurd ok
-written_next (k ∷ ks) vs L x cells room h ok =
+written_next : (area : Area) (ks : List Kind) (vs : List Value) (L : Uses) (x : ℕ) (cells : Cells) → length L ≤ CELLS → AtKinds ks L (x + 1) → AreOf ks vs
+    → written_all cells (next (area_cell area x)) vs ≡ written_all cells (area_cell area (x + 1)) vs
+written_next area [] [] L x cells room h ok = refl
+written_next area [] (v ∷ vs) L x cells room h ok = absurd ok
+written_next area (k ∷ ks) vs L x cells room h ok =
     let small : (x + 1) % CELLS ≡ x + 1 = omega (arith, slice_get_within L (x + 1) (OfValue k) h.0, room) in
-    ap (λ n. written_all cells (run_cell n) vs) small
+    ap (λ n. written_all cells (area_cell area n) vs) small
 
-takes_next : (ks : List Kind) (vs : List Value) (L : Uses) (x : ℕ) (cells : Cells) → length L ≤ CELLS → AtKinds ks L (x + 1) → AreOf ks vs
-    → takes_all vs (next (run_cell x)) cells ≡ takes_all vs (run_cell (x + 1)) cells
-takes_next [] [] L x cells room h ok = refl
-takes_next [] (v ∷ vs) L x cells room h ok = absurd ok
-takes_next (k ∷ ks) vs L x cells room h ok =
+takes_next : (area : Area) (ks : List Kind) (vs : List Value) (L : Uses) (x : ℕ) (cells : Cells) → length L ≤ CELLS → AtKinds ks L (x + 1) → AreOf ks vs
+    → takes_all vs (next (area_cell area x)) cells ≡ takes_all vs (area_cell area (x + 1)) cells
+takes_next area [] [] L x cells room h ok = refl
+takes_next area [] (v ∷ vs) L x cells room h ok = absurd ok
+takes_next area (k ∷ ks) vs L x cells room h ok =
     let small : (x + 1) % CELLS ≡ x + 1 = omega (arith, slice_get_within L (x + 1) (OfValue k) h.0, room) in
-    ap (λ n. takes_all vs (run_cell n) cells) small
+    ap (λ n. takes_all vs (area_cell area n) cells) small
+
+writes_there : (area : Area) (P : List Kind) (ks : List Kind) (vs : List Value) (L : Uses) (slots : List Slot) (cells : Cells) (x : ℕ) → length L ≤ CELLS
+    → KeepsIn area P L slots cells → AtKinds ks L x → AreOf ks vs → KeepsIn area P L (stored_from x vs slots) (written_all cells (area_cell area x) vs)
+writes_there area P [] [] L slots cells x room h at ok = h
+writes_there area P [] (v ∷ vs) L slots cells x room h at ok = absurd ok
+writes_there area P (k ∷ ks) [] L slots cells x room h at ok = absurd ok
+writes_there area P (k ∷ ks) (v ∷ vs) L slots cells x room h at ok =
+    let one = writes area P L slots cells x k v h at.0 ok.0 in
+    subst (λ cells. KeepsIn area P L (stored_from x (v ∷ vs) slots) cells)
+    (sym (written_next area ks vs L x (written cells (area_cell area x) (held_of v)) room at.1 ok.1))
+    (writes_there area P ks vs L _ _ (x + 1) room one at.1 ok.1)
+
+-- what is written in one area changes nothing of the other
+beside_command : (vs : List Value) (x y : ℕ) (cells : Cells) → written_all cells (run_cell x) vs (packet_cell y) ≡ cells (packet_cell y)
+beside_command [] x y cells = refl
+beside_command (v ∷ vs) x y cells = beside_command vs ((x + 1) % CELLS) y (written cells (run_cell x) (held_of v))
+
+beside_packets : (vs : List Value) (x y : ℕ) (cells : Cells) → written_all cells (packet_cell x) vs (run_cell y) ≡ cells (run_cell y)
+beside_packets [] x y cells = refl
+beside_packets (v ∷ vs) x y cells = beside_packets vs ((x + 1) % CELLS) y (written cells (packet_cell x) (held_of v))
 
 -- a value of these kinds is written to a place
-pub writes_all : (ks : List Kind) (vs : List Value) (L : Uses) (store : List Slot) (cells : Cells) (x : ℕ) → length L ≤ CELLS → Keeps L store cells
-    → AtKinds ks L x → AreOf ks vs → Keeps L (stored_from x vs store) (written_all cells (run_cell x) vs)
-writes_all [] [] L store cells x room h at ok = h
-writes_all [] (v ∷ vs) L store cells x room h at ok = absurd ok
-writes_all (k ∷ ks) [] L store cells x room h at ok = absurd ok
-writes_all (k ∷ ks) (v ∷ vs) L store cells x room h at ok =
-    let one = writes L store cells x k v h at.0 ok.0 in
-    subst (λ cells. Keeps L (stored_from x (v ∷ vs) store) cells) (sym (written_next ks vs L x (written cells (run_cell x) (held_of v)) room at.1 ok.1))
-    (writes_all ks vs L _ _ (x + 1) room one at.1 ok.1)
+pub writes_all : (P : List Kind) (ks : List Kind) (vs : List Value) (L : Uses) (w : World) (cells : Cells) (x : Place) → length P ≤ CELLS → length L ≤ CELLS
+    → Keeps P L w cells → AtPlace P ks L x → AreOf ks vs → Keeps P L (assign x vs w) (written_all cells (addr_of x) vs)
+writes_all P ks vs L w cells x few room h at ok = by x.area x.variable at.0
+  where
+    by : (area : Area) (n : ℕ) → AtKinds ks (uses_in P L area) n
+        → Keeps P L (assign (record { area = area; variable = n }) vs w) (written_all cells (area_cell area n) vs)
+    by Run n at_n = record {
+      command = writes_there Run P ks vs L w.store cells n room h.command at_n ok;
+      packets = packets_stay P (map OfValue P) w.packets cells (written_all cells (run_cell n) vs) (λ y. beside_command vs n y cells) h.packets;
+    }
+    by Packets n at_n = record {
+      command = command_stays P L w.store cells (written_all cells (packet_cell n) vs) (λ y. beside_packets vs n y cells) h.command;
+      packets = writes_there Packets P ks vs (map OfValue P) w.packets cells n (room_in Packets P L few room) h.packets at_n ok;
+    }
+
+takes_there : (area : Area) (P : List Kind) (ks : List Kind) (vs : List Value) (L : Uses) (slots : List Slot) (cells : Cells) (x : ℕ) → length L ≤ CELLS
+    → KeepsIn area P L slots cells → AtKinds ks L x → AreOf ks vs → takes_all vs (area_cell area x) cells ≡ true
+takes_there area P [] [] L slots cells x room h at ok = refl
+takes_there area P [] (v ∷ vs) L slots cells x room h at ok = absurd ok
+takes_there area P (k ∷ ks) [] L slots cells x room h at ok = absurd ok
+takes_there area P (k ∷ ks) (v ∷ vs) L slots cells x room h at ok =
+    ap (λ t. t && takes_all vs (next (area_cell area x)) cells) (takes_value area P L slots cells x k v h at.0 ok.0)
+    ∙ takes_next area ks vs L x cells room at.1 ok.1 ∙ takes_there area P ks vs L slots cells (x + 1) room h at.1 ok.1
 
 -- its cells take each value of these kinds
-pub takes_values : (ks : List Kind) (vs : List Value) (L : Uses) (store : List Slot) (cells : Cells) (x : ℕ) → length L ≤ CELLS → Keeps L store cells
-    → AtKinds ks L x → AreOf ks vs → takes_all vs (run_cell x) cells ≡ true
-takes_values [] [] L store cells x room h at ok = refl
-takes_values [] (v ∷ vs) L store cells x room h at ok = absurd ok
-takes_values (k ∷ ks) [] L store cells x room h at ok = absurd ok
-takes_values (k ∷ ks) (v ∷ vs) L store cells x room h at ok =
-    ap (λ t. t && takes_all vs (next (run_cell x)) cells) (takes_value L store cells x k v h at.0 ok.0)
-    ∙ takes_next ks vs L x cells room at.1 ok.1 ∙ takes_values ks vs L store cells (x + 1) room h at.1 ok.1
+pub takes_values : (P : List Kind) (ks : List Kind) (vs : List Value) (L : Uses) (w : World) (cells : Cells) (x : Place) → length P ≤ CELLS
+    → length L ≤ CELLS → Keeps P L w cells → AtPlace P ks L x → AreOf ks vs → takes_all vs (addr_of x) cells ≡ true
+takes_values P ks vs L w cells x few room h at ok =
+    takes_there x.area P ks vs (uses_in P L x.area) (slots_in x.area w) cells x.variable (room_in x.area P L few room) (kept_in x.area P L w cells h) at.0 ok
 
 -- a value of these kinds takes at least eight bytes a cell
 one_bytes : (v : Value) → 8 ≤ value_bytes v
@@ -200,3 +255,22 @@ in_row_low n (pos m) i e = by (nat_le 1 m) (nat_le m n) refl refl e
     by true false a b e = let f : ⊥ = cc in absurd f
     by false t a b e = let f : ⊥ = cc in absurd f
 in_row_low n (negsuc m) i e = let f : ⊥ = cc in absurd f
+
+-- the same at a place
+pub place_this : (P : List Kind) (k : Kind) (L : Uses) (x : Place) → length P ≤ CELLS → length L ≤ CELLS → slice_get (uses_in P L x.area) x.variable ≡ Some (OfValue k)
+    → AtPlace P (k ∷ []) L x
+place_this P k L x few room e =
+    let U = uses_in P L x.area in
+    (at_this k U x.variable e, omega (arith, slice_get_within U x.variable (OfValue k) e, room_in x.area P L few room))
+
+-- a value stands where it stood, with more slots behind
+pub fetch_wider : (P : List Kind) (L : Uses) (w : World) (cells : Cells) (x : Place) (k : Kind) (more : List Slot) → Keeps P L w cells
+    → slice_get (uses_in P L x.area) x.variable ≡ Some (OfValue k) → fetch x (record w { store = w.store ++ more }) ≡ fetch x w
+fetch_wider P L w cells x k more h is = by x.area x.variable is
+  where
+    by : (area : Area) (n : ℕ) → slice_get (uses_in P L area) n ≡ Some (OfValue k)
+        → fetch (record { area = area; variable = n }) (record w { store = w.store ++ more }) ≡ fetch (record { area = area; variable = n }) w
+    by Run n e =
+        let within : n < length w.store = omega (arith, slice_get_within L n (OfValue k) e, h.command.as_many) in
+        ap value_of (get_or_append_left w.store more Taken n within)
+    by Packets n e = refl

@@ -30,12 +30,12 @@ use Rattle.elan_types.specs.declared.core_phrase.Arm.{Arm}
 use Rattle.elan_types.specs.declared.core_phrase.ValueArm.{ValueArm}
 use Rattle.elan_types.specs.declared.core_phrase.Action.TheOpen as t
 use Rattle.elan_types.specs.declared.core_phrase.Action.TheOpen.{Action-F, Actual-F, PlacePhrase-F, ValuePhrase-F, Arm-F, ValueArm-F}
-use Rattle.elan_types.specs.declared.core_phrase.Action.TheFolds.{fold-Actual, fold-PlacePhrase, fold-Arm, fold-ValueArm, ind-Action, ind-ValuePhrase}
+use Rattle.elan_types.specs.declared.core_phrase.Action.TheFolds.{fold-Actual, fold-Arm, fold-ValueArm, ind-Action, ind-ValuePhrase}
 use Rattle.elan_types.specs.declared.core_phrase.Action.TheFolds.{map-Action, map-Actual, map-PlacePhrase}
 use Rattle.elan_types.specs.declared.core_phrase.Action.TheFolds.{map-ValuePhrase, map-Arm, map-ValueArm, fold-roll-Action, fold-roll-Actual}
 use Rattle.elan_types.specs.declared.core_phrase.Action.TheFolds.{fold-roll-PlacePhrase, fold-roll-ValuePhrase, fold-roll-Arm, fold-roll-ValueArm}
 use Rattle.elan_types.specs.Typing as typing
-use Rattle.elan_types.specs.Typing.{Typed, Taken, Home, has, only_if, starts, frame_here, place_kinds, has_if_written, have, all_agree, all_true, take_all, given_as}
+use Rattle.elan_types.specs.Typing.{Outside, Typed, Taken, Home, has, only_if, starts, frame_here, place_kinds, has_if_written, have, all_agree, all_true, take_all, given_as}
 use Rattle.elan_types.specs.Typing.{phrase_shape, is_typed, value_kind_step, actual_kind_step, place_kinds_step, value_arm_kind_step, action_typed_step}
 use Rattle.elan_types.specs.Typing.{arm_typed_step}
 use Rattle.elan_types.specs.Typing.{is_content_typed, result_of_content, formal, request_formals}
@@ -49,7 +49,7 @@ use Rattle.place_gen.proofs.PlaceKinds.{part_known}
 use Rattle.place_gen.proofs.Homes.{has_is, has_shape_is, takes_is, formals_take, without_is, with_is, none_is}
 use Rattle.place_gen.proofs.Lines.{HasAt, IsSized, join_sized}
 use Rattle.place_gen.proofs.Tables.{Each, ends_good, leave_fine, Table, ValueTable, PlaceTable, ActionTable, above, none_table, join_table, mark_table, number_table}
-use Rattle.place_gen.proofs.Tables.{truth_table, text_table, outer_table, local_table, parameter_table, item_table, field_table, pick_table, take_table, load_table, store_table, modify_table, apply_table, ask_table, error_stop_table}
+use Rattle.place_gen.proofs.Tables.{truth_table, text_table, outer_table, packet_table, local_table, parameter_table, item_table, field_table, pick_table, take_table, load_table, store_table, modify_table, apply_table, ask_table, error_stop_table}
 use Rattle.place_gen.proofs.Tables.{call_table, refer_table, leave_table, leave_with_table}
 use Rattle.place_gen.proofs.LoopTables.{if_table, otherwise_table, arm_table, ExitTable, stays_table, while_table, until_table, step_table, AtLeastOne}
 use Rattle.place_gen.proofs.LoopTables.{step_to_table, turn_table, loop_table, never_table, counted_none_table, counted_some_table}
@@ -57,7 +57,7 @@ use Rattle.place_gen.proofs.LoopTables.{step_to_table, turn_table, loop_table, n
 abbrev fst : {A : Type 0} {B : A → Type 0} → (a : A) × B a → A
 fst x = x.0
 
-module _ (p : Program) (variables : List Kind) (bodies : List Body) (agrees : Agrees p variables bodies) (home : Home) (is_home : IsHome bodies home) where
+module _ (p : Program) (outside : Outside) (bodies : List Body) (agrees : Agrees p outside bodies) (home : Home) (is_home : IsHome bodies home) where
   abbrev T : (List OperandKind → List OperandKind) → (List OperandKind → List OperandKind) → Stretch → Type 0
   T = Table p home
 
@@ -71,28 +71,28 @@ module _ (p : Program) (variables : List Kind) (bodies : List Body) (agrees : Ag
   AT = ActionTable p home
 
   abbrev typed : Action → Bool
-  typed = is_typed variables bodies home
+  typed = is_typed outside bodies home
 
   abbrev kind : ValuePhrase → Typed
-  kind = phrase_shape variables bodies home
+  kind = phrase_shape outside bodies home
 
   abbrev given : Actual → Taken
   given =
-      fold-Actual Bool Taken (List Kind) Typed Bool Typed (action_typed_step variables bodies home) (actual_kind_step variables bodies home)
-      (place_kinds_step variables bodies home) (value_kind_step variables bodies home) (arm_typed_step variables bodies home) (value_arm_kind_step variables bodies home)
+      fold-Actual Bool Taken (List Kind) Typed Bool Typed (action_typed_step outside bodies home) (actual_kind_step outside bodies home)
+      (place_kinds_step outside bodies home) (value_kind_step outside bodies home) (arm_typed_step outside bodies home) (value_arm_kind_step outside bodies home)
 
   abbrev arm_typed : Arm → Bool
   arm_typed =
-      fold-Arm Bool Taken (List Kind) Typed Bool Typed (action_typed_step variables bodies home) (actual_kind_step variables bodies home)
-      (place_kinds_step variables bodies home) (value_kind_step variables bodies home) (arm_typed_step variables bodies home) (value_arm_kind_step variables bodies home)
+      fold-Arm Bool Taken (List Kind) Typed Bool Typed (action_typed_step outside bodies home) (actual_kind_step outside bodies home)
+      (place_kinds_step outside bodies home) (value_kind_step outside bodies home) (arm_typed_step outside bodies home) (value_arm_kind_step outside bodies home)
 
   abbrev arm_kind : ValueArm → Typed
   arm_kind =
-      fold-ValueArm Bool Taken (List Kind) Typed Bool Typed (action_typed_step variables bodies home) (actual_kind_step variables bodies home)
-      (place_kinds_step variables bodies home) (value_kind_step variables bodies home) (arm_typed_step variables bodies home) (value_arm_kind_step variables bodies home)
+      fold-ValueArm Bool Taken (List Kind) Typed Bool Typed (action_typed_step outside bodies home) (actual_kind_step outside bodies home)
+      (place_kinds_step outside bodies home) (value_kind_step outside bodies home) (arm_typed_step outside bodies home) (value_arm_kind_step outside bodies home)
 
   abbrev place_here : PlacePhrase → List Kind
-  place_here = place_kinds variables bodies home
+  place_here = place_kinds outside bodies home
 
   abbrev Q : Action → Type 0
   Q a = typed a ≡ true → AT (action_code a)
@@ -233,7 +233,7 @@ module _ (p : Program) (variables : List Kind) (bodies : List Body) (agrees : Ag
   VLayer = ValuePhrase-F ((a : Action) × Q a) ((a : Actual) × N a) ((q : PlacePhrase) × W q) ((e : ValuePhrase) × P e) ((a : Arm) × R a) ((a : ValueArm) × S a)
 
   value_parts : (y : VLayer) (u : Shape)
-      → value_kind_step variables bodies home
+      → value_kind_step outside bodies home
       (map-ValuePhrase _ _ _ _ _ _ _ _ _ _ _ _ typed given place_here kind arm_typed arm_kind (map-ValuePhrase _ _ _ _ _ _ _ _ _ _ _ _ fst fst fst fst fst fst y)) ≡ Some u
       → VT u (value_code_step
       (map-ValuePhrase _ _ _ _ _ _ _ _ _ _ _ _ action_code actual_code place_code value_code arm_code_of value_arm_code
@@ -260,7 +260,7 @@ module _ (p : Program) (variables : List Kind) (bodies : List Body) (agrees : Ag
   value_parts (t.ValuePhrase::Call q as' v) u e =
       let f = only_if_is _ _ u e in
       let g = both _ _ f.0 in
-      let i = proc_is p variables bodies agrees q _ (Some v) g.0 (has_shape_is v _ g.1) in
+      let i = proc_is p outside bodies agrees q _ (Some v) g.0 (has_shape_is v _ g.1) in
       let j = actuals_are i.parameters as' i.takes in
       of_shape v u f.1 (call_table p home q i.entry (map parameter_kind i.parameters) i.cells (Some v) (map actual_code (map fst as')) i.has i.own
       i.delivers j.as_many j.table)
@@ -268,7 +268,7 @@ module _ (p : Program) (variables : List Kind) (bodies : List Body) (agrees : Ag
   value_parts (t.ValuePhrase::Refer q v) u e =
       let f = only_if_is _ _ u e in
       let g = both _ _ f.0 in
-      let i = part_is p variables bodies agrees q home is_home (Some v) g.0 (has_shape_is v _ g.1) in
+      let i = part_is p outside bodies agrees q home is_home (Some v) g.0 (has_shape_is v _ g.1) in
       of_shape v u f.1 (refer_table p home q i.entry (Some v) i.has i.refinement i.owned i.delivers)
   value_parts (t.Pick a i items v) u e =
       let f = only_if_is _ _ u e in
@@ -286,17 +286,18 @@ module _ (p : Program) (variables : List Kind) (bodies : List Body) (agrees : Ag
   WLayer = PlacePhrase-F ((a : Action) × Q a) ((a : Actual) × N a) ((q : PlacePhrase) × W q) ((e : ValuePhrase) × P e) ((a : Arm) × R a) ((a : ValueArm) × S a)
 
   place_parts : (y : WLayer) (k : Kind) (ks : List Kind)
-      → place_kinds_step variables bodies home
+      → place_kinds_step outside bodies home
       (map-PlacePhrase _ _ _ _ _ _ _ _ _ _ _ _ typed given place_here kind arm_typed arm_kind (map-PlacePhrase _ _ _ _ _ _ _ _ _ _ _ _ fst fst fst fst fst fst y)) ≡ k ∷ ks
       → (s : Shape) → PT s (place_code_step
       (map-PlacePhrase _ _ _ _ _ _ _ _ _ _ _ _ action_code actual_code place_code value_code arm_code_of value_arm_code
       (map-PlacePhrase _ _ _ _ _ _ _ _ _ _ _ _ fst fst fst fst fst fst y)) s)
-  place_parts (t.Variable x) k ks e s = outer_table p home x s k (ap (λ l. slice_get l x) agrees.level ∙ first_behind x variables k ks e)
+  place_parts (t.Packet x) k ks e s = packet_table p home x s k (ap (λ l. slice_get l x) agrees.packets ∙ first_behind x outside.packets k ks e)
+  place_parts (t.Variable x) k ks e s = outer_table p home x s k (ap (λ l. slice_get l x) agrees.level ∙ first_behind x outside.variables k ks e)
   place_parts (t.Local x) k ks e s =
-      local_table p home x s k (held_cell p variables bodies agrees home is_home x (typing.OfKind k) (held_behind x (frame_here variables bodies home) k ks e))
+      local_table p home x s k (held_cell p outside bodies agrees home is_home x (typing.OfKind k) (held_behind x (frame_here outside bodies home) k ks e))
   place_parts (t.Parameter x) k ks e s =
       parameter_table p home x s
-      (held_cell p variables bodies agrees home is_home x (typing.OfPlace (k ∷ ks)) (place_held_is (slice_get (frame_here variables bodies home) x) k ks e))
+      (held_cell p outside bodies agrees home is_home x (typing.OfPlace (k ∷ ks)) (place_held_is (slice_get (frame_here outside bodies home) x) k ks e))
   place_parts (t.Item q a items) k ks e s =
       let f = if_true_is _ _ k ks e in
       let i = items_are items.count items.cells (place_here q.0) k ks f.1 in
@@ -309,7 +310,7 @@ module _ (p : Program) (variables : List Kind) (bodies : List Body) (agrees : Ag
   NLayer = Actual-F ((a : Action) × Q a) ((a : Actual) × N a) ((q : PlacePhrase) × W q) ((e : ValuePhrase) × P e) ((a : Arm) × R a) ((a : ValueArm) × S a)
 
   actual_parts : (y : NLayer) (f : Formal)
-      → actual_kind_step variables bodies home
+      → actual_kind_step outside bodies home
       (map-Actual _ _ _ _ _ _ _ _ _ _ _ _ typed given place_here kind arm_typed arm_kind (map-Actual _ _ _ _ _ _ _ _ _ _ _ _ fst fst fst fst fst fst y)) ≡ Some f
       → T keeps (pushes (parameter_kind f))
       (actual_code_step (map-Actual _ _ _ _ _ _ _ _ _ _ _ _ action_code actual_code place_code value_code arm_code_of value_arm_code
@@ -334,7 +335,7 @@ module _ (p : Program) (variables : List Kind) (bodies : List Body) (agrees : Ag
   ALayer = Action-F ((a : Action) × Q a) ((a : Actual) × N a) ((q : PlacePhrase) × W q) ((e : ValuePhrase) × P e) ((a : Arm) × R a) ((a : ValueArm) × S a)
 
   action_parts : (y : ALayer)
-      → action_typed_step variables bodies home
+      → action_typed_step outside bodies home
       (map-Action _ _ _ _ _ _ _ _ _ _ _ _ typed given place_here kind arm_typed arm_kind (map-Action _ _ _ _ _ _ _ _ _ _ _ _ fst fst fst fst fst fst y)) ≡ true
       → AT (action_code_step (map-Action _ _ _ _ _ _ _ _ _ _ _ _ action_code actual_code place_code value_code arm_code_of value_arm_code
       (map-Action _ _ _ _ _ _ _ _ _ _ _ _ fst fst fst fst fst fst y)))
@@ -373,27 +374,27 @@ module _ (p : Program) (variables : List Kind) (bodies : List Body) (agrees : Ag
   action_parts (t.ErrorStop a) e = error_stop_table p home (a.1 (Cell kinds.Text) (has_is kinds.Text _ e))
   action_parts (t.Action::Call q as') e =
       let g = both _ _ e in
-      let i = proc_is p variables bodies agrees q _ None g.0 (none_is _ g.1) in
+      let i = proc_is p outside bodies agrees q _ None g.0 (none_is _ g.1) in
       let j = actuals_are i.parameters as' i.takes in
       call_table p home q i.entry (map parameter_kind i.parameters) i.cells None (map actual_code (map fst as')) i.has i.own i.delivers j.as_many j.table
   action_parts (t.Action::Refer q) e =
       let g = both _ _ e in
-      let i = part_is p variables bodies agrees q home is_home None g.0 (none_is _ g.1) in
+      let i = part_is p outside bodies agrees q home is_home None g.0 (none_is _ g.1) in
       refer_table p home q i.entry None i.has i.refinement i.owned i.delivers
-  action_parts (t.Leave x) e = leave_table p home x (left_is p variables bodies agrees x home None is_home (without_is _ e))
+  action_parts (t.Leave x) e = leave_table p home x (left_is p outside bodies agrees x home None is_home (without_is _ e))
   action_parts (t.LeaveWith x u a) e =
       let f = both _ _ e in
-      leave_with_table p home x u (left_is p variables bodies agrees x home (Some u) is_home (with_is u _ f.1)) (a.1 u (has_shape_is u _ f.0))
+      leave_with_table p home x u (left_is p outside bodies agrees x home (Some u) is_home (with_is u _ f.1)) (a.1 u (has_shape_is u _ f.0))
 
   arm_parts : (y : Arm-F ((a : Action) × Q a) ((a : Actual) × N a) ((q : PlacePhrase) × W q) ((e : ValuePhrase) × P e) ((a : Arm) × R a) ((a : ValueArm) × S a))
-      → arm_typed_step variables bodies home
+      → arm_typed_step outside bodies home
       (map-Arm _ _ _ _ _ _ _ _ _ _ _ _ typed given place_here kind arm_typed arm_kind (map-Arm _ _ _ _ _ _ _ _ _ _ _ _ fst fst fst fst fst fst y)) ≡ true
       → AT (arm_code_step (map-Arm _ _ _ _ _ _ _ _ _ _ _ _ action_code actual_code place_code value_code arm_code_of value_arm_code
       (map-Arm _ _ _ _ _ _ _ _ _ _ _ _ fst fst fst fst fst fst y))).part
   arm_parts y e = actions_are y.units e
 
   value_arm_parts : (y : ValueArm-F ((a : Action) × Q a) ((a : Actual) × N a) ((q : PlacePhrase) × W q) ((e : ValuePhrase) × P e) ((a : Arm) × R a) ((a : ValueArm) × S a)) (u : Shape)
-      → value_arm_kind_step variables bodies home
+      → value_arm_kind_step outside bodies home
       (map-ValueArm _ _ _ _ _ _ _ _ _ _ _ _ typed given place_here kind arm_typed arm_kind (map-ValueArm _ _ _ _ _ _ _ _ _ _ _ _ fst fst fst fst fst fst y)) ≡ Some u
       → VT u (value_arm_code_step
       (map-ValueArm _ _ _ _ _ _ _ _ _ _ _ _ action_code actual_code place_code value_code arm_code_of value_arm_code
@@ -437,7 +438,7 @@ module _ (p : Program) (variables : List Kind) (bodies : List Body) (agrees : Ag
     pub sized : IsSized f
     pub good : (pc : ℕ) (m : Spot) → m.body ≡ home → HasAt p.lines pc (f.lines [] m pc) → Next p.lines pc [] m × Each p pc (f.lines [] m pc)
 
-  pub content_is : (c : Content) → is_content_typed variables bodies home c ≡ true → Delivers p home (result_of_content c)
+  pub content_is : (c : Content) → is_content_typed outside bodies home c ≡ true → Delivers p home (result_of_content c)
       → IsGood (content_code c)
   content_is (contents.Units us) e left =
       let i = all_are us e in

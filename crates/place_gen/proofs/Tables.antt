@@ -16,13 +16,13 @@ use Rattle.eu_base.specs.declared.request.RequestName.{RequestName}
 use Rattle.code_form.specs.declared.operand.OperandKind.{OperandKind}
 use Rattle.code_form.specs.declared.operand.OperandKind.TheVariants.{Value as OfShape, Place as AtShape}
 use Rattle.code_form.specs.declared.instr.Instr.{Instr}
-use Rattle.code_form.specs.declared.instr.Instr.TheVariants.{Mark, Number, Truth, Text, Outer, Local, Param, Index, Field, Pick, Take, Load, Store, Do, Modify}
+use Rattle.code_form.specs.declared.instr.Instr.TheVariants.{Mark, Number, Truth, Text, Outer, Packet, Local, Param, Index, Field, Pick, Take, Load, Store, Do, Modify}
 use Rattle.code_form.specs.declared.instr.Instr.TheVariants.{Ask, ErrorStop, Call, Refer, Back, Out}
 use Rattle.code_form.specs.declared.code.Line.{Line}
 use Rattle.code_form.specs.declared.code.Spot.{Spot}
 use Rattle.code_form.specs.declared.code.Entry.{Entry}
 use Rattle.code_form.specs.declared.code.Layout.TheVariants as layouts
-use Rattle.code_form.specs.Program.{Program, HoldsValue, HoldsPlace, line_of, owner, owner_at, layout_of, frame_cells}
+use Rattle.code_form.specs.Program.{Program, kinds_in_packets, HoldsValue, HoldsPlace, line_of, owner, owner_at, layout_of, frame_cells}
 use Rattle.code_form.specs.Valid.{Next, Lands, pushed_kinds, pushed_operands, request_operands, with_result, IsRefinement, HasResult, IsFine}
 use Rattle.code_form.specs.Valid.{cell_value, cell_place, AreItems, IsPart}
 use Rattle.elan_types.specs.declared.core_phrase.Exit.{Exit}
@@ -148,6 +148,9 @@ module _ (p : Program) (body : Option ℕ) where
   -- places
   pub outer_table : (x : ℕ) (s : Shape) (k : Kind) → slice_get p.variables x ≡ Some k → PlaceTable s (one (Outer x) (pushes (AtShape s)))
   outer_table x s k is = one_table (Outer x) _ keeps _ (λ ks. refl) (λ pc ks m home n. (k, is, (s, n)))
+
+  pub packet_table : (x : ℕ) (s : Shape) (k : Kind) → slice_get (kinds_in_packets p) x ≡ Some k → PlaceTable s (one (Packet x) (pushes (AtShape s)))
+  packet_table x s k is = one_table (Packet x) _ keeps _ (λ ks. refl) (λ pc ks m home n. (k, is, (s, n)))
 
   pub local_table : (x : ℕ) (s : Shape) (k : Kind) → slice_get (frame_cells p body) x ≡ Some (HoldsValue k) → PlaceTable s (one (Local x) (pushes (AtShape s)))
   local_table x s k is =

@@ -36,7 +36,7 @@ use Rattle.elan_types.specs.declared.core_phrase.Action.TheFolds.{map-Action, ma
 use Rattle.elan_types.specs.declared.core_phrase.Action.TheFolds.{map-ValuePhrase, map-Arm, map-ValueArm, fold-roll-Action, fold-roll-Actual}
 use Rattle.elan_types.specs.declared.core_phrase.Action.TheFolds.{fold-roll-PlacePhrase, fold-roll-ValuePhrase, fold-roll-Arm, fold-roll-ValueArm}
 use Rattle.elan_types.specs.Typing as typing
-use Rattle.elan_types.specs.Typing.{Typed, Home, has, has_if_written, have, all_agree, all_true, Taken, take_all, given_as, begins, starts, frame_here}
+use Rattle.elan_types.specs.Typing.{Outside, Typed, Home, has, has_if_written, have, all_agree, all_true, Taken, take_all, given_as, begins, starts, frame_here}
 use Rattle.elan_types.specs.Typing.{formal, request_formals, place_kinds, place_kinds_step}
 use Rattle.elan_types.specs.Typing.{phrase_shape, is_typed, value_kind_step, value_arm_kind_step, actual_kind_step, action_typed_step, arm_typed_step}
 use Rattle.elan_types.specs.Eval.{Run, Place, Passed, Labelled, bind, stored, turns, holds, branch, counted, all, values, selected, while_true, until_true, turn, go_on}
@@ -49,7 +49,7 @@ use Rattle.place_gen.specs.Layouts.{parameter_kind}
 use Rattle.place_gen.proofs.Cells.{Uses}
 use Rattle.place_gen.proofs.Carry.{Any, OfShape}
 use Rattle.place_gen.proofs.Forms.{Is, IsValue, IsAction, AllOf, pushed, keep, no_more, nothing_is, then_is, number_is, truth_is, text_is, load_is}
-use Rattle.place_gen.proofs.Forms.{IsPlace, IsPlaceOf, variable_is, local_is, parameter_is, item_is, field_is, shape_place, pick_is, take_is, store_is, no_values_are, more_values_are, apply_is}
+use Rattle.place_gen.proofs.Forms.{IsPlace, IsPlaceOf, variable_is, packet_is, local_is, parameter_is, item_is, field_is, shape_place, pick_is, take_is, store_is, no_values_are, more_values_are, apply_is}
 use Rattle.place_gen.proofs.Choices.{if_is, IsChoice, otherwise_is, arm_is, select_is, unit_is, modify_is, error_stop_is}
 use Rattle.place_gen.proofs.Calls.{IsActual, AreActuals, value_actual, place_actual, no_actuals_are, more_actuals_are, call_value_is, call_action_is}
 use Rattle.place_gen.proofs.Calls.{refer_value_is, refer_action_is, leave_is, leave_with_is}
@@ -63,27 +63,27 @@ use Rattle.place_gen.proofs.Homes.{formals_take, without_is, with_is, none_is}
 abbrev fst : {A : Type 0} {B : A → Type 0} → (a : A) × B a → A
 fst x = x.0
 
-module _ (p : Program) (variables : List Kind) (bodies : List Body) (agrees : Agrees p variables bodies) (home : Home) (is_home : IsHome bodies home) where
+module _ (p : Program) (outside : Outside) (bodies : List Body) (agrees : Agrees p outside bodies) (home : Home) (is_home : IsHome bodies home) where
   abbrev typed : Action → Bool
-  typed = is_typed variables bodies home
+  typed = is_typed outside bodies home
 
   abbrev kind : ValuePhrase → Typed
-  kind = phrase_shape variables bodies home
+  kind = phrase_shape outside bodies home
 
   abbrev actual_kind : Actual → Taken
   actual_kind =
-      fold-Actual Bool Taken (List Kind) Typed Bool Typed (action_typed_step variables bodies home) (actual_kind_step variables bodies home)
-      (place_kinds_step variables bodies home) (value_kind_step variables bodies home) (arm_typed_step variables bodies home) (value_arm_kind_step variables bodies home)
+      fold-Actual Bool Taken (List Kind) Typed Bool Typed (action_typed_step outside bodies home) (actual_kind_step outside bodies home)
+      (place_kinds_step outside bodies home) (value_kind_step outside bodies home) (arm_typed_step outside bodies home) (value_arm_kind_step outside bodies home)
 
   abbrev arm_typed : Arm → Bool
   arm_typed =
-      fold-Arm Bool Taken (List Kind) Typed Bool Typed (action_typed_step variables bodies home) (actual_kind_step variables bodies home)
-      (place_kinds_step variables bodies home) (value_kind_step variables bodies home) (arm_typed_step variables bodies home) (value_arm_kind_step variables bodies home)
+      fold-Arm Bool Taken (List Kind) Typed Bool Typed (action_typed_step outside bodies home) (actual_kind_step outside bodies home)
+      (place_kinds_step outside bodies home) (value_kind_step outside bodies home) (arm_typed_step outside bodies home) (value_arm_kind_step outside bodies home)
 
   abbrev arm_kind : ValueArm → Typed
   arm_kind =
-      fold-ValueArm Bool Taken (List Kind) Typed Bool Typed (action_typed_step variables bodies home) (actual_kind_step variables bodies home)
-      (place_kinds_step variables bodies home) (value_kind_step variables bodies home) (arm_typed_step variables bodies home) (value_arm_kind_step variables bodies home)
+      fold-ValueArm Bool Taken (List Kind) Typed Bool Typed (action_typed_step outside bodies home) (actual_kind_step outside bodies home)
+      (place_kinds_step outside bodies home) (value_kind_step outside bodies home) (arm_typed_step outside bodies home) (value_arm_kind_step outside bodies home)
 
   abbrev actual_run : Actual → Run Passed
   actual_run =
@@ -96,7 +96,7 @@ module _ (p : Program) (variables : List Kind) (bodies : List Body) (agrees : Ag
       actual_step place_step value_step arm_step value_arm_step
 
   abbrev place_here : PlacePhrase → List Kind
-  place_here = place_kinds variables bodies home
+  place_here = place_kinds outside bodies home
 
   abbrev arm_run : Arm → Labelled (Run (Unit {0}))
   arm_run =
@@ -282,7 +282,7 @@ module _ (p : Program) (variables : List Kind) (bodies : List Body) (agrees : Ag
   bare_action y = map-Action _ _ _ _ _ _ _ _ _ _ _ _ fst fst fst fst fst fst y
 
   value_parts : (y : Known ValuePhrase-F) (u : Shape)
-      → value_kind_step variables bodies home (map-ValuePhrase _ _ _ _ _ _ _ _ _ _ _ _ typed actual_kind place_here kind arm_typed arm_kind (bare_value y)) ≡ Some u
+      → value_kind_step outside bodies home (map-ValuePhrase _ _ _ _ _ _ _ _ _ _ _ _ typed actual_kind place_here kind arm_typed arm_kind (bare_value y)) ≡ Some u
       → ValueOk u (value_step (map-ValuePhrase _ _ _ _ _ _ _ _ _ _ _ _ act actual_run place_run value arm_run value_arm_run (bare_value y)))
       (value_code_step (map-ValuePhrase _ _ _ _ _ _ _ _ _ _ _ _ action_code actual_code place_code value_code arm_code_of value_arm_code (bare_value y)))
   value_parts (t.Number z) u e = let f = only_if_is _ _ u e in of_shape (Cell kinds.Int) u f.1 (number_is p home z (fits_in_range z f.0))
@@ -308,14 +308,14 @@ module _ (p : Program) (variables : List Kind) (bodies : List Body) (agrees : Ag
   value_parts (t.ValuePhrase::Call q as' v) u e =
       let f = only_if_is _ _ u e in
       let g = both _ _ f.0 in
-      let x = proc_is p variables bodies agrees q _ (Some v) g.0 (has_shape_is v _ g.1) in
+      let x = proc_is p outside bodies agrees q _ (Some v) g.0 (has_shape_is v _ g.1) in
       of_shape v u f.1 (call_value_is p home q x.entry (map parameter_kind x.parameters) x.cells v (map actual_run (map fst as'))
       (map actual_code (map fst as')) x.has x.own x.delivers (actuals_are x.parameters as' x.takes))
   value_parts (t.Never v) u e = of_shape v u e (never_is p home v)
   value_parts (t.ValuePhrase::Refer q v) u e =
       let f = only_if_is _ _ u e in
       let g = both _ _ f.0 in
-      let x = part_is p variables bodies agrees q home is_home (Some v) g.0 (has_shape_is v _ g.1) in
+      let x = part_is p outside bodies agrees q home is_home (Some v) g.0 (has_shape_is v _ g.1) in
       of_shape v u f.1 (refer_value_is p home q x.entry v x.has x.refinement x.owned x.delivers)
   value_parts (t.Pick a i items v) u e =
       let f = only_if_is _ _ u e in
@@ -331,19 +331,22 @@ module _ (p : Program) (variables : List Kind) (bodies : List Body) (agrees : Ag
       of_shape v u f.1 (take_is p home g.whole v part.of part.before part.cells (a.1 g.whole g.is) g.parts.is)
 
   place_parts : (y : Known PlacePhrase-F) (k : Kind) (ks : List Kind)
-      → place_kinds_step variables bodies home
+      → place_kinds_step outside bodies home
       (map-PlacePhrase _ _ _ _ _ _ _ _ _ _ _ _ typed actual_kind place_here kind arm_typed arm_kind (bare_place y)) ≡ k ∷ ks → (s : Shape)
       → IsPlaceOf p home (k ∷ ks) (place_step (map-PlacePhrase _ _ _ _ _ _ _ _ _ _ _ _ act actual_run place_run value arm_run value_arm_run (bare_place y)))
       (place_code_step (map-PlacePhrase _ _ _ _ _ _ _ _ _ _ _ _ action_code actual_code place_code value_code arm_code_of value_arm_code (bare_place y)) s)
   place_parts (t.Variable x) k ks e s =
       subst (λ js. IsPlaceOf p home js (place_step (t.Variable x)) (place_code_step (t.Variable x) s)) (ap (drop x) agrees.level ∙ e)
-      (variable_is p home x s k (ap (λ l. slice_get l x) agrees.level ∙ first_behind x variables k ks e))
+      (variable_is p home x s k (ap (λ l. slice_get l x) agrees.level ∙ first_behind x outside.variables k ks e))
+  place_parts (t.Packet x) k ks e s =
+      subst (λ js. IsPlaceOf p home js (place_step (t.Packet x)) (place_code_step (t.Packet x) s)) (ap (drop x) agrees.packets ∙ e)
+      (packet_is p home x s k (ap (λ l. slice_get l x) agrees.packets ∙ first_behind x outside.packets k ks e))
   place_parts (t.Local x) k ks e s =
       subst (λ js. IsPlaceOf p home js (place_step (t.Local x)) (place_code_step (t.Local x) s)) e
-      (local_is p home x s k (frame_here variables bodies home) (held_behind x (frame_here variables bodies home) k ks e) (held_use p variables bodies agrees home is_home))
+      (local_is p home x s k (frame_here outside bodies home) (held_behind x (frame_here outside bodies home) k ks e) (held_use p outside bodies agrees home is_home))
   place_parts (t.Parameter x) k ks e s =
       parameter_is p home x s (k ∷ ks)
-      (held_use p variables bodies agrees home is_home x (typing.OfPlace (k ∷ ks)) (place_held_is (slice_get (frame_here variables bodies home) x) k ks e))
+      (held_use p outside bodies agrees home is_home x (typing.OfPlace (k ∷ ks)) (place_held_is (slice_get (frame_here outside bodies home) x) k ks e))
   place_parts (t.Item q a items) k ks e s =
       let f = if_true_is _ _ k ks e in
       let i = items_are items.count items.cells (place_here q.0) k ks f.1 in
@@ -362,7 +365,7 @@ module _ (p : Program) (variables : List Kind) (bodies : List Body) (agrees : Ag
       formal_is f g e = cc
 
   actual_parts : (y : Known Actual-F) (f : Formal)
-      → actual_kind_step variables bodies home
+      → actual_kind_step outside bodies home
       (map-Actual _ _ _ _ _ _ _ _ _ _ _ _ typed actual_kind place_here kind arm_typed arm_kind (map-Actual _ _ _ _ _ _ _ _ _ _ _ _ fst fst fst fst fst fst y)) ≡ Some f
       → IsActual p home (parameter_kind f)
       (actual_step (map-Actual _ _ _ _ _ _ _ _ _ _ _ _ act actual_run place_run value arm_run value_arm_run (map-Actual _ _ _ _ _ _ _ _ _ _ _ _ fst fst fst fst fst fst y)))
@@ -384,7 +387,7 @@ module _ (p : Program) (variables : List Kind) (bodies : List Body) (agrees : Ag
       shape_same u v e = cc
 
   action_parts : (y : Known Action-F)
-      → action_typed_step variables bodies home (map-Action _ _ _ _ _ _ _ _ _ _ _ _ typed actual_kind place_here kind arm_typed arm_kind (bare_action y)) ≡ true
+      → action_typed_step outside bodies home (map-Action _ _ _ _ _ _ _ _ _ _ _ _ typed actual_kind place_here kind arm_typed arm_kind (bare_action y)) ≡ true
       → ActionOk (action_step (map-Action _ _ _ _ _ _ _ _ _ _ _ _ act actual_run place_run value arm_run value_arm_run (bare_action y)))
       (action_code_step (map-Action _ _ _ _ _ _ _ _ _ _ _ _ action_code actual_code place_code value_code arm_code_of value_arm_code (bare_action y)))
   action_parts (t.Action::Unit us) e = unit_is p home (actions_are us e)
@@ -422,20 +425,20 @@ module _ (p : Program) (variables : List Kind) (bodies : List Body) (agrees : Ag
   action_parts (t.ErrorStop a) e = error_stop_is p home (a.1 (Cell kinds.Text) (has_is kinds.Text _ e))
   action_parts (t.Action::Call q as') e =
       let g = both _ _ e in
-      let x = proc_is p variables bodies agrees q _ None g.0 (none_is _ g.1) in
+      let x = proc_is p outside bodies agrees q _ None g.0 (none_is _ g.1) in
       call_action_is p home q x.entry (map parameter_kind x.parameters) x.cells (map actual_run (map fst as')) (map actual_code (map fst as')) x.has x.own
       x.delivers (actuals_are x.parameters as' x.takes)
   action_parts (t.Action::Refer q) e =
       let g = both _ _ e in
-      let x = part_is p variables bodies agrees q home is_home None g.0 (none_is _ g.1) in
+      let x = part_is p outside bodies agrees q home is_home None g.0 (none_is _ g.1) in
       refer_action_is p home q x.entry x.has x.refinement x.owned x.delivers
-  action_parts (t.Leave x) e = leave_is p home x (left_is p variables bodies agrees x home None is_home (without_is _ e))
+  action_parts (t.Leave x) e = leave_is p home x (left_is p outside bodies agrees x home None is_home (without_is _ e))
   action_parts (t.LeaveWith x u a) e =
       let f = both _ _ e in
-      leave_with_is p home x u (left_is p variables bodies agrees x home (Some u) is_home (with_is u _ f.1)) (a.1 u (has_shape_is u _ f.0))
+      leave_with_is p home x u (left_is p outside bodies agrees x home (Some u) is_home (with_is u _ f.1)) (a.1 u (has_shape_is u _ f.0))
 
   arm_parts : (y : Known Arm-F)
-      → arm_typed_step variables bodies home
+      → arm_typed_step outside bodies home
       (map-Arm _ _ _ _ _ _ _ _ _ _ _ _ typed actual_kind place_here kind arm_typed arm_kind (map-Arm _ _ _ _ _ _ _ _ _ _ _ _ fst fst fst fst fst fst y)) ≡ true
       → ArmIs Any no_more (arm_step
       (map-Arm _ _ _ _ _ _ _ _ _ _ _ _ act actual_run place_run value arm_run value_arm_run (map-Arm _ _ _ _ _ _ _ _ _ _ _ _ fst fst fst fst fst fst y)))
@@ -444,7 +447,7 @@ module _ (p : Program) (variables : List Kind) (bodies : List Body) (agrees : Ag
   arm_parts y e = record { labels = refl; part = actions_are y.units e }
 
   value_arm_parts : (y : Known ValueArm-F) (u : Shape)
-      → value_arm_kind_step variables bodies home
+      → value_arm_kind_step outside bodies home
       (map-ValueArm _ _ _ _ _ _ _ _ _ _ _ _ typed actual_kind place_here kind arm_typed arm_kind (map-ValueArm _ _ _ _ _ _ _ _ _ _ _ _ fst fst fst fst fst fst y)) ≡ Some u
       → ArmIs (OfShape u) keep
       (value_arm_step (map-ValueArm _ _ _ _ _ _ _ _ _ _ _ _ act actual_run place_run value arm_run value_arm_run

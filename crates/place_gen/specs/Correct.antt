@@ -4,37 +4,54 @@ use Rattle.eu_base.specs.declared.value.Kind.{Kind}
 use Rattle.eu_base.specs.Values.{IsOf}
 use Rattle.eu_base.specs.declared.value.Value.{Value}
 use Rattle.eu_base.specs.Room.{cells_fit}
-use Rattle.eu_base.specs.Cells.{Cell, Free, Word, Cells, held_of, run_cell}
+use Rattle.eu_base.specs.declared.address.Area.{Area}
+use Rattle.eu_base.specs.declared.address.Area.TheVariants.{Run, Packets}
+use Rattle.eu_base.specs.declared.address.Addr.{Addr}
+use Rattle.eu_base.specs.Cells.{Cell, Free, Word, Cells, held_of, area_cell, place_number}
 use Rattle.code_form.specs.declared.halt.Halt.{Halt}
 use Rattle.code_form.specs.declared.halt.Halt.TheVariants as halts
-use Rattle.code_form.specs.Program.{Program}
+use Rattle.code_form.specs.Program.{Program, kinds_in_packets}
 use Rattle.code_form.specs.Machine.{Control, Scene, Rest, exec}
-use Rattle.elan_types.specs.Eval.{Slot, Holds, Refers, Taken, World}
+use Rattle.elan_types.specs.Eval.{Place, Slot, Holds, Refers, Taken, World}
 use Rattle.elan_types.specs.Command.{Ending, Ended, Stopped, OutOfMarks, Asks}
+
+-- the cell where a value stands
+abbrev pub addr_of : Place → Addr
+addr_of x = area_cell x.area x.variable
 
 -- what a cell holds stands for what a slot has
 abbrev pub StandsFor : Cell → Slot → Type 0
 StandsFor n (Holds v) = n ≡ held_of v
-StandsFor n (Refers x) = n ≡ Word x.variable
+StandsFor n (Refers x) = n ≡ Word (place_number (addr_of x))
 StandsFor n Taken = Unit {0}
 
--- the cells hold the store, where it has room. Variables that have no room at the start of a command have no cells
-abbrev pub Image : List Slot → Cells → Type 0
-Image store cells = cells_fit (length store) ≡ true → (x : ℕ) (s : Slot) → slice_get store x ≡ Some s → StandsFor (cells (run_cell x)) s
+-- the cells of an area hold its slots, where these have room. Variables that have no room at the start of a command have no cells
+abbrev pub Image : Area → List Slot → Cells → Type 0
+Image area slots cells =
+    cells_fit (length slots) ≡ true → (x : ℕ) (s : Slot) → slice_get slots x ≡ Some s → StandsFor (cells (area_cell area x)) s
 
--- the cells hold a store that has a value of its kind for each variable, and nothing is known of the cells behind
-pub record HasVariables (variables : List Kind) (store : List Slot) (cells : Cells) : Type 0 where
-  pub as_many : length store ≡ length variables
-  pub each : (x : ℕ) (k : Kind) → slice_get variables x ≡ Some k → (v : Value) × (slice_get store x ≡ Some (Holds v)) × IsOf k v
-  pub image : Image store cells
-  pub beyond : (x : ℕ) → length variables ≤ x → cells (run_cell x) ≡ Free
+-- the cells of an area hold slots that have a value of its kind for each variable, and nothing is known of the cells behind
+pub record HasVariables (area : Area) (variables : List Kind) (slots : List Slot) (cells : Cells) : Type 0 where
+  pub as_many : length slots ≡ length variables
+  pub each : (x : ℕ) (k : Kind) → slice_get variables x ≡ Some k → (v : Value) × (slice_get slots x ≡ Some (Holds v)) × IsOf k v
+  pub image : Image area slots cells
+  pub beyond : (x : ℕ) → length variables ≤ x → cells (area_cell area x) ≡ Free
 
--- a run rests so, with the same marks and replies left, and with the store in the cells
+-- so it is with the variables of a command and those of packets
+pub record HasSlots (p : Program) (store others : List Slot) (cells : Cells) : Type 0 where
+  pub command : HasVariables Run p.variables store cells
+  pub packets : HasVariables Packets (kinds_in_packets p) others cells
+
+abbrev pub HasAll : Program → World → Cells → Type 0
+HasAll p w cells = HasSlots p w.store w.packets cells
+
+-- a run rests so, with the same marks and replies left, and with all variables in the cells
 pub record RestsAs (h : Halt) (w : World) (r : Rest) : Type 0 where
   pub how : r.how ≡ h
   pub marks : r.scene.marks ≡ w.marks
   pub replies : r.scene.replies ≡ w.replies
-  pub cells : Image w.store r.scene.cells
+  pub command : Image Run w.store r.scene.cells
+  pub packets : Image Packets w.packets r.scene.cells
 
 abbrev pub Shows : Ending → Rest → Type 0
 Shows (Ended w) r = RestsAs halts.Ended w r

@@ -11,7 +11,7 @@ use Rattle.eu_base.specs.Requests.{request_size}
 use Rattle.code_form.specs.declared.operand.OperandKind.{OperandKind}
 use Rattle.code_form.specs.declared.operand.OperandKind.TheVariants.{Value, Place}
 use Rattle.code_form.specs.declared.instr.Instr.{Instr}
-use Rattle.code_form.specs.declared.instr.Instr.TheVariants.{Mark, Number, Truth, Text, Outer, Local, Param, Index, Field, Pick, Take, Load, Store, Do, Modify}
+use Rattle.code_form.specs.declared.instr.Instr.TheVariants.{Mark, Number, Truth, Text, Outer, Packet, Local, Param, Index, Field, Pick, Take, Load, Store, Do, Modify}
 use Rattle.code_form.specs.declared.instr.Instr.TheVariants.{Jump, False, When, Drop, Limit, Unlimit, Step, Ask, ErrorStop, Call, Refer, Back, Out}
 use Rattle.code_form.specs.declared.code.Line.{Line}
 use Rattle.code_form.specs.declared.code.Spot.{Spot}
@@ -184,6 +184,7 @@ Layer F = F Stretch Stretch PlaceCode Stretch (Labelled Stretch) (Labelled Stret
 
 abbrev pub place_code_step : Layer PlacePhrase-F → PlaceCode
 place_code_step (t.Variable k) s = one (Outer k) (pushes (Place s))
+place_code_step (t.Packet k) s = one (Packet k) (pushes (Place s))
 place_code_step (t.Local k) s = one (Local k) (pushes (Place s))
 place_code_step (t.Parameter k) s = one (Param k) (pushes (Place s))
 place_code_step (t.Item p a items) s = join (p s) (join a (one (Index items.count items.cells) (λ ks. Place s ∷ drop 2 ks)))

@@ -56,6 +56,7 @@ fn count_place(place: &PlacePhrase) -> usize
 {
     match place {
         PlacePhrase::Variable(_) => 1,
+        PlacePhrase::Packet(_) => 1,
         PlacePhrase::Local(_) => 1,
         PlacePhrase::Parameter(_) => 1,
         PlacePhrase::Item(row, index, _) => count_place(row.get())

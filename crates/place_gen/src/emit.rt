@@ -111,6 +111,7 @@ fn add_place(out: &mut Draft, place: &PlacePhrase, shape: &Shape)
 {
     match place {
         PlacePhrase::Variable(cell) => put_place(out, Instr::Outer(*cell), 0, shape),
+        PlacePhrase::Packet(cell) => put_place(out, Instr::Packet(*cell), 0, shape),
         PlacePhrase::Local(cell) => put_place(out, Instr::Local(*cell), 0, shape),
         PlacePhrase::Parameter(cell) => put_place(out, Instr::Param(*cell), 0, shape),
         PlacePhrase::Item(row, index, items) => {

@@ -1,13 +1,11 @@
 //! A command that runs.
-ghost use Rattle.std.specs.Prelude.{◌≡◌, ◌+◌, ◌-◌, ◌<◌, ◌≤◌, ◌⊎◌, ◌++◌, ◌∷◌, [], ℕ, List, length, map, true, false, None, IfOk, OnOk, IsSome, option_copied};
+ghost use Rattle.std.specs.Prelude.{◌≡◌, ◌+◌, ◌-◌, ◌<◌, ◌≤◌, ◌⊎◌, ◌++◌, ◌∷◌, [], ℕ, List, None, IfOk, OnOk, IsSome, option_copied};
 ghost use Rattle.eu_base.specs.declared.request.Request.{Request};
 ghost use Rattle.eu_base.specs.declared.request.Reply.{Reply};
 ghost use Rattle.code_form.specs.declared.halt.Halt.TheVariants as halts;
 ghost use Rattle.code_form.specs.declared.waits.Waits.TheVariants as waits;
-ghost use Rattle.eu_base.specs.Values.{blank_of};
-ghost use Rattle.eu_base.specs.Room.{cells_fit};
-ghost use Rattle.eu_base.specs.Cells.{Cells, held_of, AreBare, HasFaultCause};
-ghost use Rattle.code_form.specs.Machine.{Control, Rest, start, answered, written_from};
+ghost use Rattle.eu_base.specs.Cells.{Cells, HasFaultCause};
+ghost use Rattle.code_form.specs.Machine.{Control, Rest, start, answered, made, CanBeMade};
 ghost use Rattle.code_form.specs.Valid.{Fits};
 ghost use Rattle.code_form.specs.Runs.{IsPaused, Rests, Stands, asked};
 ghost use Rattle.zero_state.specs.Stepping.{scene_of};
@@ -35,13 +33,12 @@ impl Model for TaskRun {
 }
 
 impl TaskRun {
-    /// Starts a command: its variables are made, where they have room, and nothing is pending.
+    /// Starts a command: its variables are made, and behind those of the packets of the task those of the packet that is inserted, each
+    /// where they have room; and nothing is pending. Where some have none, it stops at once.
     pub fn start<M: Memory>(alloc: Global, c: &Code, m: &mut M) -> Result<TaskRun, MemFault>
-        ensures control { IfOk result (λ command. command ≡ start (length c.now.variables)) }
+        ensures control { IfOk result (λ command. command ≡ start c.now) }
         ensures fits { IfOk result (λ command. Fits c.now command) }
-        ensures written { OnOk result (cells_fit (length c.now.variables) ≡ true → (cells : Cells) → M.holds m.old cells →
-            AreBare 0 (length c.now.variables) cells → M.holds m.new (written_from 0 (map (λ k. held_of (blank_of k)) c.now.variables) cells)) }
-        ensures kept { OnOk result (cells_fit (length c.now.variables) ≡ false → (cells : Cells) → M.holds m.old cells → M.holds m.new cells) }
+        ensures made { OnOk result ((cells : Cells) → M.holds m.old cells → CanBeMade c.now cells → M.holds m.new (made c.now cells)) }
         ensures cause { HasFaultCause (M.faults m.old) (M.faults m.new) result }
         ensures follows { M.follows m.old m.new }
     {

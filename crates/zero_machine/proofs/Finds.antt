@@ -21,7 +21,7 @@ use Rattle.code_form.specs.declared.operand.Operand.TheVariants.{Value as Of, Pl
 use Rattle.code_form.specs.declared.operand.OperandKind.{OperandKind}
 use Rattle.code_form.specs.declared.operand.OperandKind.TheVariants.{Value as OfKind, Place as AtKind}
 use Rattle.code_form.specs.declared.instr.Instr.{Instr}
-use Rattle.code_form.specs.declared.instr.Instr.TheVariants.{Mark, Number, Truth, Text, Outer, Local, Param, Index, Field, Pick, Take, Load, Store, Do, Modify, Jump, False}
+use Rattle.code_form.specs.declared.instr.Instr.TheVariants.{Mark, Number, Truth, Text, Outer, Packet, Local, Param, Index, Field, Pick, Take, Load, Store, Do, Modify, Jump, False}
 use Rattle.code_form.specs.declared.instr.Instr.TheVariants.{When, Drop, Limit, Unlimit, Step, Ask, ErrorStop, Call, Refer, Back, Out, End}
 use Rattle.code_form.specs.declared.code.Spot.{Spot}
 use Rattle.code_form.specs.Program.{Program, line_of, instr_of, owner, CellUse, HoldsValue, HoldsPlace, frame_cells}
@@ -223,6 +223,7 @@ module _ (p : Program) (valid : IsValid p) where
     finds_at (Truth b) f = tt
     finds_at (Text t) f = tt
     finds_at (Outer x) f = outer_cell c fits x f.0 f.1
+    finds_at (Packet x) f = tt
     finds_at (Local x) f = local_cell c fits x (HoldsValue f.0) f.1
     finds_at (Param x) f = local_cell c fits x HoldsPlace f.0
     finds_at (Index n size) f =

@@ -1,17 +1,22 @@
 -- A command at its start.
-use Rattle.std.proofs.Common.{◌≡◌, ℕ, Bool, true, false, cond, List, [], length, refl, sym, ap, ◌∙◌, subst, arith}
+use Rattle.std.proofs.Common.{◌≡◌, ℕ, suc, ◌+◌, ◌<◌, ◌≤◌, Bool, true, false, ◌&&◌, cond, min, nat_le, List, [], ◌∷◌, map, length, refl, sym, ap, ◌∙◌, subst, arith, length-append}
+use Rattle.std.proofs.lemmas.Bool.{leb-true, leb-false}
+use Rattle.std.proofs.lemmas.Bool.Decides.{nat_tests}
+use Rattle.eu_base.specs.declared.address.Area.TheVariants.{Run, Packets}
 use Rattle.eu_base.specs.declared.value.Kind.{Kind}
+use Rattle.eu_base.specs.Values.{blank_of}
+use Rattle.eu_base.specs.Cells.{Cell, Cells, held_of, run_cell, packet_cell, written, cell_blocks, AreBare}
+use Rattle.eu_base.specs.declared.address.TheConstants.{CELLS}
 use Rattle.eu_base.specs.Room.{cells_fit}
-use Rattle.code_form.specs.Program.{Program, at_level}
-use Rattle.code_form.specs.Machine.{start}
+use Rattle.cell_kinds.specs.Kinds.{packet_kinds}
+use Rattle.code_form.specs.Program.{Program, kinds_in_packets, at_level}
+use Rattle.code_form.specs.Machine.{written_in, made_in, made, CanBeMade, have_room, start}
 use Rattle.code_form.specs.Valid.{IsValid, Fits, is_refused, is_asking}
-use Rattle.code_form.specs.declared.waits.Waits.{Waits}
 use Rattle.code_form.specs.declared.waits.Waits.TheVariants.{Nothing, Refused}
 use Rattle.eu_base.specs.declared.stop.Stop.TheVariants.{CellRoom}
-use Rattle.zero_state.specs.Stacked.{Stacked}
 
 -- it fits its code
-pub start_fits : (p : Program) → IsValid p → Fits p (start (length p.variables))
+pub start_fits : (p : Program) → IsValid p → Fits p (start p)
 start_fits p valid = record {
   kinds = [];
   spot = at_level;
@@ -20,8 +25,8 @@ start_fits p valid = record {
   operands = tt;
   frames = (refl, refl);
   used = omega arith;
-  asks = λ e. absurd (unasked (cells_fit (length p.variables)) e);
-  cells = has_room (cells_fit (length p.variables));
+  asks = λ e. absurd (unasked (have_room p) e);
+  cells = has_room (cells_fit (length p.variables)) (cells_fit (length (kinds_in_packets p)));
   bytes = refl;
 }
   where
@@ -29,18 +34,70 @@ start_fits p valid = record {
     unasked true e = cc e
     unasked false e = cc e
 
-    has_room : (t : Bool) → is_refused (cond t Nothing (Refused CellRoom)) ≡ false → t ≡ true
-    has_room true e = refl
-    has_room false e = let f : ⊥ = cc in absurd f
+    has_room : (s t : Bool) → is_refused (cond (s && t) Nothing (Refused CellRoom)) ≡ false → s ≡ true
+    has_room true t e = refl
+    has_room false t e = let f : ⊥ = cc in absurd f
 
--- so does the state with these parts
-pub starts : (p : Program) → IsValid p → (used : ℕ) (w : Waits) (s : Stacked) (made kinds : List Kind) → kinds ≡ p.variables → made ≡ p.variables
-    → used ≡ length kinds → w ≡ cond (cells_fit (length made)) Nothing (Refused CellRoom) → s ≡ record { ops = []; frames = [] }
-    → Fits p (record { position = record { pc = 0; ops = s.ops; used = used; frames = s.frames }; waits = w })
-starts p valid used w s made kinds same made_same count room empty =
-    let u : length p.variables ≡ used = ap length (sym same) ∙ sym count in
-    let r : cond (cells_fit (length p.variables)) Nothing (Refused CellRoom) ≡ w =
-    ap (λ (l : List Kind). cond (cells_fit (length l)) Nothing (Refused CellRoom)) (sym made_same) ∙ sym room in
-    subst (λ (s : Stacked). Fits p (record { position = record { pc = 0; ops = s.ops; used = used; frames = s.frames }; waits = w })) (sym empty)
-    (subst (λ n. Fits p (record { position = record { pc = 0; ops = []; used = n; frames = [] }; waits = w })) u
-    (subst (λ w. Fits p (record { position = record { pc = 0; ops = []; used = length p.variables; frames = [] }; waits = w })) r (start_fits p valid)))
+-- the cells of the packets of the task, as far as they can be counted, and those of the packet that is inserted
+pub same_room : (p : Program) (before : ℕ) → before ≡ min (length (packet_kinds p.packets)) 18446744073709551615
+    → cells_fit (before + length p.inserted) ≡ cells_fit (length (kinds_in_packets p))
+same_room p before is =
+    let all = length-append (packet_kinds p.packets) p.inserted in
+    by (nat_le (before + length p.inserted) CELLS) (nat_le (length (kinds_in_packets p)) CELLS) refl refl
+  where
+    by : (s t : Bool) → nat_le (before + length p.inserted) CELLS ≡ s → nat_le (length (kinds_in_packets p)) CELLS ≡ t → s ≡ t
+    by true true e f = refl
+    by false false e f = refl
+    by true false e f =
+        let low = leb-true (before + length p.inserted) CELLS e in
+        let high = leb-false (length (kinds_in_packets p)) CELLS f in
+        absurd (omega (arith, low, high, is, length-append (packet_kinds p.packets) p.inserted))
+    by false true e f =
+        let high = leb-false (before + length p.inserted) CELLS e in
+        let low = leb-true (length (kinds_in_packets p)) CELLS f in
+        absurd (omega (arith, low, high, is, length-append (packet_kinds p.packets) p.inserted))
+
+-- what is put into cells of the command changes none of packets
+beside : (ns : List Cell) (at x : ℕ) (cells : Cells) → written_in Run at ns cells (packet_cell x) ≡ cells (packet_cell x)
+beside [] at x cells = refl
+beside (n ∷ ns) at x cells = beside ns (suc at) x (written cells (run_cell at) n)
+
+still_bare : (kinds : List Kind) (from count : ℕ) (cells : Cells) → AreBare Packets from count cells → AreBare Packets from count (made_in Run 0 kinds cells)
+still_bare kinds from count cells bare k le lt = by (cells_fit (0 + length kinds))
+  where
+    by : (t : Bool) → cell_blocks (cond t (written_in Run 0 (map (λ k. held_of (blank_of k)) kinds) cells) cells (packet_cell k)) ≡ 0
+    by true = ap cell_blocks (beside (map (λ k. held_of (blank_of k)) kinds) 0 k cells) ∙ bare k le lt
+    by false = bare k le lt
+
+-- where a number of cells was counted as far as it can be
+module _ (n before : ℕ) (is : before ≡ min n 18446744073709551615) (kinds : List Kind) where
+  counted : cells_fit (before + length kinds) ≡ true → before ≡ n
+  counted fits = let low = leb-true (before + length kinds) CELLS fits in omega (arith, low, is)
+
+  same_made : (cells : Cells) → made_in Packets before kinds cells ≡ made_in Packets n kinds cells
+  same_made cells = by (cells_fit (before + length kinds)) refl
+    where
+      by : (t : Bool) → cells_fit (before + length kinds) ≡ t → made_in Packets before kinds cells ≡ made_in Packets n kinds cells
+      by true e = ap (λ m. made_in Packets m kinds cells) (counted e)
+      by false e =
+          let high = leb-false (before + length kinds) CELLS e in
+          let none : cells_fit (n + length kinds) ≡ false = grind (arith, nat_tests, high, is) in
+          ap (λ t. cond t (written_in Packets before (map (λ k. held_of (blank_of k)) kinds) cells) cells) e
+          ∙ ap (λ t. cond t (written_in Packets n (map (λ k. held_of (blank_of k)) kinds) cells) cells) (sym none)
+
+-- variables are made in one area, and then in the other
+pub made_so : (p : Program) (before : ℕ) (own inserted : List Kind) (holds middle last : Cells → Type 0) → before ≡ min (length (packet_kinds p.packets)) 18446744073709551615
+    → own ≡ p.variables → inserted ≡ p.inserted
+    → ((cells : Cells) → holds cells → (cells_fit (0 + length own) ≡ true → AreBare Run 0 (length own) cells) → middle (made_in Run 0 own cells))
+    → ((cells : Cells) → middle cells → (cells_fit (before + length inserted) ≡ true → AreBare Packets before (length inserted) cells)
+    → last (made_in Packets before inserted cells))
+    → (cells : Cells) → holds cells → CanBeMade p cells → last (made p cells)
+made_so p before own inserted holds middle last is own_is inserted_is one two cells h bare =
+    let n = length (packet_kinds p.packets) in
+    let first = subst (λ ks. middle (made_in Run 0 ks cells)) own_is (one cells h (λ _. subst (λ ks. AreBare Run 0 (length ks) cells) (sym own_is) bare.0)) in
+    let there = made_in Run 0 p.variables cells in
+    let second =
+    two there first (λ fits.
+    subst (λ m. AreBare Packets m (length inserted) there) (sym (counted n before is inserted fits))
+    (subst (λ ks. AreBare Packets n (length ks) there) (sym inserted_is) (still_bare p.variables n (length p.inserted) cells bare.1))) in
+    subst (λ ks. last (made_in Packets n ks there)) inserted_is (subst last (same_made n before is inserted there) second)

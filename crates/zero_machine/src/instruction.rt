@@ -19,7 +19,7 @@ use zero_steps::operate::operate;
 use zero_steps::place::{field, index};
 use zero_steps::push::{push_on, push_text};
 use zero_steps::step::{
-    drop_value, jump_false, limit, load, local, outer, param, step, store, unlimit, when,
+    drop_value, jump_false, limit, load, local, outer, packet, param, step, store, unlimit, when,
 };
 use zero_steps::stop::error_stop;
 
@@ -44,6 +44,7 @@ pub fn execute<M: Memory>(
         Instr::Truth(truth) => computed(push_on(s, Operand::Value(Value::Truth(*truth)))),
         Instr::Text(text) => computed(push_text(s, text.as_slice())),
         Instr::Outer(cell) => computed(outer(s, *cell)),
+        Instr::Packet(cell) => computed(packet(s, *cell)),
         Instr::Local(cell) => computed(local(s, *cell)),
         Instr::Param(cell) => param(s, m, *cell),
         Instr::Index(count, cells) => Ok(index(s, *count, *cells)),

@@ -9,7 +9,13 @@ use Rattle.code_gen.proofs.code.generate.Goals as goal
 
 pub new-requires : goal.new-requires
 new-requires c =
-    let made : Program = record { variables = c.in_ok-variables.variables; bodies = c.in_ok-bodies.bodies; lines = c.emit_bodies.new.out.lines } in
+    let made : Program = record {
+      packets = c.in_ok-packets.packets;
+      inserted = c.in_ok-inserted.inserted;
+      variables = c.in_ok-variables.variables;
+      bodies = c.in_ok-bodies.bodies;
+      lines = c.emit_bodies.new.out.lines;
+    } in
     let e : made ≡ program_of c.args.core.now = search rules in
     subst IsValid (sym e) (valid c.args.core.now c.requires)
 

@@ -12,8 +12,14 @@ use Rattle.elan_check.proofs.level.core_meant.Goals as goal
 
 pub returns-in-Ok : goal.returns-in-Ok
 returns-in-Ok c =
-    let core : Core = record { variables = c.in_ok-variables.variables; bodies = c.in_ok-units-in-Ok.bodies; units = c.in_ok-units-in-Ok.units } in
-    core_is c.args.written.now c.args.known.now c.requires.known c.requires.types c.in-Ok.parts core c.in-Ok.ensures
+    let core : Core = record {
+      packets = c.new.result;
+      inserted = c.new-in-Ok.result;
+      variables = c.in_ok-variables.variables;
+      bodies = c.in_ok-units-in-Ok.bodies;
+      units = c.in_ok-units-in-Ok.units;
+    } in
+    core_is c.args.written.now c.args.known.now c.requires.known c.requires.types c.in-Ok.parts core c.in-Ok.ensures c.new.ensures c.new-in-Ok.ensures
     (c.in_ok-variables.ensures ∙ ap variables_of (c.as_slice.ensures ∙ ap (λ (z : Scope). z.level) c.requires.scope))
     c.in_ok-units-in-Ok.ensures.units c.in_ok-units-in-Ok.ensures.bodies
 

@@ -1,10 +1,19 @@
 use Rattle.space_memory.proofs.Fresh.{new_stands}
-use Rattle.line_command.specs.Meaning.{runs}
+use Rattle.std.proofs.Common.{◌≡◌, ℕ, List, []}
+use Rattle.elan_types.specs.declared.core_phrase.Core.{Core}
+use Rattle.line_command.specs.Meaning.{Means, means, runs}
 use Rattle.line_command.proofs.Refusing.{refused_line}
 use Rattle.line_command.proofs.line.respond.Goals as goal
 
 pub over-lent-requires : goal.over-lent-requires
 over-lent-requires c = rw (c.new-pool.ensures, c.new-memory.ensures.empty) (record { agree = new_stands })
+
+-- a text that stands alone has no packets
+without : (text : List ℕ) (core : Core) → Means text core → core.packets ≡ []
+without text core (means t has reads m) = m.packets
+
+pub shown-shown-requires-clause-alone : goal.shown-shown-requires-clause-alone
+shown-shown-requires-clause-alone c = without c.args.text.now c.in-Ok.core c.in-Ok.ensures.meaning
 
 pub returns-in-Ok-shown : goal.returns-in-Ok-shown
 returns-in-Ok-shown c = runs c.in-Ok.ensures.meaning c.in-Ok-shown.ensures.shows

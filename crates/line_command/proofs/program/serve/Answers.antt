@@ -1,4 +1,4 @@
-use Rattle.std.proofs.Common.{rules, ◌≡◌, ◌∙◌, length, ap, subst, sym, refl, arith}
+use Rattle.std.proofs.Common.{rules, ◌≡◌, ◌∙◌, ap, subst, sym, refl, arith}
 use Rattle.std.specs.Prelude.{IsSome}
 use Rattle.code_form.specs.Machine.{Control, answered}
 use Rattle.code_form.specs.declared.waits.Waits.TheVariants.{Asked}
@@ -11,7 +11,7 @@ use Rattle.line_command.proofs.program.serve.Goals as goal
 pub loop-screen-init : goal.loop-screen-init
 loop-screen-init g c = record {
   served = λ core first held b has. (first, (held, rw c.new-screen.ensures (served_first core c.args.code.now first c.args.command.now c.requires.starts)));
-  free = ap (λ (d : Control). asked d.waits) c.requires.starts ∙ start_free (length c.args.code.now.variables);
+  free = ap (λ (d : Control). asked d.waits) c.requires.starts ∙ start_free c.args.code.now;
   fits = c.requires.fits;
   later = omega arith;
 }

@@ -1,4 +1,4 @@
-use Rattle.std.proofs.Common.{◌≡◌, subst, pos, Some}
+use Rattle.std.proofs.Common.{subst, Some}
 use Rattle.std.proofs.lemmas.Int.{to_z-of_z}
 use Rattle.code_form.specs.declared.instr.Instr.TheVariants.{Number}
 use Rattle.place_gen.specs.Adds.{left}

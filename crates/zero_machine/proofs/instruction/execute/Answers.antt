@@ -4,7 +4,7 @@ use Rattle.std.specs.Int.{w16}
 use Rattle.std.specs.Int.RustNames.{FitsSigned}
 use Rattle.eu_base.specs.declared.value.Value.TheVariants as item
 use Rattle.code_form.specs.declared.operand.Operand.TheVariants as operand
-use Rattle.code_form.specs.declared.instr.Instr.TheVariants.{Number, Truth, Text, Outer, Local, Param, Index, Field, Pick, Take, Load, Do, Modify, Jump, False, When}
+use Rattle.code_form.specs.declared.instr.Instr.TheVariants.{Number, Truth, Text, Outer, Packet, Local, Param, Index, Field, Pick, Take, Load, Do, Modify, Jump, False, When}
 use Rattle.code_form.specs.declared.instr.Instr.TheVariants.{Drop, Limit, Unlimit, Step, Ask, ErrorStop, Back, Out}
 use Rattle.zero_state.specs.Stepping.{position_of, control_of, stage_by}
 use Rattle.zero_state.proofs.Making.{plain_steps}
@@ -36,6 +36,11 @@ pub returns-in-Outer-clause-goes : goal.returns-in-Outer-clause-goes
 returns-in-Outer-clause-goes g c =
     computed_so (g.M.Memory.holds c.args.m.now) c.args.code.now c.args.instr.now (Outer c.in-Outer.cell) c.args.marks.now (position_of c.args.s.now) (control_of c.outer.new.s) c.in-Outer.is
     c.outer.result c.computed-in-Outer.result c.computed-in-Outer.ensures.same c.outer.ensures
+
+pub returns-in-Packet-clause-goes : goal.returns-in-Packet-clause-goes
+returns-in-Packet-clause-goes g c =
+    computed_so (g.M.Memory.holds c.args.m.now) c.args.code.now c.args.instr.now (Packet c.in-Packet.cell) c.args.marks.now (position_of c.args.s.now) (control_of c.packet.new.s) c.in-Packet.is
+    c.packet.result c.computed-in-Packet.result c.computed-in-Packet.ensures.same c.packet.ensures
 
 pub returns-in-Local-clause-goes : goal.returns-in-Local-clause-goes
 returns-in-Local-clause-goes g c =
