@@ -95,8 +95,8 @@ impl SpaceMemory {
         cells::rooms(&mut self.run, pool)
     }
 
-    /// The number in a cell of the packets.
-    #[inline(always)]
+    /// The number in a cell of the packets. It stands outside the loop of a run, which is quicker so.
+    #[inline(never)]
     pub fn packet_cell(&mut self, pool: &mut Pool, cell: u16) -> Result<u64, MemFault>
         requires cell { cell < CELLS }
         requires agree { Stands pool.old (roots self.old) 0 }
@@ -111,7 +111,7 @@ impl SpaceMemory {
     }
 
     /// Puts a number into a cell of the packets. After a refusal some bytes of the cell may be written.
-    #[inline(always)]
+    #[inline(never)]
     pub fn set_packet_cell(
         &mut self,
         pool: &mut Pool,
