@@ -17,7 +17,7 @@ mod value;
 
 pub use address::{Addr, Area, CELLS};
 pub use cells::{MemFault, Memory};
-pub use containers::{Boxed, Bytes, List, NoMemory};
+pub use containers::{Boxed, Bytes, List, NoMemory, Shared};
 pub use number::decimal;
 pub use operand::{number_at, text_at};
 pub use operation::{Change, Operation, Way};
