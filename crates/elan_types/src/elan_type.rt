@@ -6,10 +6,11 @@ ghost use Rattle.elan_types.specs.Types.{are_same, cells, cells_of_field, concre
 ghost use Rattle.elan_types.specs.Typing.{cells_of};
 
 use crate::core_phrase::{Access, Formal};
-use eu_base::{Boxed, Bytes, Kind, List, NoMemory, Shape};
+use eu_base::{Boxed, Bytes, Kind, List, NoMemory, Shape, Shared};
 use std::alloc::Global;
 
-/// A type, with its names resolved. Two types are equal where they are the same tree.
+/// A type, with its names resolved. Two types are equal where they are the same tree. What stands in a type may have several
+/// owners, so that a copy takes no memory, however large the type is.
 #[cycle(types)]
 #[derive(Drop)]
 pub enum ElanType {
@@ -20,11 +21,11 @@ pub enum ElanType {
     /// `TEXT`, a list of at most 16,000 bytes.
     Text,
     /// `ROW size of`, so many items of one type.
-    Row(u16, Boxed<ElanType>),
+    Row(u16, Shared<ElanType>),
     /// `STRUCT (fields)`, its fields in order.
-    Struct(List<FieldType>),
+    Struct(Shared<List<FieldType>>),
     /// A type that the text makes by TYPE: its number among the names of types that its level declares, and its concrete type.
-    Own(usize, Boxed<ElanType>),
+    Own(usize, Shared<ElanType>),
     /// What is written for it has no meaning.
     Open,
 }
@@ -61,7 +62,7 @@ impl ElanType {
                 *size == *other && of.get().is_same(behind.get())
             }
             (ElanType::Struct(fields), ElanType::Struct(others)) => {
-                same_fields(fields.as_slice(), others.as_slice())
+                same_fields(fields.get().as_slice(), others.get().as_slice())
             }
             (ElanType::Own(number, concrete), ElanType::Own(other, behind)) => {
                 *number == *other && concrete.get().is_same(behind.get())
@@ -90,32 +91,32 @@ impl ElanType {
         }
     }
 
-    /// The type that stands behind one of the text's own.
-    pub fn into_concrete(self) -> Option<ElanType>
-        ensures { result ≡ concrete self }
+    /// The type that stands behind one of the text's own; `None` exactly where it is none of these.
+    pub fn concrete(&self) -> Result<Option<ElanType>, NoMemory>
+        ensures { IfOk result (λ found. found ≡ concrete self.now) }
     {
         match self {
-            ElanType::Own(_, concrete) => Some(concrete.into_inner()),
-            _ => None,
+            ElanType::Own(_, concrete) => Ok(Some(concrete.get().try_clone()?)),
+            _ => Ok(None),
         }
     }
 
     /// The size of a row, and the type of its items; `None` exactly where it is no row.
-    pub fn into_items(self) -> Option<(u16, ElanType)>
-        ensures { result ≡ items self }
+    pub fn items(&self) -> Result<Option<(u16, ElanType)>, NoMemory>
+        ensures { IfOk result (λ found. found ≡ items self.now) }
     {
         match self {
-            ElanType::Row(size, of) => Some((size, of.into_inner())),
-            _ => None,
+            ElanType::Row(size, of) => Ok(Some((*size, of.get().try_clone()?))),
+            _ => Ok(None),
         }
     }
 
     /// The field of this name, with the number of cells before it; `None` where it is no structure, or has no such field.
-    pub fn field(&self, alloc: Global, name: &[u8]) -> Result<Option<(u16, ElanType)>, NoMemory>
+    pub fn field(&self, name: &[u8]) -> Result<Option<(u16, ElanType)>, NoMemory>
         ensures { IfOk result (λ found. found ≡ field self.now name.now) }
     {
         match self {
-            ElanType::Struct(fields) => field_named(alloc, fields.as_slice(), name),
+            ElanType::Struct(fields) => field_named(fields.get().as_slice(), name),
             _ => Ok(None),
         }
     }
@@ -144,7 +145,10 @@ impl ElanType {
                 let of = of.get().shape(alloc)?;
                 Ok(Shape::Row(*size, Boxed::new(alloc, of)?))
             }
-            ElanType::Struct(fields) => Ok(Shape::Struct(field_shapes(alloc, fields.as_slice())?)),
+            ElanType::Struct(fields) => Ok(Shape::Struct(field_shapes(
+                alloc,
+                fields.get().as_slice(),
+            )?)),
             ElanType::Own(_, concrete) => concrete.get().shape(alloc),
             ElanType::Open => Ok(Shape::Cell(Kind::Int)),
         }
@@ -158,7 +162,7 @@ impl ElanType {
         match self {
             ElanType::Row(0, _) => Some(0),
             ElanType::Row(size, of) => size.checked_mul(of.get().cells()?),
-            ElanType::Struct(fields) => field_cells(fields.as_slice()),
+            ElanType::Struct(fields) => field_cells(fields.get().as_slice()),
             ElanType::Own(_, concrete) => concrete.get().cells(),
             ElanType::Int | ElanType::Bool | ElanType::Text | ElanType::Open => Some(1),
         }
@@ -171,7 +175,7 @@ impl ElanType {
     {
         match self {
             ElanType::Row(_, of) => of.get().nodes()?.checked_add(1),
-            ElanType::Struct(fields) => field_nodes(fields.as_slice())?.checked_add(1),
+            ElanType::Struct(fields) => field_nodes(fields.get().as_slice())?.checked_add(1),
             ElanType::Own(_, concrete) => concrete.get().nodes(),
             ElanType::Int | ElanType::Bool | ElanType::Text | ElanType::Open => Some(1),
         }
@@ -194,38 +198,29 @@ impl ElanType {
     {
         match self {
             ElanType::Row(_, of) => of.get().has_own(),
-            ElanType::Struct(fields) => any_has_own(fields.as_slice()),
+            ElanType::Struct(fields) => any_has_own(fields.get().as_slice()),
             ElanType::Own(_, _) => true,
             ElanType::Int | ElanType::Bool | ElanType::Text | ElanType::Open => false,
         }
     }
 
-    /// The same type in memory of its own.
-    #[cycle(copies)]
-    pub fn try_clone(&self, alloc: Global) -> Result<ElanType, NoMemory>
+    /// The same type: what stands in it has one more owner. It takes no memory, and is refused only where no more owners can be
+    /// counted.
+    pub fn try_clone(&self) -> Result<ElanType, NoMemory>
         ensures { IfOk result (λ copy. copy ≡ self.now) }
     {
         match self {
             ElanType::Int => Ok(ElanType::Int),
             ElanType::Bool => Ok(ElanType::Bool),
             ElanType::Text => Ok(ElanType::Text),
-            ElanType::Row(size, of) => {
-                let of = of.get().try_clone(alloc)?;
-                Ok(ElanType::Row(*size, Boxed::new(alloc, of)?))
-            }
-            ElanType::Struct(fields) => Ok(ElanType::Struct(clone_fields(
-                alloc,
-                fields.as_slice(),
-            )?)),
-            ElanType::Own(number, concrete) => {
-                let concrete = concrete.get().try_clone(alloc)?;
-                Ok(ElanType::Own(*number, Boxed::new(alloc, concrete)?))
-            }
+            ElanType::Row(size, of) => Ok(ElanType::Row(*size, of.share()?)),
+            ElanType::Struct(fields) => Ok(ElanType::Struct(fields.share()?)),
+            ElanType::Own(number, concrete) => Ok(ElanType::Own(*number, concrete.share()?)),
             ElanType::Open => Ok(ElanType::Open),
         }
     }
 
-    /// Lets it go, with what stands behind it.
+    /// Lets it go, with what stands in it where that has no other owner.
     pub fn let_go(self) {}
 }
 
@@ -295,35 +290,18 @@ fn any_has_own(fields: &[FieldType]) -> bool
     false
 }
 
-fn field_named(
-    alloc: Global,
-    fields: &[FieldType],
-    name: &[u8],
-) -> Result<Option<(u16, ElanType)>, NoMemory>
+fn field_named(fields: &[FieldType], name: &[u8]) -> Result<Option<(u16, ElanType)>, NoMemory>
     ensures { IfOk result (λ found. found ≡ field_from 0 fields.now name.now) }
 {
     let mut before = 0_u16;
     for field in fields {
         if field.name.as_slice() == name {
-            return Ok(Some((before, field.of.try_clone(alloc)?)));
+            return Ok(Some((before, field.of.try_clone()?)));
         }
         let cells = field.of.cells().ok_or(NoMemory)?;
         before = before.checked_add(cells).ok_or(NoMemory)?;
     }
     Ok(None)
-}
-
-#[cycle(copies)]
-fn clone_fields(alloc: Global, fields: &[FieldType]) -> Result<List<FieldType>, NoMemory>
-    ensures { IfOk result (λ copies. copies ≡ fields.now) }
-{
-    let mut copies = List::new(alloc);
-    for field in fields {
-        let name = Bytes::from(alloc, field.name.as_slice())?;
-        let of = field.of.try_clone(alloc)?;
-        copies.push(FieldType { name, of })?;
-    }
-    Ok(copies)
 }
 
 impl Parameter {
@@ -349,11 +327,11 @@ impl Parameter {
         }
     }
 
-    /// The same parameter in memory of its own.
-    pub fn try_clone(&self, alloc: Global) -> Result<Parameter, NoMemory>
+    /// The same parameter. It takes no memory.
+    pub fn try_clone(&self) -> Result<Parameter, NoMemory>
         ensures { IfOk result (λ copy. copy ≡ self.now) }
     {
-        let of = self.of.try_clone(alloc)?;
+        let of = self.of.try_clone()?;
         Ok(Parameter {
             of,
             access: self.access,
