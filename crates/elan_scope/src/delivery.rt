@@ -4,7 +4,6 @@ ghost use Rattle.std.specs.Prelude.{◌≡◌, IfOk};
 
 use elan_types::ElanType;
 use eu_base::NoMemory;
-use std::alloc::Global;
 
 /// What a PROC, an OP or a refinement delivers, as far as it is known, and what the last unit of a list is asked for.
 #[derive(Drop)]
@@ -16,14 +15,14 @@ pub enum Delivery {
 }
 
 impl Delivery {
-    /// The same delivery in memory of its own.
-    pub fn try_clone(&self, alloc: Global) -> Result<Delivery, NoMemory>
+    /// The same delivery. It takes no memory.
+    pub fn try_clone(&self) -> Result<Delivery, NoMemory>
         ensures { IfOk result (λ copy. copy ≡ self.now) }
     {
         match self {
             Delivery::Open => Ok(Delivery::Open),
             Delivery::Nothing => Ok(Delivery::Nothing),
-            Delivery::Of(of) => Ok(Delivery::Of(of.try_clone(alloc)?)),
+            Delivery::Of(of) => Ok(Delivery::Of(of.try_clone()?)),
         }
     }
 }
