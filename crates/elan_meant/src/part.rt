@@ -186,7 +186,7 @@ pub fn delivering(alloc: Global, at: u32, of: ElanType, value: ValuePhrase) -> J
 pub fn delivering_as(alloc: Global, at: u32, of: &ElanType, value: ValuePhrase) -> Judged
     ensures { Tells result (gives (Meant.Value at of.now value)) }
 {
-    match of.try_clone(alloc) {
+    match of.try_clone() {
         Err(_refusal) => {
             value.let_go();
             Err(Trouble::NoMemory)
