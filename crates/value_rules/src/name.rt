@@ -52,10 +52,10 @@ impl Held {
     }
 }
 
-fn variable(alloc: Global, at: u32, of: &ElanType, held: Held) -> Judged
+fn variable(at: u32, of: &ElanType, held: Held) -> Judged
     ensures { Tells result (gives (means.Variable at of.now (spec.place_in held.home held.number held.access))) }
 {
-    let of = of.try_clone(alloc)?;
+    let of = of.try_clone()?;
     Ok(Meant::Variable {
         at,
         of,
@@ -81,7 +81,7 @@ fn parameter(alloc: Global, at: u32, home: Home, number: usize, parameter: &Para
     };
     match parameter.access {
         Access::Const => constant(alloc, at, &parameter.of, held),
-        Access::Var => variable(alloc, at, &parameter.of, held),
+        Access::Var => variable(at, &parameter.of, held),
     }
 }
 
@@ -167,7 +167,7 @@ fn denoted(
         return Err(Trouble::Hangs);
     }
     match found.denotes {
-        Denotes::Variable(of) => variable(alloc, at, of, plainly_held(found)),
+        Denotes::Variable(of) => variable(at, of, plainly_held(found)),
         Denotes::Constant(of) => constant(alloc, at, of, plainly_held(found)),
         Denotes::Parameter(given) => parameter(alloc, at, found.home, found.number, given),
         Denotes::Procedure => applied_alone(alloc, at, scope, name),
@@ -214,9 +214,7 @@ fn declared_as(alloc: Global, at: u32, found: Found<'_>) -> Judged
     ensures { Tells result (gives (spec.declared_as at found.entry.home found.entry.number found.entry.denotes.now)) }
 {
     match found.denotes {
-        Denotes::Variable(of) | Denotes::Constant(of) => {
-            variable(alloc, at, of, plainly_held(found))
-        }
+        Denotes::Variable(of) | Denotes::Constant(of) => variable(at, of, plainly_held(found)),
         Denotes::Parameter(_) | Denotes::Procedure | Denotes::Refinement | Denotes::Denoter(_) =>
             Ok(Meant::Done(List::new(alloc))),
     }

@@ -79,13 +79,20 @@ fn item_place(
 ) -> Judged
     ensures { Tells result (spec.item_as at (types.items of) (λ r. means.Variable at r.1 (places.Item row index (spec.items_of r)))) }
 {
-    match of.into_items() {
-        None => {
+    let items = of.items();
+    of.let_go();
+    match items {
+        Err(_refusal) => {
+            row.let_go();
+            index.into_inner().let_go();
+            Err(Trouble::NoMemory)
+        }
+        Ok(None) => {
             row.let_go();
             index.into_inner().let_go();
             Err(Trouble::Breaks(at, Why::WrongType))
         }
-        Some((count, of)) => item_at(alloc, at, count, of, row, index),
+        Ok(Some((count, of))) => item_at(alloc, at, count, of, row, index),
     }
 }
 
@@ -125,13 +132,20 @@ fn item_value(
 ) -> Judged
     ensures { Tells result (spec.item_as at (types.items of) (λ r. means.Value at r.1 (values.Pick row index (spec.items_of r) (types.shape_in r.1)))) }
 {
-    match of.into_items() {
-        None => {
+    let items = of.items();
+    of.let_go();
+    match items {
+        Err(_refusal) => {
+            row.into_inner().let_go();
+            index.into_inner().let_go();
+            Err(Trouble::NoMemory)
+        }
+        Ok(None) => {
             row.into_inner().let_go();
             index.into_inner().let_go();
             Err(Trouble::Breaks(at, Why::WrongType))
         }
-        Some((count, of)) => picked(alloc, at, count, of, row, index),
+        Ok(Some((count, of))) => picked(alloc, at, count, of, row, index),
     }
 }
 
@@ -212,7 +226,7 @@ fn field_at(alloc: Global, at: u32, structure: PlacePhrase, before: u16, of: Ela
 fn field_place(alloc: Global, at: u32, name: &[u8], of: ElanType, structure: PlacePhrase) -> Judged
     ensures { Tells result (spec.field_as at (types.field of name.now) (λ f. means.Variable at f.1 (places.Field structure f.0))) }
 {
-    let found = of.field(alloc, name);
+    let found = of.field(name);
     of.let_go();
     match found {
         Err(_refusal) => {
@@ -260,7 +274,7 @@ fn field_value(
     ensures { Tells result (spec.field_as at (types.field of.now name.now)
         (λ f. means.Value at f.1 (values.Take structure (spec.part_of of.now f) (types.shape_in f.1)))) }
 {
-    match of.field(alloc, name) {
+    match of.field(name) {
         Err(_refusal) => {
             structure.into_inner().let_go();
             Err(Trouble::NoMemory)

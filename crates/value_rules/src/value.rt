@@ -1,6 +1,7 @@
 //! Numbers, texts, brackets, CAND and COR.
 
 ghost use Rattle.std.specs.Prelude.{◌≡◌};
+ghost use Rattle.elan_types.specs.Types.{concrete};
 ghost use Rattle.elan_types.specs.declared.elan_type.ElanType.TheVariants as types;
 ghost use Rattle.elan_types.specs.declared.core_phrase.ValuePhrase.TheVariants as values;
 ghost use Rattle.elan_meant.specs.declared.meant.Meant.TheVariants as means;
@@ -15,7 +16,7 @@ use elan_meant::part::{delivering, loaded, value_of};
 use elan_meant::row::{Judged, both};
 use elan_scope::denoter::Denoter;
 use elan_scope::trouble::Trouble;
-use elan_types::{ElanType, ValuePhrase, Why};
+use elan_types::{ElanType, PlacePhrase, ValuePhrase, Why};
 use eu_base::{Boxed, Bytes, Kind, TEXT_BYTES};
 use std::alloc::Global;
 
@@ -122,25 +123,51 @@ pub fn cor(alloc: Global, at: u32, left: Meant, right: Meant) -> Judged
     of_truths(alloc, at, true, left, right)
 }
 
+// The same place, as of the concrete type.
+fn concrete_place(at: u32, of: ElanType, place: PlacePhrase) -> Judged
+    ensures { Tells result (spec.concr_as at (concrete of) (λ u. means.Variable at u place)) }
+{
+    let found = of.concrete();
+    of.let_go();
+    match found {
+        Err(_refusal) => {
+            place.let_go();
+            Err(Trouble::NoMemory)
+        }
+        Ok(None) => {
+            place.let_go();
+            Err(Trouble::Breaks(at, Why::WrongType))
+        }
+        Ok(Some(of)) => Ok(Meant::Variable { at, of, place }),
+    }
+}
+
+// The same value, as of the concrete type.
+fn concrete_value(at: u32, of: ElanType, value: Boxed<ValuePhrase>) -> Judged
+    ensures { Tells result (spec.concr_as at (concrete of) (λ u. means.Value at u value)) }
+{
+    let found = of.concrete();
+    of.let_go();
+    match found {
+        Err(_refusal) => {
+            value.into_inner().let_go();
+            Err(Trouble::NoMemory)
+        }
+        Ok(None) => {
+            value.into_inner().let_go();
+            Err(Trouble::Breaks(at, Why::WrongType))
+        }
+        Ok(Some(of)) => Ok(Meant::Value { at, of, value }),
+    }
+}
+
 /// CONCR: the same place or value, as of the concrete type of one of the text's own.
 pub fn concr(at: u32, meant: Meant) -> Judged
     ensures { Tells result (spec.concr at meant) }
 {
     match meant {
-        Meant::Variable { at: _at, of, place } => match of.into_concrete() {
-            Some(of) => Ok(Meant::Variable { at, of, place }),
-            None => {
-                place.let_go();
-                Err(Trouble::Breaks(at, Why::WrongType))
-            }
-        },
-        Meant::Value { at: _at, of, value } => match of.into_concrete() {
-            Some(of) => Ok(Meant::Value { at, of, value }),
-            None => {
-                value.into_inner().let_go();
-                Err(Trouble::Breaks(at, Why::WrongType))
-            }
-        },
+        Meant::Variable { at: _at, of, place } => concrete_place(at, of, place),
+        Meant::Value { at: _at, of, value } => concrete_value(at, of, value),
         other => {
             other.let_go();
             Err(Trouble::Breaks(at, Why::WrongType))
