@@ -51,7 +51,7 @@ fn for_each(
     ensures { OnOk result (out.new ≡ out.old ++ scopes.all_held (spec.named_as names.now (denote.Parameter parameter.now))) }
 {
     for _name in names {
-        out.push(parameter.try_clone(alloc)?)?;
+        out.push(parameter.try_clone()?)?;
     }
     Ok(())
 }

@@ -71,7 +71,7 @@ impl<'a> Names<'a> {
         ensures { result.wanted ≡ false → (self.entry.wanted ≡ false)
             × (result ≡ with_entries self.entry (spec.entry name.now (denote.Parameter parameter.now))) }
     {
-        match parameter.try_clone(self.alloc) {
+        match parameter.try_clone() {
             Ok(parameter) => self.add(name, Denotes::Parameter(parameter)),
             Err(NoMemory) => {
                 self.wanted = true;

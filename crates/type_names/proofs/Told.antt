@@ -99,7 +99,7 @@ module _ (seen : List TypeName) (rs : List Refinement) where
       ∙ ap (λ (q : TypePhrase). told (judged seen rs q)) (sym e)
   rows_told (Err x) at size p t u items n broken behind e g i k w b h = tt
 
-  pub structure_told : (at : ℕ) (p : TypePhrase) (fs gs : List Field) (known : Fields) (whole : Told) → p ≡ type.Struct at fs → gs ≡ fs
+  structure_told : (at : ℕ) (p : TypePhrase) (fs gs : List Field) (known : Fields) (whole : Told) → p ≡ type.Struct at fs → gs ≡ fs
       → known ≡ told_fields (map (judged_fields seen rs) gs) → whole.of ≡ structure_of known.list
       → whole.first ≡ earlier (first_fault (structure_fault at known.list)) known.first → whole ≡ told (judged seen rs p)
   structure_told at p fs gs known whole e g k o f =
@@ -111,6 +111,13 @@ module _ (seen : List TypeName) (rs : List Refinement) where
       (f ∙ ap (λ (v : Fields). earlier (first_fault (structure_fault at v.list)) v.first) i
       ∙ sym (first_append (structure_fault at list) (fields_faults [] js)))
       ∙ ap told (sym (structure_is at fs)) ∙ ap (λ (q : TypePhrase). told (judged seen rs q)) (sym e)
+
+  pub structures_told : {E : Type 0} (r : Result Told E) (at : ℕ) (p : TypePhrase) (fs gs : List Field) (known : Fields)
+      → p ≡ type.Struct at fs → gs ≡ fs → known ≡ told_fields (map (judged_fields seen rs) gs)
+      → IfOk r (λ whole. (whole.of ≡ structure_of known.list) × (whole.first ≡ earlier (first_fault (structure_fault at known.list)) known.first))
+      → IfOk r (λ whole. whole ≡ told (judged seen rs p))
+  structures_told (Ok whole) at p fs gs known e g k h = structure_told at p fs gs known whole e g k h.0 h.1
+  structures_told (Err x) at p fs gs known e g k h = tt
 
   abbrev judge : List Field → List JudgedFields
   judge fs = map (judged_fields seen rs) fs

@@ -89,7 +89,7 @@ pub fn add_fields(
         first = earlier(first, name_fault(list.as_slice(), name));
         list.push(FieldType {
             name: Bytes::from(alloc, name.text.as_slice())?,
-            of: of.try_clone(alloc)?,
+            of: of.try_clone()?,
         })?;
     }
     Ok(first)

@@ -11,7 +11,7 @@ use crate::visible::{Fault, Visible};
 use elan_scope::type_name::Named;
 use elan_tree::{Field, Name, TypePhrase};
 use elan_types::{ElanType, FieldType, Why};
-use eu_base::{Boxed, List, NoMemory};
+use eu_base::{List, NoMemory, Shared};
 use std::alloc::Global;
 
 /// A type as it is written: what it means, and its first fault in text order.
@@ -57,11 +57,11 @@ impl Judged {
     }
 }
 
-fn name_judged(alloc: Global, visible: Visible<'_>, name: &Name) -> Result<Judged, NoMemory>
+fn name_judged(visible: Visible<'_>, name: &Name) -> Result<Judged, NoMemory>
     ensures { IfOk result (λ judged. judged ≡ told (faults.name_judged (names_seen visible.entry) visible.entry.refinements.now name.now)) }
 {
     match visible.look(name.text.as_slice()) {
-        Some(Named::Of(of)) => Ok(Judged::closed(of.try_clone(alloc)?)),
+        Some(Named::Of(of)) => Ok(Judged::closed(of.try_clone()?)),
         _ => Ok(Judged::open(Some((name.at, Why::Unknown)))),
     }
 }
@@ -85,24 +85,25 @@ fn row_judged(
                 of.let_go();
                 return Ok(Judged::open(behind));
             }
-            let of = Boxed::new(alloc, of)?;
+            let of = Shared::new(alloc, of)?;
             Ok(Judged::whole(at, ElanType::Row(size, of), behind))
         }
     }
 }
 
-fn structure_judged(at: u32, fields: Fields) -> Judged
-    ensures of { result.of ≡ types.structure_of fields.list }
-    ensures first { result.first ≡ earlier (faults.first_fault (faults.structure_fault at fields.list)) fields.first }
+fn structure_judged(alloc: Global, at: u32, fields: Fields) -> Result<Judged, NoMemory>
+    ensures { IfOk result (λ structure. (structure.of ≡ types.structure_of fields.list)
+        × (structure.first ≡ earlier (faults.first_fault (faults.structure_fault at fields.list)) fields.first)) }
 {
     let Fields { list, first } = fields;
     if list.is_empty() {
-        return Judged::open(Some((at, Why::Unknown)));
+        return Ok(Judged::open(Some((at, Why::Unknown))));
     }
     if any_open(list.as_slice()) || any_doubled(list.as_slice()) {
-        return Judged::open(first);
+        return Ok(Judged::open(first));
     }
-    Judged::whole(at, ElanType::Struct(list), first)
+    let fields = Shared::new(alloc, list)?;
+    Ok(Judged::whole(at, ElanType::Struct(fields), first))
 }
 
 /// What a type means, and its first fault.
@@ -114,7 +115,7 @@ pub fn judge(alloc: Global, visible: Visible<'_>, of: &TypePhrase) -> Result<Jud
         TypePhrase::Int(_) => Ok(Judged::closed(ElanType::Int)),
         TypePhrase::Bool(_) => Ok(Judged::closed(ElanType::Bool)),
         TypePhrase::Text(_) => Ok(Judged::closed(ElanType::Text)),
-        TypePhrase::Named(name) => name_judged(alloc, visible, name),
+        TypePhrase::Named(name) => name_judged(visible, name),
         TypePhrase::Row { at, size, of } => {
             let items = judge(alloc, visible, of.get())?;
             let behind = earlier(visible.size_fault(size), items.first);
@@ -122,7 +123,7 @@ pub fn judge(alloc: Global, visible: Visible<'_>, of: &TypePhrase) -> Result<Jud
         }
         TypePhrase::Struct { at, fields } => {
             let fields = fields_judged(alloc, visible, fields.as_slice())?;
-            Ok(structure_judged(*at, fields))
+            structure_judged(alloc, *at, fields)
         }
         TypePhrase::Task(_) | TypePhrase::Dataspace(_) => {
             Ok(Judged::open(Some((0, Why::Unknown))))

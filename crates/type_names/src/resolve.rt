@@ -9,7 +9,7 @@ use crate::written::type_in;
 use elan_scope::heading::is_one;
 use elan_scope::type_name::{Named, TypeName};
 use elan_types::ElanType;
-use eu_base::{Boxed, Bytes, List, NoMemory};
+use eu_base::{Bytes, List, NoMemory, Shared};
 use std::alloc::Global;
 
 /// The first definition of a name, with its number.
@@ -39,7 +39,7 @@ fn made(alloc: Global, number: usize, concrete: ElanType) -> Result<ElanType, No
         concrete.let_go();
         return Ok(ElanType::Open);
     }
-    Ok(ElanType::Own(number, Boxed::new(alloc, concrete)?))
+    Ok(ElanType::Own(number, Shared::new(alloc, concrete)?))
 }
 
 // What a definition says, read with these names.

@@ -1,7 +1,7 @@
 use Rattle.std.proofs.Common.{◌+◌, drop, ap, ◌∙◌}
 use Rattle.elan_walk.proofs.Went.{rest_of}
 use Rattle.type_names.specs.walks.Seen.{earlier, names_seen}
-use Rattle.type_names.proofs.Told.{rows_told, structure_told, fields_turn}
+use Rattle.type_names.proofs.Told.{rows_told, structures_told, fields_turn}
 use Rattle.type_names.proofs.judgement.+judging.Goals as goal
 
 pub judge-returns-in_ok-items-in-Row : goal.judge-returns-in_ok-items-in-Row
@@ -12,9 +12,9 @@ judge-returns-in_ok-items-in-Row t c =
 
 pub judge-returns-in_ok-fields-in-Struct : goal.judge-returns-in_ok-fields-in-Struct
 judge-returns-in_ok-fields-in-Struct t c =
-    structure_told (names_seen c.args.visible) c.args.visible.refinements.now c.in-Struct.at c.args.of.now c.in-Struct.fields c.as_slice.result.now
-    c.in_ok-fields-in-Struct.fields c.structure_judged.result c.in-Struct.is c.as_slice.ensures c.in_ok-fields-in-Struct.ensures
-    c.structure_judged.ensures.of c.structure_judged.ensures.first
+    structures_told (names_seen c.args.visible) c.args.visible.refinements.now c.structure_judged.result c.in-Struct.at c.args.of.now
+    c.in-Struct.fields c.as_slice.result.now c.in_ok-fields-in-Struct.fields c.in-Struct.is c.as_slice.ensures c.in_ok-fields-in-Struct.ensures
+    c.structure_judged.ensures
 
 pub fields_judged-loop-field-preserved : goal.fields_judged-loop-field-preserved
 fields_judged-loop-field-preserved t c =
