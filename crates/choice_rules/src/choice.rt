@@ -62,7 +62,7 @@ fn chosen_of(
 ) -> Judged
     ensures { Tells result (spec.chosen_of at condition first second) }
 {
-    match together(alloc, &first, &second) {
+    match together(&first, &second) {
         Err(_refusal) => {
             condition.into_inner().let_go();
             first.let_go();

@@ -7,14 +7,13 @@ ghost use Rattle.choice_rules.specs.walks.Steps as walk;
 use elan_meant::meant::Meant;
 use elan_scope::delivery::Delivery;
 use eu_base::NoMemory;
-use std::alloc::Global;
 
 /// What a part delivers. One that ends with a LEAVE agrees with every type.
-pub fn delivery_in(alloc: Global, part: &Meant) -> Result<Delivery, NoMemory>
+pub fn delivery_in(part: &Meant) -> Result<Delivery, NoMemory>
     ensures { IfOk result (λ delivery. delivery ≡ spec.delivery_in part.now) }
 {
     match part {
-        Meant::Value { of, .. } => Ok(Delivery::Of(of.try_clone(alloc)?)),
+        Meant::Value { of, .. } => Ok(Delivery::Of(of.try_clone()?)),
         Meant::Left(_) => Ok(Delivery::Open),
         _ => Ok(Delivery::Nothing),
     }
@@ -42,11 +41,11 @@ pub fn joined(delivery: Delivery, other: Delivery) -> Option<Delivery>
 }
 
 /// What two parts deliver together, if they agree.
-pub fn together(alloc: Global, first: &Meant, second: &Meant) -> Result<Option<Delivery>, NoMemory>
+pub fn together(first: &Meant, second: &Meant) -> Result<Option<Delivery>, NoMemory>
     ensures { IfOk result (λ delivery. delivery ≡ spec.joined (spec.delivery_in first.now) (spec.delivery_in second.now)) }
 {
-    let delivery = delivery_in(alloc, first)?;
-    let other = delivery_in(alloc, second)?;
+    let delivery = delivery_in(first)?;
+    let other = delivery_in(second)?;
     Ok(joined(delivery, other))
 }
 

@@ -71,9 +71,9 @@ fn agreed(
 ) -> Result<Option<Delivery>, NoMemory>
     ensures { IfOk result (λ delivery. delivery ≡ spec.agreed (Some (spec.delivery_in otherwise.now)) arms.now) }
 {
-    let mut agreed = Some(delivery_in(alloc, otherwise)?);
+    let mut agreed = Some(delivery_in(otherwise)?);
     for arm in arms {
-        let delivery = delivery_in(alloc, &arm.1)?;
+        let delivery = delivery_in(&arm.1)?;
         agreed = match agreed {
             None => None,
             Some(before) => joined(before, delivery),
