@@ -32,12 +32,12 @@ use elan_tree::{Level, Unit};
 use eu_base::{List, NoMemory};
 use std::alloc::Global;
 
-fn stated(alloc: Global, what: &What) -> Result<Delivery, NoMemory>
+fn stated(what: &What) -> Result<Delivery, NoMemory>
     ensures { IfOk result (λ delivery. delivery ≡ spec.stated what.now) }
 {
     match what {
         What::Routine(_, _, None) => Ok(Delivery::Nothing),
-        What::Routine(_, _, Some(of)) => Ok(Delivery::Of(of.try_clone(alloc)?)),
+        What::Routine(_, _, Some(of)) => Ok(Delivery::Of(of.try_clone()?)),
         What::Refinement(_) => Ok(Delivery::Open),
     }
 }
@@ -48,7 +48,7 @@ fn all_stated(alloc: Global, headings: &[Heading]) -> Result<List<Delivery>, NoM
 {
     let mut deliveries = List::new(alloc);
     for heading in headings {
-        deliveries.push(stated(alloc, &heading.what)?)?;
+        deliveries.push(stated(&heading.what)?)?;
     }
     Ok(deliveries)
 }
@@ -248,7 +248,7 @@ fn clone_all(alloc: Global, deliveries: &[Delivery]) -> Result<List<Delivery>, N
 {
     let mut copies = List::new(alloc);
     for delivery in deliveries {
-        copies.push(delivery.try_clone(alloc)?)?;
+        copies.push(delivery.try_clone()?)?;
     }
     Ok(copies)
 }
