@@ -88,7 +88,7 @@ fn see_routine<B: EachBody>(
     ensures kept { OnOk result (scope.new ≡ scope.old) }
 {
     let first = next_number(number)?;
-    let of = result_type(alloc, scope.types.as_slice(), delivered)?;
+    let of = result_type(alloc, &scope.types, delivered)?;
     enter(alloc, scope, number, formals, body)?;
     let wanted = Wanted::of(of.as_ref());
     looks.body(alloc, scope, number, wanted, body.units.as_slice())?;

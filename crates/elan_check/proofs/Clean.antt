@@ -22,7 +22,7 @@ use Rattle.elan_scope.specs.declared.type_name.TypeName.{TypeName}
 use Rattle.elan_scope.specs.Ruled.{Fault}
 use Rattle.elan_scope.specs.Scope.{held, all_held, has_open, is_open_result}
 use Rattle.value_rules.specs.Calls.{holds_open}
-use Rattle.type_names.specs.declared.definition.Definition.{Definition}
+use Rattle.type_definitions.specs.declared.definition.Definition.{Definition}
 use Rattle.type_names.specs.Types as names
 use Rattle.type_names.specs.Types.{type_in, defined_by, first_from, names_of, body_definitions, parameter_definitions, refinement_definitions, in_refinements}
 use Rattle.type_names.specs.Types.{unit_definitions, level_definitions, level_types, body_types}

@@ -151,8 +151,8 @@ fn level_scope(alloc: Global, level: &Level) -> Result<Scope, NoMemory>
 {
     let types = level_types(alloc, level)?;
     Ok(Scope {
-        headings: headings(alloc, types.as_slice(), level)?,
-        level: level_names(alloc, types.as_slice(), level)?,
+        headings: headings(alloc, &types, level)?,
+        level: level_names(alloc, &types, level)?,
         types,
         routine: None,
         refinement: None,

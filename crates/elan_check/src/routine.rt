@@ -157,7 +157,7 @@ fn declare_parameters(alloc: Global, scope: &Scope, before: Row, formals: &[Form
 fn frame(alloc: Global, scope: &Scope, of: Routine<'_>) -> Result<Owner, NoMemory>
     ensures { IfOk result (λ frame. frame ≡ bodies.frame scope.now.types of.entry.formals.now of.entry.body.now) }
 {
-    let types = scope.types.as_slice();
+    let types = &scope.types;
     let variables = own_kinds(alloc, types, of.formals, of.body)?;
     let parameters = parameters(alloc, types, of.formals)?;
     let parameters = formals(alloc, parameters.as_slice())?;
@@ -173,7 +173,7 @@ fn judge_body(alloc: Global, known: &Known, scope: &Scope, of: Routine<'_>) -> J
         (around 0 (form.body (bodies.frame scope.now.types of.entry.formals.now of.entry.body.now) (bodies.result scope.now.types of.entry.result.now))
         (shape.units (delivered (bodies.result scope.now.types of.entry.result.now)) (map (shape.unit scope.now) of.entry.body.now.units)))) }
 {
-    let of_type = result_type(alloc, scope.types.as_slice(), of.result)?;
+    let of_type = result_type(alloc, &scope.types, of.result)?;
     let wanted = Wanted::of(of_type.as_ref());
     let meant = judge_units(alloc, known, scope, wanted, of.body.units.as_slice())?;
     let Ok(owner) = frame(alloc, scope, of) else {
@@ -199,7 +199,7 @@ fn judge_heading(alloc: Global, scope: &Scope, of: Routine<'_>) -> Judged
         (bodies.result scope.now.types of.entry.result.now)
         (spec.is_missing (bodies.result scope.now.types of.entry.result.now) (map (shape.unit s) of.entry.body.now.units))))) }
 {
-    let types = scope.types.as_slice();
+    let types = &scope.types;
     let parameters = parameters(alloc, types, of.formals)?;
     let of_type = result_type(alloc, types, of.result)?;
     let delivered = of_type.as_ref();

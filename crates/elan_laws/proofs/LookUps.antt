@@ -35,7 +35,7 @@ use Rattle.elan_levels.specs.Declarations as d
 use Rattle.elan_scope.specs.declared.type_name.TypeName.{TypeName}
 use Rattle.elan_scope.specs.Types.{first_type}
 use Rattle.type_names.specs.Types.{type_name, names_from, names_of, in_units, in_refinements, refinement_definitions}
-use Rattle.type_names.specs.declared.definition.Definition.{Definition}
+use Rattle.type_definitions.specs.declared.definition.Definition.{Definition}
 use Rattle.elan_levels.specs.Bodies as b
 use Rattle.elan_laws.specs.Served.{HasBody}
 use Rattle.elan_types.specs.declared.elan_type.Parameter.{Parameter}

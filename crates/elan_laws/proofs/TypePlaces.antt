@@ -34,7 +34,7 @@ use Rattle.elan_scope.specs.declared.type_name.TypeName.{TypeName}
 use Rattle.elan_scope.specs.declared.type_name.Named.{Named}
 use Rattle.elan_scope.specs.declared.type_name.Named.TheVariants as named
 use Rattle.elan_scope.specs.Ruled.{Fault}
-use Rattle.type_names.specs.declared.definition.Definition.{Definition}
+use Rattle.type_definitions.specs.declared.definition.Definition.{Definition}
 use Rattle.type_names.specs.Types.{first_from, names_of, body_definitions, level_definitions, look, size_in, size_of, is_broken}
 use Rattle.type_names.specs.Faults as faults
 use Rattle.type_names.specs.Faults.{Here, here, Judged, JudgedFields}

@@ -8,7 +8,7 @@ use Rattle.elan_types.specs.Types.{same_type}
 use Rattle.elan_types.proofs.Types.{same_type_self}
 use Rattle.elan_scope.specs.declared.type_name.TypeName.{TypeName}
 use Rattle.type_names.specs.Types as types
-use Rattle.type_names.specs.declared.definition.Definition.{Definition}
+use Rattle.type_definitions.specs.declared.definition.Definition.{Definition}
 use Rattle.elan_tree.specs.declared.written_type.Name.{Name}
 use Rattle.elan_tree.specs.declared.written_type.TypePhrase.{TypePhrase}
 use Rattle.elan_tree.specs.declared.written_type.Formal.{Formal}

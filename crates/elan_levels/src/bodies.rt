@@ -13,12 +13,12 @@ use crate::declare::Names;
 use cell_kinds::CellKinds;
 use elan_scope::directory::Directory;
 use elan_scope::scope::{Denotes, Entry, Within};
-use elan_scope::type_name::TypeName;
+use elan_scope::type_directory::TypeDirectory;
 use elan_tree::{Access as Given, Body, Formal, Level, LevelUnit, Name, Refinement};
 use elan_types::{Access, ElanType, Parameter};
 use eu_base::{List, NoMemory};
 use std::alloc::Global;
-use type_names::definition::{body_definitions, level_definitions};
+use type_definitions::definition::{body_definitions, level_definitions};
 use type_names::resolve::names_of;
 use type_names::written::type_in;
 
@@ -31,10 +31,10 @@ fn access(given: Given) -> Access
     }
 }
 
-fn parameter(alloc: Global, types: &[TypeName], formal: &Formal) -> Result<Parameter, NoMemory>
+fn parameter(alloc: Global, types: &TypeDirectory, formal: &Formal) -> Result<Parameter, NoMemory>
     ensures { IfOk result (λ made. made ≡ spec.parameter types.now formal.now) }
 {
-    let of = type_in(alloc, &[], types, &formal.of)?;
+    let of = type_in(alloc, &TypeDirectory::new(alloc), types, &formal.of)?;
     Ok(Parameter {
         of,
         access: access(formal.access),
@@ -60,7 +60,7 @@ fn for_each(
 #[tactic(auto, using(crate::proofs::Held::held_append))]
 pub fn parameters(
     alloc: Global,
-    types: &[TypeName],
+    types: &TypeDirectory,
     formals: &[Formal],
 ) -> Result<List<Parameter>, NoMemory>
     ensures { IfOk result (λ list. list ≡ spec.parameters types.now formals.now) }
@@ -117,8 +117,8 @@ fn refinement_names<'a>(mut out: Names<'a>, refinements: &[Refinement]) -> Names
 // The names of a PROC or OP that declares these types.
 fn body_names(
     alloc: Global,
-    here: &[TypeName],
-    around: &[TypeName],
+    here: &TypeDirectory,
+    around: &TypeDirectory,
     formals: &[Formal],
     body: &Body,
 ) -> Result<List<Entry>, NoMemory>
@@ -134,7 +134,7 @@ fn body_names(
 pub fn body_within(
     alloc: Global,
     number: usize,
-    around: &[TypeName],
+    around: &TypeDirectory,
     formals: &[Formal],
     body: &Body,
 ) -> Result<Within, NoMemory>
@@ -142,7 +142,7 @@ pub fn body_within(
 {
     let definitions = body_definitions(alloc, formals, body)?;
     let types = names_of(alloc, around, definitions.as_slice())?;
-    let names = body_names(alloc, types.as_slice(), around, formals, body)?;
+    let names = body_names(alloc, &types, around, formals, body)?;
     Ok(Within {
         number,
         names: Directory::of(alloc, names)?,
@@ -151,11 +151,11 @@ pub fn body_within(
 }
 
 /// The names of types that a level declares.
-pub fn level_types(alloc: Global, level: &Level) -> Result<List<TypeName>, NoMemory>
+pub fn level_types(alloc: Global, level: &Level) -> Result<TypeDirectory, NoMemory>
     ensures { IfOk result (λ names. names ≡ types.level_types level.now) }
 {
     let definitions = level_definitions(alloc, level)?;
-    names_of(alloc, &[], definitions.as_slice())
+    names_of(alloc, &TypeDirectory::new(alloc), definitions.as_slice())
 }
 
 fn unit_names<'a>(out: Names<'a>, unit: &LevelUnit) -> Names<'a>
@@ -182,10 +182,11 @@ fn all_unit_names<'a>(mut out: Names<'a>, units: &[LevelUnit]) -> Names<'a>
 }
 
 /// The names of a level that declares these types: what its units declare, and its refinements.
-pub fn level_names(alloc: Global, types: &[TypeName], level: &Level) -> Result<Directory, NoMemory>
+pub fn level_names(alloc: Global, types: &TypeDirectory, level: &Level) -> Result<Directory, NoMemory>
     ensures { IfOk result (λ names. names ≡ spec.names_in types.now level.now) }
 {
-    let names = all_unit_names(Names::new(alloc, &[], types), level.units.as_slice());
+    let none = TypeDirectory::new(alloc);
+    let names = all_unit_names(Names::new(alloc, &none, types), level.units.as_slice());
     let names = refinement_names(names, level.refinements.as_slice());
     Directory::of(alloc, names.met()?)
 }
@@ -193,8 +194,8 @@ pub fn level_names(alloc: Global, types: &[TypeName], level: &Level) -> Result<D
 // What a body declares beside its parameters, where these types are declared here, and others around.
 fn own_names(
     alloc: Global,
-    here: &[TypeName],
-    around: &[TypeName],
+    here: &TypeDirectory,
+    around: &TypeDirectory,
     body: &Body,
 ) -> Result<List<Entry>, NoMemory>
     ensures { IfOk result (λ names. names ≡ spec.own_names (here.now ++ around.now) body.now) }
@@ -230,7 +231,7 @@ pub fn held_kinds(alloc: Global, names: &[Entry]) -> Result<CellKinds, NoMemory>
 /// The kinds of the cells of the variables and constants that a PROC or OP declares, where these types are declared around.
 pub fn own_kinds(
     alloc: Global,
-    around: &[TypeName],
+    around: &TypeDirectory,
     formals: &[Formal],
     body: &Body,
 ) -> Result<CellKinds, NoMemory>
@@ -239,6 +240,6 @@ pub fn own_kinds(
 {
     let definitions = body_definitions(alloc, formals, body)?;
     let types = names_of(alloc, around, definitions.as_slice())?;
-    let names = own_names(alloc, types.as_slice(), around, body)?;
+    let names = own_names(alloc, &types, around, body)?;
     held_kinds(alloc, names.as_slice())
 }

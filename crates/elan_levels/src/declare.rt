@@ -6,7 +6,7 @@ ghost use Rattle.elan_levels.specs.Declarations as spec;
 
 use elan_scope::denoter::Denoter;
 use elan_scope::scope::{Denotes, Entry};
-use elan_scope::type_name::TypeName;
+use elan_scope::type_directory::TypeDirectory;
 use elan_tree::{Constant, Name, TypePhrase, Unit};
 use elan_types::Parameter;
 use elan_walk::{Held, Node, Visitor, visit_unit, visit_units};
@@ -29,8 +29,8 @@ fn denoter(alloc: Global, constant: &Constant) -> Result<Denoter, NoMemory>
 pub struct Names<'a> {
     pub alloc: Global,
     /// The names of types of the scope, and those around it.
-    pub here: &'a [TypeName],
-    pub around: &'a [TypeName],
+    pub here: &'a TypeDirectory,
+    pub around: &'a TypeDirectory,
     pub entries: List<Entry>,
     /// Whether memory was wanted. What was added is worth nothing then.
     pub wanted: bool,
@@ -41,7 +41,7 @@ impl<'a> Names<'a> {
     ghost use Rattle.elan_walk.specs.Nodes.{item, let_name};
     ghost use Rattle.elan_levels.specs.walks.Seen.{with_entries, visible, Adds};
 
-    pub fn new(alloc: Global, here: &'a [TypeName], around: &'a [TypeName]) -> Names<'a>
+    pub fn new(alloc: Global, here: &'a TypeDirectory, around: &'a TypeDirectory) -> Names<'a>
         ensures entries { result.entries ≡ [] }
         ensures here { result.here.now ≡ here.now }
         ensures around { result.around.now ≡ around.now }

@@ -7,7 +7,7 @@ ghost use Rattle.elan_levels.specs.walks.Headings as walks;
 use crate::bodies::parameters;
 use elan_scope::heading::{Heading, Sort, What};
 use elan_scope::headings::Headings;
-use elan_scope::type_name::TypeName;
+use elan_scope::type_directory::TypeDirectory;
 use elan_tree::{Formal, Level, LevelUnit, Refinement, TypePhrase};
 use elan_types::ElanType;
 use elan_unbuilt::operator_text;
@@ -18,14 +18,14 @@ use type_names::written::type_in;
 /// The type that a PROC or OP delivers, where these types are declared around.
 pub fn result_type(
     alloc: Global,
-    types: &[TypeName],
+    types: &TypeDirectory,
     of: &Option<TypePhrase>,
 ) -> Result<Option<ElanType>, NoMemory>
     ensures { IfOk result (λ delivered. delivered ≡ spec.result types.now of.now) }
 {
     match of {
         None => Ok(None),
-        Some(of) => Ok(Some(type_in(alloc, &[], types, of)?)),
+        Some(of) => Ok(Some(type_in(alloc, &TypeDirectory::new(alloc), types, of)?)),
     }
 }
 
@@ -50,7 +50,7 @@ fn refinement_headings(
 
 fn routine_heading(
     alloc: Global,
-    types: &[TypeName],
+    types: &TypeDirectory,
     sort: Sort,
     at: u32,
     name: &[u8],
@@ -104,7 +104,7 @@ pub fn next_number(number: usize) -> Result<usize, NoMemory>
 // Adds the headings of a unit whose first body has this number. An arm a form of unit, so it is as long as their fields are.
 fn unit_headings(
     alloc: Global,
-    types: &[TypeName],
+    types: &TypeDirectory,
     out: &mut List<Heading>,
     number: usize,
     unit: &LevelUnit,
@@ -159,7 +159,7 @@ fn unit_headings(
 
 fn all_headings(
     alloc: Global,
-    types: &[TypeName],
+    types: &TypeDirectory,
     out: &mut List<Heading>,
     units: &[LevelUnit],
 ) -> Result<(), NoMemory>
@@ -175,7 +175,7 @@ fn all_headings(
 
 /// The headings of a level that declares these types: each PROC or OP, and behind it its refinements; behind them all the
 /// refinements of the level.
-pub fn headings(alloc: Global, types: &[TypeName], level: &Level) -> Result<Headings, NoMemory>
+pub fn headings(alloc: Global, types: &TypeDirectory, level: &Level) -> Result<Headings, NoMemory>
     ensures { IfOk result (λ headings. headings ≡ spec.headings_in types.now level.now) }
 {
     let mut headings = List::new(alloc);

@@ -24,7 +24,7 @@ pub fn enter(
         (spec.body_within scope.old.types number formals.now body.now)) }
     ensures refused { OnErr result (scope.new ≡ scope.old) }
 {
-    let within = body_within(alloc, number, scope.types.as_slice(), formals, body)?;
+    let within = body_within(alloc, number, &scope.types, formals, body)?;
     scope.routine = Some(within);
     Ok(())
 }

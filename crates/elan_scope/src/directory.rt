@@ -31,15 +31,15 @@ impl Model for Directory {
 
     ghost coded = { Prim.hlevel (codes, types.the_row.coded) };
 
-    ghost use Rattle.elan_scope.specs.walks.Firsts.{AreKept, cells_before};
+    ghost use Rattle.elan_scope.specs.walks.Firsts.{AreKept, cells_before, entry_names};
 
     ghost view = { λ directory. directory.entries };
 
-    ghost invariant = { λ directory. (directory.numbers ≡ cells_before 0 directory.entries) × AreKept directory.firsts directory.entries };
+    ghost invariant = { λ directory. (directory.numbers ≡ cells_before 0 directory.entries) × AreKept directory.firsts (entry_names directory.entries) };
 }
 
-// So many names are looked through one after another.
-const FEW: usize = 8;
+/// So many names are looked through one after another.
+pub const FEW: usize = 8;
 
 // How many cells are before each declaration.
 fn cells_before(alloc: Global, entries: &[Entry]) -> Result<List<usize>, NoMemory>
@@ -57,7 +57,7 @@ fn cells_before(alloc: Global, entries: &[Entry]) -> Result<List<usize>, NoMemor
 
 // The place of the first declaration of a name.
 fn first_at(entries: &[Entry], name: &[u8]) -> Option<usize>
-    ensures { result ≡ spec.first_at 0 entries.now name.now }
+    ensures { result ≡ spec.first_at 0 (spec.entry_names entries.now) name.now }
 {
     for (index, entry) in entries.iter().enumerate() {
         if is_one(entry.name.as_slice(), name) {
@@ -67,33 +67,32 @@ fn first_at(entries: &[Entry], name: &[u8]) -> Option<usize>
     None
 }
 
-// Keeps a declaration, unless one of its name is kept.
-fn keep(
+/// Keeps a name with its place, unless it is kept.
+pub fn keep(
     alloc: Global,
     firsts: &mut HashMap<Vec<u8>, usize>,
-    index: usize,
-    entry: &Entry,
+    place: usize,
+    name: &[u8],
 ) -> Result<(), NoMemory>
-    ensures { OnOk result (spec.KeepsOne firsts.old firsts.new index entry.now) }
+    ensures { OnOk result (spec.KeepsOne firsts.old firsts.new place name.now) }
 {
-    let name = entry.name.as_slice();
     if firsts.contains_key(name) {
         return Ok(());
     }
     let name = Vec::from_slice(alloc, name)?;
-    firsts.insert(name, index)?;
+    firsts.insert(name, place)?;
     Ok(())
 }
 
 // Keeps the first declaration of each name.
 fn firsts(alloc: Global, entries: &[Entry]) -> Result<HashMap<Vec<u8>, usize>, NoMemory>
-    ensures { IfOk result (λ firsts. spec.HasFirsts firsts entries.now) }
+    ensures { IfOk result (λ firsts. spec.HasFirsts firsts (spec.entry_names entries.now)) }
 {
     let mut firsts = HashMap::new(alloc);
     let mut index = 0;
     let mut rest = entries;
     while let [entry, others @ ..] = rest {
-        keep(alloc, &mut firsts, index, entry)?;
+        keep(alloc, &mut firsts, index, entry.name.as_slice())?;
         index += 1;
         rest = others;
     }
@@ -138,7 +137,7 @@ impl Directory {
     }
 
     fn place_of(&self, name: &[u8]) -> Option<usize>
-        ensures { result ≡ spec.first_at 0 self.now name.now }
+        ensures { result ≡ spec.first_at 0 (spec.entry_names self.now) name.now }
     {
         match &self.firsts {
             None => first_at(self.entries.as_slice(), name),

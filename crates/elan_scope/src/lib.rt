@@ -11,4 +11,5 @@ pub mod known;
 pub mod predefined;
 pub mod scope;
 pub mod trouble;
+pub mod type_directory;
 pub mod type_name;

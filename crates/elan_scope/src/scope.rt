@@ -7,9 +7,10 @@ ghost use Rattle.elan_scope.specs.walks.Seen as seen;
 use crate::denoter::Denoter;
 use crate::directory::Directory;
 use crate::headings::Headings;
-use crate::type_name::{TypeName, first_type};
+use crate::type_directory::TypeDirectory;
+use crate::type_name::TypeName;
 use elan_types::{ElanType, Exit, Parameter};
-use eu_base::{Bytes, List};
+use eu_base::Bytes;
 
 /// What an identifier without actuals is used as.
 #[derive(Clone, Copy)]
@@ -69,7 +70,7 @@ pub struct Within {
     pub number: usize,
     pub names: Directory,
     /// Its names of types.
-    pub types: List<TypeName>,
+    pub types: TypeDirectory,
 }
 
 /// Where a phrase stands.
@@ -80,7 +81,7 @@ pub struct Scope {
     /// The names that the level declares, in text order.
     pub level: Directory,
     /// The names of types that the level declares, in text order.
-    pub types: List<TypeName>,
+    pub types: TypeDirectory,
     /// The PROC or OP in which the phrase stands.
     pub routine: Option<Within>,
     /// The number of the refinement in which it stands.
@@ -164,8 +165,8 @@ impl Scope {
         ensures { option_map (λ t. t.now) result ≡ spec.find_own_type self.now name.now }
     {
         match &self.routine {
-            None => first_type(self.types.as_slice(), name),
-            Some(within) => first_type(within.types.as_slice(), name),
+            None => self.types.first(name),
+            Some(within) => within.types.first(name),
         }
     }
 

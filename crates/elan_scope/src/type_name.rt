@@ -1,9 +1,8 @@
 //! Names of types.
 
-ghost use Rattle.std.specs.Prelude.{◌≡◌, option_map};
+ghost use Rattle.std.specs.Prelude.{◌≡◌};
 ghost use Rattle.elan_scope.specs.Types as spec;
 
-use crate::heading::is_one;
 use elan_types::ElanType;
 use eu_base::Bytes;
 
@@ -37,18 +36,4 @@ impl TypeName {
             Named::Size(_) | Named::Other => false,
         }
     }
-}
-
-/// The first of these that has a name.
-pub fn first_type<'a>(types: &'a [TypeName], name: &[u8]) -> Option<&'a TypeName>
-    ensures { option_map (λ t. t.now) result ≡ spec.first_type name.now types.now }
-{
-    let mut rest = types;
-    while let [first, others @ ..] = rest {
-        if is_one(first.name.as_slice(), name) {
-            return Some(first);
-        }
-        rest = others;
-    }
-    None
 }

@@ -1,4 +1,3 @@
-pub mod Seen
 pub mod Looked
 pub mod Judged
 pub mod Told
@@ -7,3 +6,4 @@ pub mod Searched
 pub mod Meaning
 pub mod Sound
 pub mod Sized
+pub mod Order

@@ -1,21 +1,16 @@
 -- What names denote is what is read of them again and again, with what was read before.
-use Rattle.std.proofs.Common.{◌≡◌, ℕ, zero, suc, ◌+◌, ◌-◌, ◌≤◌, ℤ, Bool, true, false, if◌then◌else◌, List, [], ◌∷◌, ◌++◌, length, Option, Some, None}
-use Rattle.std.proofs.Common.{refl, sym, ap, ◌∙◌, arith}
+use Rattle.std.proofs.Common.{◌≡◌, ℕ, zero, suc, ◌+◌, Bool, true, false, if◌then◌else◌, List, [], ◌∷◌, ◌++◌, length, Option, Some, None}
+use Rattle.std.proofs.Common.{refl, sym, ap, ◌∙◌}
 use Rattle.std.specs.Prelude.{option_map, Result, Ok, Err, IfOk}
 use Rattle.std.specs.Option.{option_or}
 use Rattle.std.specs.Str.{bytes_eq}
 use Rattle.std.proofs.Math.Path.{fun_ext}
-use Rattle.std.proofs.lemmas.Bool.Decides.{Decides-int_eq}
-use Rattle.elan_types.specs.declared.elan_type.ElanType.{ElanType}
-use Rattle.elan_types.proofs.Shapes.{both}
-use Rattle.elan_types.proofs.Types.{same_type_is}
 use Rattle.elan_scope.specs.declared.type_name.TypeName.{TypeName}
 use Rattle.elan_scope.specs.declared.type_name.Named.{Named}
-use Rattle.elan_scope.specs.declared.type_name.Named.TheVariants as named
 use Rattle.elan_scope.specs.Types.{first_type}
-use Rattle.type_names.specs.declared.definition.Definition.{Definition}
+use Rattle.type_definitions.specs.declared.definition.Definition.{Definition}
 use Rattle.type_names.specs.Types.{look, first_from, as_defined, by_definition, denoted, type_name, names_from, names_of}
-use Rattle.type_names.specs.walks.Further.{read, read_again, same_named, all_same}
+use Rattle.type_names.specs.walks.Further.{read, read_again}
 use Rattle.type_names.proofs.Looked.{look_append}
 
 -- ---- what is found among what was read
@@ -46,7 +41,7 @@ told_of l None q = refl
 told_of l (Some f) q = refl
 
 module _ (around : List TypeName) (ds : List Definition) where
-  read_denotes : (l : Looks) (x : List ℕ) → look (read l 0 ds ++ around) x ≡ by_definition l (first_from 0 ds x) (look around x)
+  pub read_denotes : (l : Looks) (x : List ℕ) → look (read l 0 ds ++ around) x ≡ by_definition l (first_from 0 ds x) (look around x)
   read_denotes l x =
       ap told (look_append x (read l 0 ds) around ∙ ap (λ (o : Option TypeName). option_or o (first_type x around)) (read_found l 0 ds x))
       ∙ told_of l (first_from 0 ds x) (first_type x around)
@@ -60,7 +55,7 @@ module _ (around : List TypeName) (ds : List Definition) where
       fun_ext (λ x. read_denotes (look (read_again around ds n ++ around)) x
       ∙ ap (λ (l : Looks). by_definition l (first_from 0 ds x) (look around x)) (again_denotes n))
 
-  names_read : (n : ℕ) (rest : List Definition) → names_from around ds n rest ≡ read (denoted around ds (length ds)) n rest
+  pub names_read : (n : ℕ) (rest : List Definition) → names_from around ds n rest ≡ read (denoted around ds (length ds)) n rest
   names_read n [] = refl
   names_read n (d ∷ rest) = ap (λ (ts : List TypeName). type_name around ds n d ∷ ts) (names_read (n + 1) rest)
 
@@ -79,50 +74,7 @@ module _ (around : List TypeName) (ds : List Definition) where
   pub seen_denotes : look (names_of around ds ++ around) ≡ denoted around ds (suc (length ds))
   seen_denotes = ap (λ (ts : List TypeName). look (ts ++ around)) names_again ∙ again_denotes (suc (length ds))
 
-  -- Where nothing has changed, nothing changes further.
-  stays : (n k : ℕ) → read_again around ds (suc n) ≡ read_again around ds n → read_again around ds (suc (k + n)) ≡ read_again around ds n
-  stays n zero e = let z : 0 + n ≡ n = omega arith in ap (λ (m : ℕ). read_again around ds (suc m)) z ∙ e
-  stays n (suc k) e =
-      let z : suc k + n ≡ suc (k + n) = omega arith in
-      ap (λ (m : ℕ). read_again around ds (suc m)) z ∙ ap (λ (ts : List TypeName). read (look (ts ++ around)) 0 ds) (stays n k e) ∙ e
-
--- ---- names that are told to be the same
-
-named_is : (a b : Named) → same_named a b ≡ true → a ≡ b
-named_is (named.Of t) (named.Of u) e = ap (λ (v : ElanType). named.Of v) (same_type_is t u e)
-named_is (named.Of t) (named.Size m) e = absurd cc
-named_is (named.Of t) named.Other e = absurd cc
-named_is (named.Size n) (named.Of u) e = absurd cc
-named_is (named.Size n) (named.Size m) e = ap (λ (k : ℤ). named.Size k) ((Decides-int_eq n m).0 e)
-named_is (named.Size n) named.Other e = absurd cc
-named_is named.Other (named.Of u) e = absurd cc
-named_is named.Other (named.Size m) e = absurd cc
-named_is named.Other named.Other e = refl
-
--- They stand for the same definitions.
-read_same : (l m : Looks) (n : ℕ) (ds : List Definition) → all_same (read l n ds) (read m n ds) ≡ true → read l n ds ≡ read m n ds
-read_same l m n [] e = refl
-read_same l m n (d ∷ ds) e =
-    let b = both (same_named (as_defined l n d.what) (as_defined m n d.what)) (all_same (read l (n + 1) ds) (read m (n + 1) ds)) e in
-    ap (λ (o : Named). record { at = d.name_at; name = d.name; of = o } ∷ read l (n + 1) ds) (named_is (as_defined l n d.what) (as_defined m n d.what) b.0)
-    ∙ ap (λ (ts : List TypeName). one m n d ∷ ts) (read_same l m (n + 1) ds b.1)
-
-module _ (around : List TypeName) (ds : List Definition) where
-  again_same : (n : ℕ) → all_same (read_again around ds (suc n)) (read_again around ds n) ≡ true → read_again around ds (suc n) ≡ read_again around ds n
-  again_same zero e = read_same (look (read_again around ds zero ++ around)) (look []) 0 ds e
-  again_same (suc n) e = read_same (look (read_again around ds (suc n) ++ around)) (look (read_again around ds n ++ around)) 0 ds e
-
-  pub settled : (n : ℕ) (names next : List TypeName) → n ≤ length ds → names ≡ read_again around ds n → next ≡ read (look (names ++ around)) 0 ds
-      → all_same next names ≡ true → next ≡ names_of around ds
-  settled n names next le i j e =
-      let k : next ≡ read_again around ds (suc n) = j ∙ ap (λ (ts : List TypeName). read (look (ts ++ around)) 0 ds) i in
-      let q : all_same (read_again around ds (suc n)) (read_again around ds n) ≡ true =
-      sym (ap (λ (ts : List TypeName). all_same ts names) k ∙ ap (all_same (read_again around ds (suc n))) i) ∙ e in
-      let r = again_same n q in
-      let z : (length ds - n) + n ≡ length ds = omega arith in
-      k ∙ r ∙ sym (stays around ds n (length ds - n) r) ∙ ap (λ (m : ℕ). read_again around ds (suc m)) z ∙ sym (names_again around ds)
-
   pub ended : {E : Type 0} (names : List TypeName) (r : Result (List TypeName) E) → names ≡ read_again around ds (length ds)
       → IfOk r (λ next. next ≡ read (look (names ++ around)) 0 ds) → IfOk r (λ next. next ≡ names_of around ds)
-  ended names (Ok next) i j = j ∙ ap (λ (ts : List TypeName). read (look (ts ++ around)) 0 ds) i ∙ sym (names_again around ds)
+  ended names (Ok next) i j = j ∙ ap (λ (ts : List TypeName). read (look (ts ++ around)) 0 ds) i ∙ sym names_again
   ended names (Err x) i j = tt

@@ -19,11 +19,12 @@ use Rattle.elan_tree.specs.declared.written_type.TypePhrase.{TypePhrase}
 use Rattle.elan_scope.specs.declared.type_name.TypeName.{TypeName}
 use Rattle.elan_scope.specs.declared.type_name.Named.{Named}
 use Rattle.elan_scope.specs.declared.type_name.Named.TheVariants as named
-use Rattle.type_names.specs.declared.definition.Defined.{Defined}
-use Rattle.type_names.specs.declared.definition.Defined.TheVariants as defined
-use Rattle.type_names.specs.declared.definition.Definition.{Definition}
+use Rattle.type_definitions.specs.declared.definition.Defined.{Defined}
+use Rattle.type_definitions.specs.declared.definition.Defined.TheVariants as defined
+use Rattle.type_definitions.specs.declared.definition.Definition.{Definition}
 use Rattle.type_names.specs.Types.{meant, type_in, look, first_from, made, as_defined, by_definition, denoted, names_of}
 use Rattle.type_names.specs.Faults.{Here, here, calls, comes_back, named_in, names_in, number_named, numbers_named, named_faults, written_faults}
+use Rattle.type_names.specs.walks.Further.{known_over}
 use Rattle.type_names.proofs.Looked.{look_both}
 use Rattle.type_names.proofs.Meaning.{In, Looks, is_unknown, Found, no_fault, neither, right_false, both_ways, own_closed, meant_kept, is_meant}
 use Rattle.type_names.proofs.Rounds.{names_denote, seen_denotes}
@@ -116,7 +117,7 @@ made_open n t e = by_test (is_open t) refl
     by_test true h = refl
     by_test false h = absurd (both_ways (is_open (made n t)) (made_closed n t h) e)
 
-defined_kept : (l m : Looks) → ((x : List ℕ) → is_unknown (l x) ≡ false → l x ≡ m x) → (n : ℕ) (w : Defined)
+pub defined_kept : (l m : Looks) → ((x : List ℕ) → is_unknown (l x) ≡ false → l x ≡ m x) → (n : ℕ) (w : Defined)
     → is_unknown (Some (as_defined l n w)) ≡ false → as_defined l n w ≡ as_defined m n w
 defined_kept l m less n (defined.Abbreviation of) e = ap (λ (t : ElanType). named.Of t) (meant_kept l m less of e)
 defined_kept l m less n (defined.New of) e = ap (λ (t : ElanType). named.Of (made n t)) (meant_kept l m less of (made_known n (meant l of) e))
@@ -126,10 +127,9 @@ defined_kept l m less n defined.Other e = refl
 module _ (around : List TypeName) (ds : List Definition) where
   -- what is known of names where so many may follow
   abbrev look_at : ℕ → Looks
-  look_at zero x = None
-  look_at (suc f) x = denoted around ds f x
+  look_at f = known_over around ds f
 
-  abbrev one : (f : ℕ) (x : List ℕ) → denoted around ds f x ≡ by_definition (look_at f) (first_from 0 ds x) (look around x)
+  abbrev pub one : (f : ℕ) (x : List ℕ) → denoted around ds f x ≡ by_definition (look_at f) (first_from 0 ds x) (look around x)
   one zero x = refl
   one (suc f) x = refl
 
@@ -139,12 +139,12 @@ module _ (around : List TypeName) (ds : List Definition) where
   abbrev Less : Looks → Looks → Type 0
   Less l m = (x : List ℕ) → is_unknown (l x) ≡ false → l x ≡ m x
 
-  found_kept : (l m : Looks) → Less l m → (o : Option (ℕ × Definition)) (q : Option Named) → is_unknown (by_definition l o q) ≡ false
+  pub found_kept : (l m : Looks) → Less l m → (o : Option (ℕ × Definition)) (q : Option Named) → is_unknown (by_definition l o q) ≡ false
       → by_definition l o q ≡ by_definition m o q
   found_kept l m less None q e = refl
   found_kept l m less (Some f) q e = ap (λ (n : Named). Some n) (defined_kept l m less f.0 f.1.what e)
 
-  one_more : (f : ℕ) → Less (look_at f) (look_at (suc f))
+  pub one_more : (f : ℕ) → Less (look_at f) (look_at (suc f))
   one_more zero x e = absurd cc
   one_more (suc f) x e =
       one f x

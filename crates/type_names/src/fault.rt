@@ -1,20 +1,20 @@
 //! The first type of a text that breaks a rule.
 
 ghost use Rattle.std.specs.Prelude.{◌≡◌, List, [], ◌++◌, flat_map};
-ghost use Rattle.type_names.specs.declared.definition.Definition as definitions;
+ghost use Rattle.type_definitions.specs.declared.definition.Definition as definitions;
 ghost use Rattle.elan_walk.specs.Nodes as nodes;
 ghost use Rattle.type_names.specs.Faults as spec;
 ghost use Rattle.type_names.specs.Types as types;
 ghost use Rattle.type_names.specs.walks.Seen.{plainly, AreOf, Finds};
 
-use crate::definition::{body_definitions, level_definitions};
 use crate::scope_types::ScopeTypes;
 use crate::search::{Fault, Search};
-use elan_scope::type_name::TypeName;
+use elan_scope::type_directory::TypeDirectory;
 use elan_tree::{Body, Formal, Level, LevelUnit, Refinement, TypePhrase, Unit};
 use elan_walk::{Node, Visitor, formals, refinements, result_type, visit_unit, visit_units};
 use eu_base::NoMemory;
 use std::alloc::Global;
+use type_definitions::definition::{body_definitions, level_definitions};
 
 // The heading of a PROC or OP.
 #[tactic(auto, using(crate::proofs::Searched::found))]
@@ -27,7 +27,8 @@ fn heading_fault(
 ) -> Result<Option<Fault>, NoMemory>
     ensures { Finds (spec.nodes_faults (plainly here.now [] refined.now) (nodes.result of.now ++ nodes.formals given.now)) result }
 {
-    let search = result_type(Search::new(alloc, here, &[], refined), of);
+    let none = TypeDirectory::new(alloc);
+    let search = result_type(Search::new(alloc, here, &none, refined), of);
     formals(search, given).met()
 }
 
@@ -36,7 +37,7 @@ fn heading_fault(
 fn units_fault(
     alloc: Global,
     here: &ScopeTypes,
-    around: &[TypeName],
+    around: &TypeDirectory,
     body: &Body,
 ) -> Result<Option<Fault>, NoMemory>
     ensures { Finds (spec.nodes_faults (plainly here.now around.now []) (nodes.in_units body.now.units ++ nodes.refinements body.now.refinements)) result }
@@ -59,7 +60,7 @@ fn routine_fault(
     match heading_fault(alloc, level, refined, of, given)? {
         Some(fault) => Ok(Some(fault)),
         None => {
-            let around = level.names.as_slice();
+            let around = &level.names;
             let here = ScopeTypes::of(alloc, around, body_definitions(alloc, given, body)?)?;
             units_fault(alloc, &here, around, body)
         }
@@ -75,7 +76,8 @@ fn plain_fault(
 ) -> Result<Option<Fault>, NoMemory>
     ensures { Finds (spec.nodes_faults (plainly level.now [] refined.now) (nodes.in_unit unit.now)) result }
 {
-    visit_unit(Search::new(alloc, level, &[], refined), unit).met()
+    let none = TypeDirectory::new(alloc);
+    visit_unit(Search::new(alloc, level, &none, refined), unit).met()
 }
 
 fn unit_fault(
@@ -89,7 +91,8 @@ fn unit_fault(
     match unit {
         LevelUnit::Plain(unit) => plain_fault(alloc, level, refined, unit),
         LevelUnit::NewType { at, name, of } => {
-            let search = Search::new(alloc, level, &[], refined);
+            let none = TypeDirectory::new(alloc);
+            let search = Search::new(alloc, level, &none, refined);
             search.visit(Node::NewType(*at, name, of)).met()
         }
         LevelUnit::Proc {
@@ -132,7 +135,8 @@ fn refinements_fault(
 ) -> Result<Option<Fault>, NoMemory>
     ensures { Finds (spec.nodes_faults (plainly level.now [] list.now) (nodes.refinements list.now)) result }
 {
-    refinements(Search::new(alloc, level, &[], list), list).met()
+    let none = TypeDirectory::new(alloc);
+    refinements(Search::new(alloc, level, &none, list), list).met()
 }
 
 /// The first type of a level, in text order, that breaks a rule, if one does.
@@ -140,7 +144,8 @@ fn refinements_fault(
 pub fn level_fault(alloc: Global, level: &Level) -> Result<Option<Fault>, NoMemory>
     ensures { Finds (spec.level_faults level.now) result }
 {
-    let types = ScopeTypes::of(alloc, &[], level_definitions(alloc, level)?)?;
+    let none = TypeDirectory::new(alloc);
+    let types = ScopeTypes::of(alloc, &none, level_definitions(alloc, level)?)?;
     let refined = level.refinements.as_slice();
     match first_in_units(alloc, &types, refined, level.units.as_slice())? {
         Some(fault) => Ok(Some(fault)),

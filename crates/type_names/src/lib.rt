@@ -1,8 +1,7 @@
 //! The names of types that LET and TYPE declare, and what is wrong with types.
 #![tactic(auto)]
 
-pub mod copy;
-pub mod definition;
+mod calls;
 pub mod fault;
 pub mod fields;
 pub mod judgement;

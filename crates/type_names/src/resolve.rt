@@ -1,35 +1,20 @@
 //! What names denote.
 
-ghost use Rattle.std.specs.Prelude.{◌≡◌, true, ◌++◌, option_map, IfOk};
+ghost use Rattle.std.specs.Prelude.{◌≡◌, ℕ, ◌+◌, ◌++◌, length, IfOk, OnOk};
+ghost use Rattle.elan_scope.specs.Types.{is_open_named};
+ghost use Rattle.type_names.specs.Faults as faults;
 ghost use Rattle.type_names.specs.Types as spec;
 ghost use Rattle.type_names.specs.walks.Further as walk;
 
-use crate::definition::{Defined, Definition};
+use crate::calls::calls;
 use crate::written::type_in;
-use elan_scope::heading::is_one;
+use call_graph::CallGraph;
+use elan_scope::type_directory::TypeDirectory;
 use elan_scope::type_name::{Named, TypeName};
 use elan_types::ElanType;
 use eu_base::{Bytes, List, NoMemory, Shared};
 use std::alloc::Global;
-
-/// The first definition of a name, with its number.
-pub fn first_defined<'a>(
-    definitions: &'a [Definition],
-    name: &[u8],
-) -> Option<(usize, &'a Definition)>
-    ensures { option_map (λ f. (f.0, f.1.now)) result ≡ spec.first_from 0 definitions.now name.now }
-{
-    let mut number = 0;
-    let mut rest = definitions;
-    while let [first, others @ ..] = rest {
-        if is_one(first.name.as_slice(), name) {
-            return Some((number, first));
-        }
-        number += 1;
-        rest = others;
-    }
-    None
-}
+use type_definitions::definition::{Defined, Definition};
 
 // A type of the text's own; it is open where its concrete type is.
 fn made(alloc: Global, number: usize, concrete: ElanType) -> Result<ElanType, NoMemory>
@@ -45,8 +30,8 @@ fn made(alloc: Global, number: usize, concrete: ElanType) -> Result<ElanType, No
 // What a definition says, read with these names.
 fn as_defined(
     alloc: Global,
-    own: &[TypeName],
-    around: &[TypeName],
+    own: &TypeDirectory,
+    around: &TypeDirectory,
     number: usize,
     what: &Defined,
 ) -> Result<Named, NoMemory>
@@ -63,13 +48,135 @@ fn as_defined(
     }
 }
 
+// What a definition says before anything is read: its type is open.
+fn unread(what: &Defined) -> Named
+    ensures { result ≡ walk.unread what.now }
+{
+    match what {
+        Defined::Abbreviation(_) | Defined::New(_) => Named::Of(ElanType::Open),
+        Defined::Number(size) => Named::Size(*size),
+        Defined::Other => Named::Other,
+    }
+}
+
+// The names that definitions declare, before anything is read.
+fn all_unread(alloc: Global, definitions: &[Definition]) -> Result<TypeDirectory, NoMemory>
+    ensures { IfOk result (λ names. names ≡ walk.all_unread definitions.now) }
+{
+    let mut names = List::new(alloc);
+    for definition in definitions {
+        names.push(TypeName {
+            at: definition.name_at,
+            name: Bytes::from(alloc, definition.name.as_slice())?,
+            of: unread(&definition.what),
+        })?;
+    }
+    TypeDirectory::of(alloc, names)
+}
+
+// Reads a definition with what was read before.
+fn read_one(
+    alloc: Global,
+    names: &mut TypeDirectory,
+    around: &TypeDirectory,
+    definitions: &[Definition],
+    number: usize,
+) -> Result<(), NoMemory>
+    ensures { OnOk result (names.new ≡ walk.with_read around.now definitions.now number names.old) }
+{
+    match definitions.get(number) {
+        None => Ok(()),
+        Some(definition) => {
+            let of = as_defined(alloc, names, around, number, &definition.what)?;
+            names.denote(alloc, number, of)
+        }
+    }
+}
+
+// Reads the next definition of an order, if there is one.
+fn read_next(
+    alloc: Global,
+    names: &mut TypeDirectory,
+    around: &TypeDirectory,
+    definitions: &[Definition],
+    next: Option<&usize>,
+) -> Result<(), NoMemory>
+    ensures { OnOk result ((n : ℕ) → walk.Reads around.now definitions.now n names.old → walk.Reads around.now definitions.now (n + 1) names.new) }
+{
+    match next {
+        None => Ok(()),
+        Some(number) => read_one(alloc, names, around, definitions, *number),
+    }
+}
+
+// Reads each definition once, in an order in which each stands behind those that it names, as far as it does not lead back to
+// itself. Nothing is promised of the order.
+fn read_in_order(
+    alloc: Global,
+    unread: TypeDirectory,
+    around: &TypeDirectory,
+    definitions: &[Definition],
+    order: &[usize],
+) -> Result<TypeDirectory, NoMemory>
+    ensures { unread ≡ walk.all_unread definitions.now
+        → IfOk result (λ names. walk.Reads around.now definitions.now (length definitions.now) names) }
+{
+    let mut names = unread;
+    for turn in 0..definitions.len() {
+        read_next(alloc, &mut names, around, definitions, order.get(turn))?;
+    }
+    Ok(names)
+}
+
+// Whether the type of a definition has no meaning, read with these names.
+fn reads_open(
+    alloc: Global,
+    own: &TypeDirectory,
+    around: &TypeDirectory,
+    number: usize,
+    what: &Defined,
+) -> Result<bool, NoMemory>
+    ensures { IfOk result (λ told. told ≡ is_open_named (spec.as_defined (spec.look (own.now ++ around.now)) number what.now)) }
+{
+    match as_defined(alloc, own, around, number, what)? {
+        Named::Of(of) => {
+            let is_open = of.is_open();
+            of.let_go();
+            Ok(is_open)
+        }
+        Named::Size(_) | Named::Other => Ok(false),
+    }
+}
+
+// Whether each type that is open is still open where it is read again: then nothing further is known.
+fn are_settled(
+    alloc: Global,
+    names: &TypeDirectory,
+    around: &TypeDirectory,
+    definitions: &[Definition],
+) -> Result<bool, NoMemory>
+    ensures { IfOk result (λ settled. settled ≡ walk.settled_from (spec.look (names.now ++ around.now)) 0 names.now definitions.now) }
+{
+    let mut rest = names.as_slice();
+    for (number, definition) in definitions.iter().enumerate() {
+        let [named, behind @ ..] = rest else {
+            return Ok(false);
+        };
+        if named.is_open() && !reads_open(alloc, names, around, number, &definition.what)? {
+            return Ok(false);
+        }
+        rest = behind;
+    }
+    Ok(rest.is_empty())
+}
+
 // The names that definitions declare, read with these names.
 fn read(
     alloc: Global,
-    own: &[TypeName],
-    around: &[TypeName],
+    own: &TypeDirectory,
+    around: &TypeDirectory,
     definitions: &[Definition],
-) -> Result<List<TypeName>, NoMemory>
+) -> Result<TypeDirectory, NoMemory>
     ensures { IfOk result (λ names. names ≡ walk.read (spec.look (own.now ++ around.now)) 0 definitions.now) }
 {
     let mut names = List::new(alloc);
@@ -81,53 +188,74 @@ fn read(
             of,
         })?;
     }
-    Ok(names)
+    TypeDirectory::of(alloc, names)
 }
 
-fn is_same(named: &Named, other: &Named) -> bool
-    ensures { result ≡ walk.same_named named.now other.now }
-{
-    match (named, other) {
-        (Named::Of(of), Named::Of(other)) => of.is_same(other),
-        (Named::Size(size), Named::Size(other)) => *size == *other,
-        (Named::Other, Named::Other) => true,
-        _ => false,
-    }
-}
-
-// Whether these names denote the same.
-fn are_same(names: &[TypeName], others: &[TypeName]) -> bool
-    ensures { result ≡ walk.all_same names.now others.now }
-{
-    let mut rest = others;
-    for named in names {
-        let [other, behind @ ..] = rest else {
-            return false;
-        };
-        if !is_same(&named.of, &other.of) {
-            return false;
-        }
-        rest = behind;
-    }
-    rest.is_empty()
-}
-
-/// The names that definitions declare, where others are declared around. They are read with what was read before, until nothing
-/// changes.
-pub fn names_of(
+// The names that definitions declare, read again and again with what was read before. This is the definition, which answers what
+// an order leaves open.
+fn read_in_rounds(
     alloc: Global,
-    around: &[TypeName],
+    around: &TypeDirectory,
     definitions: &[Definition],
-) -> Result<List<TypeName>, NoMemory>
+) -> Result<TypeDirectory, NoMemory>
     ensures { IfOk result (λ names. names ≡ spec.names_of around.now definitions.now) }
 {
-    let mut names = read(alloc, &[], &[], definitions)?;
+    let none = TypeDirectory::new(alloc);
+    let mut names = read(alloc, &none, &none, definitions)?;
     for _definition in definitions {
-        let next = read(alloc, names.as_slice(), around, definitions)?;
-        if are_same(next.as_slice(), names.as_slice()) {
-            return Ok(next);
-        }
-        names = next;
+        names = read(alloc, &names, around, definitions)?;
     }
-    read(alloc, names.as_slice(), around, definitions)
+    read(alloc, &names, around, definitions)
+}
+
+// What was read in order, where nothing further is known.
+fn settled(
+    alloc: Global,
+    names: TypeDirectory,
+    around: &TypeDirectory,
+    definitions: &[Definition],
+) -> Result<TypeDirectory, NoMemory>
+    ensures { walk.Reads around.now definitions.now (length definitions.now) names
+        → IfOk result (λ names. names ≡ spec.names_of around.now definitions.now) }
+{
+    if are_settled(alloc, &names, around, definitions)? {
+        return Ok(names);
+    }
+    read_in_rounds(alloc, around, definitions)
+}
+
+/// What the names of a scope denote, and which of its definitions each names.
+#[derive(Drop)]
+pub struct Resolution {
+    pub names: TypeDirectory,
+    pub calls: CallGraph,
+}
+
+/// What the names that definitions declare denote, where others are declared around, and which definitions each names. Each
+/// definition is read behind those that it names.
+pub fn resolve(
+    alloc: Global,
+    around: &TypeDirectory,
+    definitions: &[Definition],
+) -> Result<Resolution, NoMemory>
+    ensures names { IfOk result (λ made. made.names ≡ spec.names_of around.now definitions.now) }
+    ensures calls { IfOk result (λ made. made.calls ≡ faults.calls definitions.now) }
+{
+    let unread = all_unread(alloc, definitions)?;
+    let calls = CallGraph::of(alloc, calls(alloc, &unread, definitions)?)?;
+    let names = read_in_order(alloc, unread, around, definitions, calls.callees_first())?;
+    let names = settled(alloc, names, around, definitions)?;
+    Ok(Resolution { names, calls })
+}
+
+/// The names that definitions declare, where others are declared around.
+pub fn names_of(
+    alloc: Global,
+    around: &TypeDirectory,
+    definitions: &[Definition],
+) -> Result<TypeDirectory, NoMemory>
+    ensures { IfOk result (λ names. names ≡ spec.names_of around.now definitions.now) }
+{
+    let Resolution { names, .. } = resolve(alloc, around, definitions)?;
+    Ok(names)
 }

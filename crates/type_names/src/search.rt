@@ -5,26 +5,25 @@ ghost use Rattle.type_names.specs.Faults as spec;
 ghost use Rattle.type_names.specs.Types.{first_from};
 ghost use Rattle.type_names.specs.walks.Seen.{here_of, with_fault, Notes};
 
-use crate::definition::Definition;
 use crate::fields::earlier;
 use crate::judgement::judge;
-use crate::resolve::first_defined;
 use crate::scope_types::ScopeTypes;
 pub use crate::visible::Fault;
 use crate::visible::Visible;
-use elan_scope::type_name::TypeName;
+use elan_scope::type_directory::TypeDirectory;
 use elan_tree::{Name, Refinement, TypePhrase};
 use elan_types::Why;
 use elan_walk::{Node, Visitor};
 use eu_base::NoMemory;
 use std::alloc::Global;
+use type_definitions::definition::Definition;
 
 /// Whoever looks for the first type that breaks a rule.
 #[derive(Drop)]
 pub struct Search<'a> {
     alloc: Global,
     here: &'a ScopeTypes,
-    around: &'a [TypeName],
+    around: &'a TypeDirectory,
     refinements: &'a [Refinement],
     first: Option<Fault>,
     // Whether memory was wanted. What was found is worth nothing then.
@@ -38,7 +37,7 @@ impl<'a> Search<'a> {
     pub fn new(
         alloc: Global,
         here: &'a ScopeTypes,
-        around: &'a [TypeName],
+        around: &'a TypeDirectory,
         refinements: &'a [Refinement],
     ) -> Search<'a>
         ensures here { result.here.now ≡ here.now }
@@ -60,7 +59,7 @@ impl<'a> Search<'a> {
         ensures { IfOk result (λ fault. fault ≡ spec.first_fault (spec.written_faults (here_of self.now) of.now)) }
     {
         let visible = Visible {
-            own: self.here.names.as_slice(),
+            own: &self.here.names,
             around: self.around,
             refinements: self.refinements,
         };
@@ -89,7 +88,7 @@ impl<'a> Search<'a> {
         ensures { IfOk result (λ fault. fault ≡ spec.first_fault (spec.named_faults (here_of self.now) at of.now
             (first_from 0 (here_of self.now).definitions name.now.text))) }
     {
-        match first_defined(self.here.definitions.as_slice(), name.text.as_slice()) {
+        match self.here.first_defined(name.text.as_slice()) {
             None => Ok(None),
             Some((number, first)) => {
                 if self.contains_itself(at, number, first, of)? {

@@ -9,7 +9,8 @@ ghost use Rattle.type_names.specs.walks.Seen.{names_seen};
 
 use elan_scope::callable::is_predefined;
 use elan_scope::heading::{Sort, is_one};
-use elan_scope::type_name::{Named, TypeName, first_type};
+use elan_scope::type_directory::TypeDirectory;
+use elan_scope::type_name::Named;
 use elan_tree::{Refinement, Size};
 use elan_types::Why;
 
@@ -19,8 +20,8 @@ pub type Fault = (u32, Why);
 /// The names that can be seen: those of a scope, then those around it, and the refinements of the level for what stands in the level.
 #[derive(Clone, Copy)]
 pub struct Visible<'a> {
-    pub own: &'a [TypeName],
-    pub around: &'a [TypeName],
+    pub own: &'a TypeDirectory,
+    pub around: &'a TypeDirectory,
     pub refinements: &'a [Refinement],
 }
 
@@ -60,9 +61,9 @@ impl<'a> Visible<'a> {
     pub fn look(self, name: &[u8]) -> Option<&'a Named>
         ensures { option_map (λ n. n.now) result ≡ types.look (names_seen self.entry) name.now }
     {
-        match first_type(self.own, name) {
+        match self.own.first(name) {
             Some(found) => Some(&found.of),
-            None => match first_type(self.around, name) {
+            None => match self.around.first(name) {
                 Some(found) => Some(&found.of),
                 None => None,
             },

@@ -5,7 +5,7 @@ ghost use Rattle.type_names.specs.Types as spec;
 
 use crate::judgement::judge;
 use crate::visible::Visible;
-use elan_scope::type_name::TypeName;
+use elan_scope::type_directory::TypeDirectory;
 use elan_tree::TypePhrase;
 use elan_types::ElanType;
 use eu_base::NoMemory;
@@ -14,8 +14,8 @@ use std::alloc::Global;
 /// The type that is written, where these names are declared here and around; open where it has no meaning.
 pub fn type_in(
     alloc: Global,
-    here: &[TypeName],
-    around: &[TypeName],
+    here: &TypeDirectory,
+    around: &TypeDirectory,
     of: &TypePhrase,
 ) -> Result<ElanType, NoMemory>
     ensures { IfOk result (λ meant. meant ≡ spec.type_in (here.now ++ around.now) of.now) }

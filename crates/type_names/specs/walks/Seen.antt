@@ -6,25 +6,13 @@ use Rattle.elan_scope.specs.declared.type_name.TypeName.{TypeName}
 use Rattle.elan_walk.specs.Nodes.{Node}
 use Rattle.type_names.specs.Types.{names_of}
 use Rattle.type_names.specs.Faults.{Here, calls, first_fault, node_faults}
-use Rattle.type_names.specs.declared.definition.Definition.{Definition}
-use Rattle.type_names.specs.declared.definition.Definitions.{Definitions}
+use Rattle.type_definitions.specs.declared.definition.Definition.{Definition}
 use Rattle.type_names.specs.declared.scope_types.ScopeTypes.{ScopeTypes}
 use Rattle.type_names.specs.declared.search.Search.{Search}
 use Rattle.type_names.specs.declared.visible.Visible.{Visible}
 
 abbrev pub names_seen : Visible → List TypeName
 names_seen v = v.own.now ++ v.around.now
-
-abbrev pub with_definitions : Definitions → List Definition → Definitions
-with_definitions s ds = record { alloc = s.alloc; list = s.list ++ ds; wanted = s.wanted }
-
--- These definitions were added. Want of memory is noted, and nothing is known then.
-abbrev pub Adds : List Definition → Definitions → Definitions → Type 0
-Adds ds old new = new.wanted ≡ false → (old.wanted ≡ false) × (new.list ≡ old.list ++ ds)
-
--- They were added, and nothing else has changed.
-abbrev pub AddsAlone : List Definition → Definitions → Definitions → Type 0
-AddsAlone ds old new = new.wanted ≡ false → (old.wanted ≡ false) × (new ≡ with_definitions old ds)
 
 -- what is known of types in a scope where these are declared around, and these are the refinements of the level
 abbrev pub plainly : ScopeTypes → List TypeName → List Refinement → Here

@@ -1,5 +1,4 @@
 use Rattle.std.proofs.Common.{List, map, ap, ◌∙◌}
-use Rattle.elan_scope.specs.declared.type_name.TypeName.{TypeName}
 use Rattle.elan_tree.specs.declared.phrase.Unit.{Unit as Statement}
 use Rattle.elan_tree.specs.declared.tree.Refinement.{Refinement}
 use Rattle.elan_scope.specs.declared.delivery.Delivery.{Delivery}
@@ -24,13 +23,13 @@ returns-clause-found g c =
     routine_found g.B.EachBody.after s z n c.in_ok-first.first c.args.delivered.now c.args.formals.now c.args.body.now c.args.looks.now c.body.new.self
     c.see_refinements.new.looks c.in_ok-enter.ensures.entered c.in_ok-first.ensures
     (c.in_ok-body.ensures
-    ∙ ap (λ (d : Delivery). g.B.EachBody.after c.args.looks.now n (shape.units d (map (shape.unit z) c.as_slice-2.result.now)))
-    (c.of-wanted.ensures ∙ ap delivered (c.as_ref.ensures.value ∙ c.in_ok-of.ensures ∙ ap (λ (ts : List TypeName). result ts c.args.delivered.now) c.as_slice.ensures))
+    ∙ ap (λ (d : Delivery). g.B.EachBody.after c.args.looks.now n (shape.units d (map (shape.unit z) c.as_slice.result.now)))
+    (c.of-wanted.ensures ∙ ap delivered (c.as_ref.ensures.value ∙ c.in_ok-of.ensures))
     ∙ ap (λ (us : List Statement). g.B.EachBody.after c.args.looks.now n (shape.units wanted (map (shape.unit z) us)))
-    c.as_slice-2.ensures)
+    c.as_slice.ensures)
     (c.in_ok-see_refinements.ensures.found
     ∙ ap (λ (rs : List Refinement). all_seen g.B.EachBody.after c.body.new.self c.in_ok-first.first (all_refined_units z c.in_ok-first.first rs))
-    c.as_slice-3.ensures)
+    c.as_slice-2.ensures)
 
 pub returns-clause-kept : goal.returns-clause-kept
 returns-clause-kept g c =

@@ -1,5 +1,3 @@
-use Rattle.std.proofs.Common.{List, ap, ◌∙◌}
-use Rattle.elan_scope.specs.declared.type_name.TypeName.{TypeName}
 use Rattle.elan_levels.specs.Bodies.{body_within}
 use Rattle.elan_levels.proofs.Scopes.{entered}
 use Rattle.elan_levels.proofs.within.enter.Goals as goal
@@ -8,4 +6,4 @@ pub returns-clause-entered : goal.returns-clause-entered
 returns-clause-entered c =
     let s = c.args.scope.now in
     entered s c.in_ok-within.within (body_within s.types c.args.number c.args.formals.now c.args.body.now) c.requires
-    (c.in_ok-within.ensures ∙ ap (λ (ts : List TypeName). body_within ts c.args.number c.args.formals.now c.args.body.now) c.as_slice.ensures)
+    c.in_ok-within.ensures

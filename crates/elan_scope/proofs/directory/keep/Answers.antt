@@ -12,6 +12,6 @@ returns c = λ x.
     let key = c.in_ok-name.name.items in
     let none : is_some (kept old key) ≡ false =
     subst (λ (n : List ℕ). is_some (kept old n) ≡ false) (sym c.in_ok-name.ensures.items) (sym c.contains_key.ensures ∙ c.if-contains_key.false) in
-    subst (λ (n : List ℕ). kept new x ≡ earlier (kept old x) (if bytes_eq n x then Some c.args.index else None))
-    (c.in_ok-name.ensures.items ∙ c.as_slice-name.ensures)
-    (is_kept old new key c.args.index none c.in_ok-insert.ensures.updates x)
+    subst (λ (n : List ℕ). kept new x ≡ earlier (kept old x) (if bytes_eq n x then Some c.args.place else None))
+    c.in_ok-name.ensures.items
+    (is_kept old new key c.args.place none c.in_ok-insert.ensures.updates x)

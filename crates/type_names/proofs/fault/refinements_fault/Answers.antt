@@ -1,4 +1,4 @@
-use Rattle.std.proofs.Common.{[]}
+use Rattle.std.proofs.Common.{[], ◌∙◌}
 use Rattle.elan_walk.specs.Nodes as nodes
 use Rattle.type_names.proofs.Searched.{met_found}
 use Rattle.type_names.proofs.fault.refinements_fault.Goals as goal
@@ -6,4 +6,4 @@ use Rattle.type_names.proofs.fault.refinements_fault.Goals as goal
 pub returns : goal.returns
 returns c =
     met_found c.args.level.now [] c.args.list.now c.new.result c.refinements.result (nodes.refinements c.args.list.now) c.met.result
-    c.new.ensures.here c.new.ensures.around c.new.ensures.refinements c.new.ensures.first c.refinements.ensures c.met.ensures
+    c.new.ensures.here (c.new.ensures.around ∙ c.new-none.ensures) c.new.ensures.refinements c.new.ensures.first c.refinements.ensures c.met.ensures

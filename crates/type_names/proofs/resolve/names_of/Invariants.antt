@@ -1,6 +1,0 @@
-use Rattle.std.proofs.Common.{◌≡◌}
-use Rattle.type_names.specs.walks.Further.{read_again}
-use Rattle.type_names.proofs.resolve.names_of.Given as goal
-
-abbrev pub invariant-loop-definition : goal.invariant-loop-definition
-invariant-loop-definition l = l.names ≡ read_again l.around l.definitions l._definition-index
