@@ -52,9 +52,10 @@ fn of_tree(alloc: Global, out: &mut Bytes, tree: &Tree, row: &str, asked: Asked)
     }
 }
 
-fn of_code(alloc: Global, out: &mut Bytes, code: &Code, row: &str, asked: Asked) {
+/// Adds what is asked of code.
+pub fn of_code(alloc: Global, out: &mut Bytes, code: &Code, row: &str, asked: Asked) {
     if let Asked::Typed(marks) = asked {
-        typed::run(alloc, out, code, row, marks);
+        typed::run(alloc, out, code, row, marks, 1);
     } else if let Ok(listed) = listing(alloc, code) {
         if matches!(asked, Asked::Listing) {
             put(out, listed.as_slice());

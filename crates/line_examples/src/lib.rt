@@ -13,6 +13,8 @@ mod meanings;
 #[cfg(test)]
 mod outside;
 #[cfg(test)]
+mod packets;
+#[cfg(test)]
 mod row_sizes;
 #[cfg(test)]
 mod row_values;

@@ -1,6 +1,6 @@
 //! Rows of tables, and what they ask.
 
-use crate::{code, outside};
+use crate::{code, outside, packets};
 use eu_base::Bytes;
 use std::alloc::Global;
 
@@ -17,6 +17,8 @@ pub enum Asked {
     End,
     /// What it shows with the lines that are typed, where it has so many marks at a time.
     Typed(u32),
+    /// What a program over the variables of a packet has and shows, which has no text.
+    Packets,
 }
 
 /// Adds to an answer. Where memory is refused, the answer is not the one that a row tells, so nothing else has to say it.
@@ -53,6 +55,7 @@ fn answer(alloc: Global, out: &mut Bytes, program: &str, row: &str, asked: Asked
     match asked {
         Asked::Line(how) => outside::run(alloc, out, how, copied(alloc, program)),
         Asked::Outside => outside::run_row(alloc, out, program),
+        Asked::Packets => packets::answer(alloc, out),
         Asked::End => code::answer(alloc, out, spelled(alloc, program).as_slice(), row, asked),
         Asked::Listing | Asked::Typed(_) => {
             code::answer(alloc, out, program.as_bytes(), row, asked);

@@ -2,8 +2,8 @@
 
 use crate::rows::{Asked, add, is_right, put};
 use crate::{
-    code, lets, lines, meanings, outside, row_sizes, row_values, structures, table, texts, typed,
-    types,
+    code, lets, lines, meanings, outside, packets, row_sizes, row_values, structures, table, texts,
+    typed, types,
 };
 use eu_base::Bytes;
 use eumel_top::{Status, one_output};
@@ -81,6 +81,8 @@ fn wrong_table(alloc: Global) -> &'static str {
         "typed"
     } else if !is_right(alloc, typed::TYPED, Asked::Typed(1)) {
         "typed, a mark at a time"
+    } else if !is_right(alloc, packets::PACKETS, Asked::Packets) {
+        "packets"
     } else if !codes_are_right() {
         "codes"
     } else {

@@ -21,6 +21,12 @@ pub record IsFilled (old new : Pages) (shape : Shape) (was now : SpaceData) : Ty
   pub kind : now.kind ≡ was.kind
   pub shaped : now.shape ≡ Some shape
 
+-- a space did not get a shape: it keeps its type, its shape and every byte outside the cells that the shape has
+pub record IsNotFilled (old new : Pages) (shape : Shape) (was now : SpaceData) : Type 0 where
+  pub kept : IsKeptBut (content_at old was.root) (content_at new now.root) 0 (cell_count shape)
+  pub kind : now.kind ≡ was.kind
+  pub same : now.shape ≡ was.shape
+
 -- a space keeps its type and its shape
 pub record IsOfKind (was now : SpaceData) : Type 0 where
   pub kind : now.kind ≡ was.kind

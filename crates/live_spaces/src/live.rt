@@ -7,7 +7,7 @@ ghost use Rattle.page_pool.specs.Pool.{used_of};
 ghost use Rattle.page_table.specs.Changes.{ChangesOnly, FreesOnly};
 ghost use Rattle.page_table.specs.Frames.{content_at, Frames, Stands};
 ghost use Rattle.cell_layout.specs.Layout.{IsBlankFrom, IsKeptBut};
-ghost use Rattle.live_spaces.specs.Kept.{KeepsBytes, IsFilled, IsOfKind};
+ghost use Rattle.live_spaces.specs.Kept.{KeepsBytes, IsFilled, IsNotFilled, IsOfKind};
 ghost use Rattle.live_spaces.specs.Live.{space_at, IsLive, IsNumbered, the_space, without, with_space, with_new, space_roots};
 
 use cell_layout::blank;
@@ -190,7 +190,7 @@ impl Spaces {
     }
 
     /// Gives the space under a number a shape, and lets its cells from 0 on hold what variables of it hold before anything
-    /// was stored. After a refusal some of the cells may hold it.
+    /// was stored. After a refusal some of the cells may hold it, and no byte outside them has changed.
     pub fn fill(
         &mut self,
         alloc: Global,
@@ -204,7 +204,7 @@ impl Spaces {
         requires agree { Stands pool.old (space_roots self.old.spaces) 0 }
         ensures others { self.new ≡ record self.old { spaces = with_space s.0 (the_space s.0 self.new.spaces) self.old.spaces } }
         ensures filled { OnOk result (IsFilled pool.old pool.new shape.now (the_space s.0 self.old.spaces) (the_space s.0 self.new.spaces)) }
-        ensures err { OnErr result (IsOfKind (the_space s.0 self.old.spaces) (the_space s.0 self.new.spaces)) }
+        ensures err { OnErr result (IsNotFilled pool.old pool.new shape.now (the_space s.0 self.old.spaces) (the_space s.0 self.new.spaces)) }
         ensures frames { Frames pool.old pool.new (space_roots self.old.spaces) (space_roots self.new.spaces) }
         ensures keeps { KeepsBytes pool.old pool.new (space_roots (without s.0 self.old.spaces)) }
         ensures cause { result ≢ Err Failed }
@@ -239,7 +239,7 @@ fn fill_space(
     requires cells { cell_count shape.now ≤ CELLS }
     requires agree { Stands pool.old (space.old.root ∷ []) 0 }
     ensures filled { OnOk result (IsFilled pool.old pool.new shape.now space.old space.new) }
-    ensures err { OnErr result (IsOfKind space.old space.new) }
+    ensures err { OnErr result (IsNotFilled pool.old pool.new shape.now space.old space.new) }
     ensures frames { Frames pool.old pool.new (space.old.root ∷ []) (space.new.root ∷ []) }
     ensures cause { result ≢ Err Failed }
 {
@@ -258,7 +258,7 @@ fn blank_cells(space: &mut DataSpace, pool: &mut Pool, shape: &Shape) -> Result<
     requires cells { cell_count shape.now ≤ CELLS }
     requires agree { Stands pool.old (space.old.root ∷ []) 0 }
     ensures blank { OnOk result (IsBlankFrom (content_at pool.new space.new.root) 0 (cell_kinds shape.now)) }
-    ensures kept { OnOk result (IsKeptBut (content_at pool.old space.old.root) (content_at pool.new space.new.root) 0 (cell_count shape.now)) }
+    ensures kept { IsKeptBut (content_at pool.old space.old.root) (content_at pool.new space.new.root) 0 (cell_count shape.now) }
     ensures same { IsOfKind space.old space.new }
     ensures frames { Frames pool.old pool.new (space.old.root ∷ []) (space.new.root ∷ []) }
     ensures cause { result ≢ Err Failed }

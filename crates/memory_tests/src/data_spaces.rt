@@ -1,11 +1,11 @@
 //! Three spaces over one pool, against plain bytes.
 ghost use Rattle.std.specs.Prelude.{◌≡◌, ◌+◌, ◌≤◌, ◌∷◌, [], length};
-ghost use Rattle.page_table.specs.Frames.{Stands};
 ghost use Rattle.page_table.specs.Sharing.{Agree};
 
 use crate::numbers::next;
+use crate::out::{put, put_digit, tell};
 use data_space::DataSpace;
-use eu_base::{Boxed, Kind, List, Shape, Space};
+use eu_base::Bytes;
 use page_pool::Pool;
 use std::alloc::Global;
 use std::mem;
@@ -25,7 +25,7 @@ fn untouched(alloc: Global) -> Three {
         pool: Pool::new(alloc),
         first: DataSpace::nil(),
         second: DataSpace::nil(),
-        third: DataSpace::nil(),
+        third: DataSpace::of(5, None, None),
     }
 }
 
@@ -86,7 +86,7 @@ fn place(turns: usize) -> usize
     turns % 3 * BYTES
 }
 
-fn put(plain: &mut [u8], at: usize, byte: u8, times: usize)
+fn put_plain(plain: &mut [u8], at: usize, byte: u8, times: usize)
     requires { at ≤ 786432 }
 {
     for k in 0..times.min(2000) {
@@ -127,7 +127,7 @@ fn write(spaces: &mut Three, plain: &mut [u8], turns: usize, seed: &mut u32) -> 
     let at = next(seed) % 260_000;
     let len = next(seed) as usize % 1_500;
     let byte = (next(seed) % 256) as u8;
-    put(plain, place(turns) + at as usize, byte, len);
+    put_plain(plain, place(turns) + at as usize, byte, len);
     let bytes = [byte; 1_500];
     spaces.write(at, &bytes[..len])
 }
@@ -176,93 +176,34 @@ pub fn each_has_its_bytes(alloc: Global) -> bool {
     }
 }
 
-fn begins_with(spaces: &Three, byte: u8) -> bool {
-    let mut found = [0];
-    spaces.read(0, &mut found);
-    found[0] == byte
+// A letter is written at the front, and `L` to the last page; `y` copies and `t` turns; `?` tells the first byte, `K` the type,
+// and `#` how many pages live.
+fn step(alloc: Global, out: &mut Bytes, spaces: &mut Three, step: u8) {
+    match step {
+        b'y' => tell(out, spaces.copy(alloc)),
+        b't' => spaces.turn(),
+        b'?' => {
+            let mut found = [0];
+            spaces.read(0, &mut found);
+            put(out, &found);
+        }
+        b'#' => put_digit(out, spaces.pool.used()),
+        b'K' => put_digit(out, u32::from(spaces.first.kind().unsigned_abs())),
+        b'L' => tell(out, spaces.write(261_632, b"L")),
+        _ => tell(out, spaces.write(0, &[step])),
+    }
 }
 
-// A space with its first and its last page written, and a copy of it, which shares them.
-fn copied(alloc: Global, spaces: &mut Three) -> bool {
-    let ends = spaces.write(0, b"a") && spaces.write(261_632, b"b") && spaces.pool.used() == 5;
-    ends && spaces.copy(alloc) && spaces.pool.used() == 5 && spaces.copy(alloc)
-}
+// A space of type 5 without pages gets its first and its last page, and two copies, which share them; one of these gets another
+// first byte, and has the type.
+const SHARING: &[u8] = b"ttKaL#y#yttct#?tt?K";
 
-/// The pages after each step, and the first byte of a space and of its copy, which begins with another byte.
 pub fn pages_are_shared(alloc: Global) -> bool {
     let mut spaces = untouched(alloc);
-    let made = copied(alloc, &mut spaces);
-    spaces.turn();
-    spaces.turn();
-    let start = spaces.write(0, b"c");
-    spaces.turn();
-    let changed = spaces.pool.used() == 8 && begins_with(&spaces, b'a');
-    spaces.turn();
-    spaces.turn();
-    made && start && changed && begins_with(&spaces, b'c') && spaces.ended() == 0
-}
-
-// A row of four structs of one truth value; another shape where memory is refused.
-fn shape(alloc: Global) -> Shape {
-    let mut fields = List::new(alloc);
-    let _pushed = fields.push(Shape::Cell(Kind::Truth)).is_ok();
-    match Boxed::new(alloc, Shape::Struct(fields)) {
-        Ok(fields) => Shape::Row(4, fields),
-        Err(_) => Shape::Cell(Kind::Truth),
+    let mut out = Bytes::new(alloc);
+    for k in 0..SHARING.len() {
+        step(alloc, &mut out, &mut spaces, SHARING[k]);
     }
-}
-
-fn has_shape(space: &DataSpace) -> bool {
-    match space.shape() {
-        Some(Shape::Row(4, of)) => match of.get() {
-            Shape::Struct(fields) => fields.len() == 1,
-            _ => false,
-        },
-        _ => false,
-    }
-}
-
-// Whether a shape has so many cells, of truth values.
-fn has_truths(alloc: Global, shape: &Shape, cells: usize) -> bool {
-    match shape.kinds(alloc, 16_384) {
-        Ok(kinds) => {
-            kinds.len() == cells && kinds.as_slice().iter().all(|kind| *kind == Kind::Truth)
-        }
-        Err(_) => false,
-    }
-}
-
-pub fn a_shape_has_the_kinds_of_its_cells(alloc: Global) -> bool {
-    match shape(alloc).try_clone(alloc) {
-        Ok(copy) => has_truths(alloc, &copy, 4),
-        Err(_) => false,
-    }
-}
-
-pub fn a_copy_has_the_type_and_the_shape(alloc: Global) -> bool {
-    let mut spaces = untouched(alloc);
-    spaces.first.set_kind(1003);
-    spaces.first.set_shape(shape(alloc));
-    spaces.copy(alloc) && spaces.third.kind() == 1003 && has_shape(&spaces.third)
-}
-
-pub fn without_bytes_no_root() -> bool {
-    let space = DataSpace::of(5, None, DataSpace::nil().root());
-    space.root().is_none() && space.kind() == 5
-}
-
-// Whether a lent space reads what it wrote.
-fn lent(space: &mut DataSpace, pool: &mut Pool, from: &[u8; 15]) -> bool
-    requires agree { Stands pool.old (space.old.root ∷ []) 0 }
-{
-    let mut bytes = [0; 15];
-    let mut lent = space.over(pool);
-    let written = lent.write(510, from).is_ok();
-    written && lent.read(510, &mut bytes).is_ok() && bytes == *from
-}
-
-pub fn a_lent_space_reads_what_it_wrote(alloc: Global) -> bool {
-    let mut pool = Pool::new(alloc);
-    let mut space = DataSpace::nil();
-    lent(&mut space, &mut pool, b"over the border")
+    put_digit(&mut out, spaces.ended());
+    out.as_slice() == b"5++5+5++8ac50".as_slice()
 }

@@ -6,11 +6,11 @@ mod cells;
 #[cfg(test)]
 mod data_spaces;
 #[cfg(test)]
-mod family;
-#[cfg(test)]
 mod memories;
 #[cfg(test)]
 mod numbers;
+#[cfg(test)]
+mod out;
 #[cfg(test)]
 mod task;
 #[cfg(test)]

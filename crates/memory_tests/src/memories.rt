@@ -1,38 +1,34 @@
-//! Scenes of a task's memory. Each notes what came, as one text.
-ghost use Rattle.std.specs.Prelude.{◌<◌};
+//! Rows of steps over the memory of a task, with what they tell.
 
-use crate::family::Family;
+use crate::out::{put, put_digit, tell};
 use crate::task::Task;
-use eu_base::{Boxed, Bytes, Kind, List, Shape, decimal};
+use eu_base::{Boxed, Bytes, Kind, List, Shape};
 use std::alloc::Global;
 use task_numbers::SpaceNo;
 
-// Where memory is refused, the text is too short, and the scene goes wrong.
-fn put(out: &mut Bytes, text: &[u8]) {
-    let _put = out.append(text).is_ok();
-}
-
-fn put_number(alloc: Global, out: &mut Bytes, number: u32) {
-    if let Ok(text) = decimal(alloc, i64::from(number)) {
-        put(out, text.as_slice());
-    }
-}
-
-fn put_cell(alloc: Global, out: &mut Bytes, number: Option<u64>) {
-    match number {
-        Some(number) => put_number(alloc, out, (number % 1000) as u32),
-        None => put(out, b"-"),
-    }
-    put(out, b" ");
-}
-
-fn put_space(alloc: Global, out: &mut Bytes, space: Option<SpaceNo>) {
-    put_cell(alloc, out, space.map(|s| u64::from(s.0)));
-}
-
-fn put_if(out: &mut Bytes, holds: bool) {
-    put(out, if holds { b"yes " } else { b"no " });
-}
+/// Steps, and what they tell: the answers of the steps; the directory; the live spaces, with `k` where they have a type and with the
+/// kinds of their cells; how many live, and the last number; `r` and `p` where the command and the packets have pages; and how many
+/// pages are left at the end. `m` makes a space. Of number 1 `y1` makes a copy, `k1` sets the type, `b1` fills it, `f1` forgets it, `na1`
+/// names it `a`, and `t1` takes it and gives it a new number. `ua` takes the name out, `c` clears the command's cells, `i` lets a son
+/// inherit, and `x` goes over to the other of the two. What begins with `r` or `p` is a step over cells.
+pub const STEPS: &str = "\
+m m na1 nb2 nc1 f1 => 12 b2 : 2 1 of 2 left 0
+m na1 ua => 1 : 1 1 of 1 left 0
+m na1 nb1 t1 => 12 : 2 1 of 2 left 0
+m na1 f2 => 1 a1 : 1 1 of 1 left 0
+m f1 m nb2 nb2 => 12 b2 : 2 1 of 2 left 0
+m m m na3 f2 nb2 => 123 a3 : 1 3 2 of 3 left 0
+m na1 na1 nb1 ua => 1 b1 : 1 1 of 1 left 0
+f1 ua t1 => - : 0 of 0 left 0
+m k1 b1 y1 => 1+2 : 1kbbbb 2kbbbb 2 of 2 left 0
+m k1 b1 y1 b2 f1 t2 => 1+2-3 : 3kbbbb 1 of 3 left 0
+p3=77 p4<a3 r5=1 c p3?77 p4>a3 p0#4095 r5?0 => +++++++ : 0 of 0 p left 0
+p3=5 i x p3?5 x p3=6 x p3=8 p4=7 x p3?6 p4?0 x p3?8 p4?7 => ++++++++++ : 0 of 0 p left 0
+m i x m => 1+2 : 2 1 of 2 left 0
+r7=65535 rz<a3 rz>a3 rz<b100 rz>b100 rz<_0 rz>_0 rz?0 r7?65535 => +++++++++ : 0 of 0 r left 0
+r0<c114660 r0>c114660 r1/e29 r1<d28 r1>d28 r0#0 r2/x1 r0>c114660 r0<_0 r0>_0 r2<e29 r2>e29 => ++++++++++++ : 0 of 0 r left 0
+r0<c114660 r5=1 p5=2 p0<p29 p0#4094 r0#1 p0>p29 r5?1 p5?2 r0>c114660 => ++++++++++ : 0 of 0 r p left 0
+";
 
 // A row of four structs of one truth value; another shape where memory is refused.
 fn shape(alloc: Global) -> Shape {
@@ -44,118 +40,115 @@ fn shape(alloc: Global) -> Shape {
     }
 }
 
-// The type of a space, and whether it has a shape.
-fn put_kind(alloc: Global, out: &mut Bytes, task: &Task, s: SpaceNo) {
-    if task.memory.live(s) {
-        put_cell(alloc, out, u64::try_from(task.memory.kind(s)).ok());
-        put_if(out, task.memory.has_shape(s).is_some());
-    } else {
-        put(out, b"- ");
-    }
-}
-
-// How many spaces live, the last number, and the first space.
-fn put_count(alloc: Global, out: &mut Bytes, task: &Task) {
-    put_number(alloc, out, task.memory.count());
-    put(out, b" of ");
-    put_number(alloc, out, task.memory.last_number());
-    put(out, b" first ");
-    put_space(alloc, out, task.memory.space(0).map(|found| found.0));
-}
-
-/// A space is made and filled, and copied; the first is forgotten, and the other gets another number.
-pub fn of_spaces(alloc: Global, out: &mut Bytes) {
-    let mut task = Task::new(alloc);
-    put_space(alloc, out, task.make());
-    task.set_kind(SpaceNo(1), 103);
-    put_if(out, task.fill(SpaceNo(1), &shape(alloc)));
-    put_space(alloc, out, task.copy(SpaceNo(1)));
-    put_kind(alloc, out, &task, SpaceNo(2));
-    put_if(out, task.fill(SpaceNo(2), &shape(alloc)));
-    task.forget(SpaceNo(1));
-    put_kind(alloc, out, &task, SpaceNo(1));
-    put_count(alloc, out, &task);
-    put_space(alloc, out, task.renumber(SpaceNo(2)));
-    put_count(alloc, out, &task);
-    put_kind(alloc, out, &task, SpaceNo(3));
-}
-
-/// The variables of packets: a number and a text, and what is left where the command's are emptied.
-pub fn of_packets(alloc: Global, out: &mut Bytes) {
-    let mut task = Task::new(alloc);
-    put_if(out, task.set_packet(3, 77));
-    put_if(out, task.set_packet_text(4, b"abc"));
-    task.clear_run();
-    put_cell(alloc, out, task.packet(3));
-    if let Some(text) = task.packet_text(4) {
-        put(out, text.as_slice());
-    }
-    put(out, b" ");
-    put_cell(alloc, out, task.packet_rooms().map(u64::from));
-    put_if(out, task.memory.packet_space().root().is_some());
-    put_if(out, task.memory.run_space().root().is_some());
-}
-
-/// A son inherits a variable; then father and son change it, and the son changes another.
-pub fn of_father_and_son(alloc: Global, out: &mut Bytes) {
-    let mut task = Task::new(alloc);
-    put_if(out, task.set_packet(3, 5));
-    let Some(mut family) = Family::of(task) else {
-        return
-    };
-    put_cell(alloc, out, family.son(3));
-    let changed = family.set_father(3, 6) && family.set_son(3, 8) && family.set_son(4, 7);
-    put_if(out, changed);
-    put_cell(alloc, out, family.father(3));
-    put_cell(alloc, out, family.son(3));
-    put_cell(alloc, out, family.father(4));
-    put_cell(alloc, out, family.son(4));
-    put_number(alloc, out, family.ended());
-}
-
 // The space with a digit for its number.
 fn space(digit: u8) -> SpaceNo {
     SpaceNo(u32::from(digit.wrapping_sub(b'0')))
 }
 
-fn go(task: &mut Task, step: &[u8]) {
+fn put_made(out: &mut Bytes, made: Option<SpaceNo>) {
+    match made {
+        Some(s) => put_digit(out, s.0),
+        None => tell(out, false),
+    }
+}
+
+fn go(alloc: Global, out: &mut Bytes, task: &mut Task, step: &[u8]) {
     match step {
-        [b'm'] => {
-            let _made = task.make();
-        }
-        [b't', s] => {
-            let _given = task.renumber(space(*s));
-        }
+        [b'm'] => put_made(out, task.make(None)),
+        [b'y', s] => put_made(out, task.make(Some(space(*s)))),
+        [b't', s] => put_made(out, task.renumber(space(*s))),
+        [b'k', s] => task.set_kind(space(*s), 103),
+        [b'b', s] => tell(out, task.fill(space(*s), &shape(alloc))),
         [b'f', s] => task.forget(space(*s)),
         [b'n', name, s] => task.name(&[*name], space(*s)),
         [b'u', name] => task.unname(&[*name]),
-        _ => (),
+        [b'c'] => task.clear_run(),
+        [b'i'] => tell(out, task.inherit()),
+        [b'x'] => task.turn(),
+        _ => task.go(alloc, out, step),
     }
 }
 
-// The directory, and behind a colon the live spaces.
-fn put_all(alloc: Global, out: &mut Bytes, task: &Task) {
+fn put_names(out: &mut Bytes, task: &Task) {
     for k in 0..16u32 {
         if let Some((name, s)) = task.memory.entry(k) {
+            put(out, b" ");
             put(out, name);
-            put_space(alloc, out, Some(s));
+            put_digit(out, s.0);
         }
     }
-    put(out, b":");
+}
+
+// The kinds of a shape's cells: all are truth values.
+fn put_kinds(alloc: Global, out: &mut Bytes, shape: &Shape) {
+    if let Ok(kinds) = shape.kinds(alloc, 16_384) {
+        for kind in kinds.as_slice() {
+            put(out, if *kind == Kind::Truth { b"b" } else { b"?" });
+        }
+    }
+}
+
+fn put_space(alloc: Global, out: &mut Bytes, task: &Task, s: SpaceNo) {
+    if task.memory.live(s) {
+        put(
+            out,
+            if task.memory.kind(s) == 103 {
+                b"k"
+            } else {
+                b""
+            },
+        );
+        if let Some(shape) = task.memory.has_shape(s) {
+            put_kinds(alloc, out, shape);
+        }
+    }
+}
+
+fn put_spaces(alloc: Global, out: &mut Bytes, task: &Task) {
     for k in 0..16u32 {
         if let Some((s, _)) = task.memory.space(k) {
             put(out, b" ");
-            put_number(alloc, out, s.0);
+            put_digit(out, s.0);
+            put_space(alloc, out, task, s);
         }
     }
 }
 
-/// What is there after the steps of a row: `m` makes a space, and of number 1 `f1` forgets it, `na1` names it `a`, and `t` before
-/// the number takes it and gives it a new one; `ua` takes the name out.
-pub fn of_steps(alloc: Global, out: &mut Bytes, steps: &str) {
+// What is there.
+fn put_all(alloc: Global, out: &mut Bytes, task: &Task) {
+    put_names(out, task);
+    put(out, b" :");
+    put_spaces(alloc, out, task);
+    put(out, b" ");
+    put_digit(out, task.memory.count());
+    put(out, b" of ");
+    put_digit(out, task.memory.last_number());
+    let run = task.memory.run_space().root().is_some();
+    put(out, if run { b" r" } else { b"" });
+    let packets = task.memory.packet_space().root().is_some();
+    put(out, if packets { b" p" } else { b"" });
+}
+
+// What a row tells.
+fn put_row(alloc: Global, out: &mut Bytes, steps: &str) {
     let mut task = Task::new(alloc);
     for step in steps.split(' ') {
-        go(&mut task, step.as_bytes());
+        go(alloc, out, &mut task, step.as_bytes());
     }
     put_all(alloc, out, &task);
+    put(out, b" left ");
+    put_digit(out, task.ended());
+}
+
+/// Whether each row tells what stands behind it: with what the rows tell the table is made again.
+pub fn steps_are_right(alloc: Global) -> bool {
+    let mut out = Bytes::new(alloc);
+    for row in STEPS.lines() {
+        let (steps, _) = row.split_once(" => ").unwrap_or((row, ""));
+        put(&mut out, steps.as_bytes());
+        put(&mut out, b" => ");
+        put_row(alloc, &mut out, steps);
+        put(&mut out, b"\n");
+    }
+    out.as_slice() == STEPS.as_bytes()
 }

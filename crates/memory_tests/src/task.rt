@@ -1,22 +1,25 @@
-//! A task's memory with its pool, and that of a son beside it.
-ghost use Rattle.std.specs.Prelude.{◌++◌, ◌<◌};
+//! A task's memory and that of a son, over one pool.
+ghost use Rattle.std.specs.Prelude.{◌≡◌, ◌++◌};
 ghost use Rattle.page_table.specs.Sharing.{Agree};
 ghost use Rattle.space_memory.specs.Memories.{roots};
 
-use cell_layout::cells;
-use eu_base::{Bytes, CELLS, Set, Shape};
+use crate::cells;
+use cell_layout::cells as cell_count;
+use eu_base::{Bytes, CELLS, Shape};
 use live_spaces::MOST_LIVE;
 use page_pool::Pool;
 use space_memory::SpaceMemory;
 use std::alloc::Global;
+use std::mem;
 use task_numbers::SpaceNo;
 
-/// A memory with its pool. What a call may not be asked is not done.
+/// A memory, on which each call works, and another, with their pool. What a call may not be asked is not done.
 #[derive(Drop)]
 pub struct Task {
-    pub pool: Pool,
+    pool: Pool,
     pub memory: SpaceMemory,
-    ghost agree: { ∥ Agree pool (roots memory) ∥₁ },
+    other: SpaceMemory,
+    ghost agree: { ∥ Agree pool (roots memory ++ roots other) ∥₁ },
 }
 
 impl Task {
@@ -24,25 +27,37 @@ impl Task {
         Task {
             pool: Pool::new(alloc),
             memory: SpaceMemory::new(alloc),
+            other: SpaceMemory::new(alloc),
         }
     }
 
-    pub fn make(&mut self) -> Option<SpaceNo> {
-        if self.memory.count() < MOST_LIVE && self.memory.last_number() < 1000 {
-            let made = self.memory.make(&mut self.pool, None).ok();
-            prove!(self.memory.count() <= MOST_LIVE);
-            made
-        } else {
-            None
+    /// The other memory becomes that of a son.
+    pub fn inherit(&mut self) -> bool {
+        prove!(self.memory.count() <= MOST_LIVE);
+        prove!(self.other.count() <= MOST_LIVE);
+        match self.memory.inherit(&mut self.pool) {
+            Ok(son) => {
+                mem::replace(&mut self.other, son).end(&mut self.pool);
+                true
+            }
+            Err(_) => false,
         }
     }
 
-    pub fn copy(&mut self, of: SpaceNo) -> Option<SpaceNo> {
-        if self.memory.live(of)
-            && self.memory.count() < MOST_LIVE
-            && self.memory.last_number() < 1000
-        {
-            let made = self.memory.make(&mut self.pool, Some(of)).ok();
+    /// Calls work on the other memory.
+    pub fn turn(&mut self) {
+        mem::swap(&mut self.memory, &mut self.other);
+    }
+
+    /// An empty space, or a copy of one that lives.
+    pub fn make(&mut self, from: Option<SpaceNo>) -> Option<SpaceNo> {
+        let there = match from {
+            Some(s) => self.memory.live(s),
+            None => true,
+        };
+        prove!(self.other.count() <= MOST_LIVE);
+        if there && self.memory.count() < MOST_LIVE && self.memory.last_number() < 1000 {
+            let made = self.memory.make(&mut self.pool, from).ok();
             prove!(self.memory.count() <= MOST_LIVE);
             made
         } else {
@@ -52,17 +67,14 @@ impl Task {
 
     pub fn forget(&mut self, s: SpaceNo) {
         self.memory.forget(&mut self.pool, s);
-        prove!(self.memory.count() <= MOST_LIVE);
     }
 
     pub fn fill(&mut self, s: SpaceNo, shape: &Shape) -> bool {
         if self.memory.live(s)
             && self.memory.has_shape(s).is_none()
-            && cells(shape) <= u32::from(CELLS)
+            && cell_count(shape) <= u32::from(CELLS)
         {
-            let filled = self.memory.fill(&mut self.pool, s, shape).is_ok();
-            prove!(self.memory.count() <= MOST_LIVE);
-            filled
+            self.memory.fill(&mut self.pool, s, shape).is_ok()
         } else {
             false
         }
@@ -103,52 +115,27 @@ impl Task {
         }
     }
 
-    pub fn set_packet(&mut self, cell: u16, number: u64) -> bool
-        requires { cell < CELLS }
-    {
-        let set = self
-            .memory
-            .set_packet_cell(&mut self.pool, cell, number)
-            .is_ok();
-        prove!(self.memory.count() <= MOST_LIVE);
-        set
-    }
-
-    pub fn packet(&mut self, cell: u16) -> Option<u64>
-        requires { cell < CELLS }
-    {
-        let found = self.memory.packet_cell(&mut self.pool, cell).ok();
-        prove!(self.memory.count() <= MOST_LIVE);
-        found
-    }
-
-    pub fn set_packet_text(&mut self, cell: u16, t: &[u8]) -> bool
-        requires { cell < CELLS }
-    {
-        let set = matches!(
-            self.memory.set_packet_text(&mut self.pool, cell, t),
-            Ok(Set::Done)
-        );
-        prove!(self.memory.count() <= MOST_LIVE);
-        set
-    }
-
-    pub fn packet_text(&mut self, cell: u16) -> Option<Bytes>
-        requires { cell < CELLS }
-    {
-        let found = self.memory.packet_text(&mut self.pool, cell).ok();
-        prove!(self.memory.count() <= MOST_LIVE);
-        found
-    }
-
-    pub fn packet_rooms(&mut self) -> Option<u16> {
-        let found = self.memory.packet_rooms(&mut self.pool).ok();
-        prove!(self.memory.count() <= MOST_LIVE);
-        found
+    /// Does a step over cells.
+    pub fn go(&mut self, alloc: Global, out: &mut Bytes, step: &[u8]) {
+        let mut lent = self.memory.over(&mut self.pool);
+        cells::go(alloc, out, &mut lent, step);
     }
 
     pub fn clear_run(&mut self) {
         self.memory.clear_run(&mut self.pool);
-        prove!(self.memory.count() <= MOST_LIVE);
+    }
+
+    /// Ends both, and tells how many pages are left.
+    pub fn ended(self) -> u32
+        ensures { result ≡ 0 }
+    {
+        let Task {
+            mut pool,
+            memory,
+            other,
+        } = self;
+        memory.end(&mut pool);
+        other.end(&mut pool);
+        pool.used()
     }
 }

@@ -174,10 +174,13 @@ fn any_bytes<S: Space>(space: &mut S, seed: u32) -> bool {
     true
 }
 
-// A block that is linked to itself, to which the last cell leads with as many bytes as a space has room for.
+// A block that is linked to itself, to which the last cell leads with as many bytes as a space has room for. Both are written at
+// once, over the border of two pages, and read back so.
 fn is_circle<S: Space>(space: &mut S) -> bool {
-    let block = space.write(131_072, &[1, 0]).is_ok();
-    block && space.write(131_064, &[0, 192, 1, 0, 0, 0, 0, 0]).is_ok()
+    let circle = [0, 192, 1, 0, 0, 0, 0, 0, 1, 0];
+    let mut found = [0; 10];
+    let written = space.write(131_064, &circle).is_ok();
+    written && space.read(131_064, &mut found).is_ok() && found == circle
 }
 
 // The blocks can be counted, and no byte has changed.

@@ -105,7 +105,7 @@ module _ (area : Area) (old new : Pages) (before after : MemoryData)
         both_held area new after (written cells at (Word n))
         (subst (λ x. HoldsCells x now (written cells at (Word n))) own (word_held was now cells at n low here none put kept)) (beside cells (Word n) h)
 
-    pub number_put : {T E : Type 0} (result : Result T E) (n : ℕ) → OnOk result (HoldsIn was now at.cell n) → OnOk result (IsKeptBut was now at.cell 1)
+    pub number_put : {T E : Type 0} (result : Result T E) (n : ℕ) → OnOk result (HoldsIn was now at.cell n) → IsKeptBut was now at.cell 1
         → OnOk result ((cells : Cells) → HoldsAll old before cells → cell_blocks (cells at) ≡ 0 → HoldsAll new after (written cells at (Word n)))
     number_put (Ok x) n put kept = word_there n put kept
     number_put (Err e) n put kept = tt

@@ -40,7 +40,7 @@ pub(crate) fn set_number(
     requires cell { cell < CELLS }
     requires agree { Stands pool.old (space.old.root ∷ []) 0 }
     ensures holds { OnOk result (HoldsIn (content_at pool.old space.old.root) (content_at pool.new space.new.root) cell number) }
-    ensures kept { OnOk result (IsKeptBut (content_at pool.old space.old.root) (content_at pool.new space.new.root) cell 1) }
+    ensures kept { IsKeptBut (content_at pool.old space.old.root) (content_at pool.new space.new.root) cell 1 }
     ensures kind { IsOfKind space.old space.new }
     ensures frames { Frames pool.old pool.new (space.old.root ∷ []) (space.new.root ∷ []) }
     ensures cause { result ≢ Err Failed }

@@ -6,7 +6,7 @@ ghost use Rattle.eu_base.specs.declared.cells.MemFault.TheVariants.{Failed};
 ghost use Rattle.page_pool.specs.Pool.{Pages, used_of};
 ghost use Rattle.page_table.specs.Changes.{ChangesOnly, FreesOnly};
 ghost use Rattle.page_table.specs.Frames.{Frames, Stands};
-ghost use Rattle.live_spaces.specs.Kept.{KeepsBytes, IsFilled, IsOfKind};
+ghost use Rattle.live_spaces.specs.Kept.{KeepsBytes, IsFilled, IsNotFilled};
 ghost use Rattle.live_spaces.specs.Live.{space_at, IsLive, IsNumbered, the_space, without, space_roots};
 ghost use Rattle.space_memory.specs.Memories.{roots, with_new, source, changed, forgotten};
 
@@ -132,7 +132,7 @@ impl SpaceMemory {
     }
 
     /// Gives a space without a shape one, and lets its cells from 0 on hold what variables of it hold before anything was
-    /// stored. After a refusal some of the cells may hold it.
+    /// stored. After a refusal some of the cells may hold it, and no byte outside them has changed.
     pub fn fill(&mut self, pool: &mut Pool, s: SpaceNo, shape: &Shape) -> Result<(), MemFault>
         requires live { IsLive s.0 self.old.spaces }
         requires empty { (the_space s.0 self.old.spaces).shape ≡ None }
@@ -140,7 +140,7 @@ impl SpaceMemory {
         requires agree { Stands pool.old (roots self.old) 0 }
         ensures others { self.new ≡ changed s.0 (the_space s.0 self.new.spaces) self.old }
         ensures filled { OnOk result (IsFilled pool.old pool.new shape.now (the_space s.0 self.old.spaces) (the_space s.0 self.new.spaces)) }
-        ensures err { OnErr result (IsOfKind (the_space s.0 self.old.spaces) (the_space s.0 self.new.spaces)) }
+        ensures err { OnErr result (IsNotFilled pool.old pool.new shape.now (the_space s.0 self.old.spaces) (the_space s.0 self.new.spaces)) }
         ensures frames { Frames pool.old pool.new (roots self.old) (roots self.new) }
         ensures keeps { KeepsBytes pool.old pool.new
             (self.old.run.root ∷ self.old.packets.root ∷ space_roots (without s.0 self.old.spaces)) }

@@ -41,7 +41,7 @@ impl SpaceMemory {
         requires cell { cell < CELLS }
         requires agree { Stands pool.old (roots self.old) 0 }
         ensures holds { OnOk result (HoldsIn (content_at pool.old self.old.run.root) (content_at pool.new self.new.run.root) cell number) }
-        ensures kept { OnOk result (IsKeptBut (content_at pool.old self.old.run.root) (content_at pool.new self.new.run.root) cell 1) }
+        ensures kept { IsKeptBut (content_at pool.old self.old.run.root) (content_at pool.new self.new.run.root) cell 1 }
         ensures rest { OnlyRun pool.old pool.new self.old self.new }
         ensures frames { Frames pool.old pool.new (roots self.old) (roots self.new) }
         ensures cause { result ≢ Err Failed }
@@ -121,7 +121,7 @@ impl SpaceMemory {
         requires cell { cell < CELLS }
         requires agree { Stands pool.old (roots self.old) 0 }
         ensures holds { OnOk result (HoldsIn (content_at pool.old self.old.packets.root) (content_at pool.new self.new.packets.root) cell number) }
-        ensures kept { OnOk result (IsKeptBut (content_at pool.old self.old.packets.root) (content_at pool.new self.new.packets.root) cell 1) }
+        ensures kept { IsKeptBut (content_at pool.old self.old.packets.root) (content_at pool.new self.new.packets.root) cell 1 }
         ensures rest { OnlyPackets pool.old pool.new self.old self.new }
         ensures frames { Frames pool.old pool.new (roots self.old) (roots self.new) }
         ensures cause { result ≢ Err Failed }

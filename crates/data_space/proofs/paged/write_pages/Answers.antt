@@ -1,10 +1,10 @@
-use Rattle.std.proofs.Common.{◌≡◌, inl, inr, ◌+◌, ◌-◌, ◌/◌, length, take, sym, subst, arith, length-take}
+use Rattle.std.proofs.Common.{◌≡◌, ◌∙◌, inl, inr, ◌+◌, ◌-◌, ◌/◌, length, take, sym, subst, arith, length-take}
 use Rattle.std.proofs.lemmas.Bool.{cases_eq}
 use Rattle.page_table.specs.Own.{Owns}
 use Rattle.page_table.proofs.Framing.{frames_then, stands_after}
 use Rattle.data_space.specs.Spaces.{pages_met}
 use Rattle.data_space.proofs.Changed.{met_is, path_then}
-use Rattle.data_space.proofs.Pasting.{then_pasted, next_chunk}
+use Rattle.data_space.proofs.Pasting.{outside, then_pasted, next_chunk}
 use Rattle.data_space.proofs.paged.write_pages.Goals as goal
 
 pub write_page-requires-clause-agree : goal.write_page-requires-clause-agree
@@ -45,6 +45,19 @@ returns-in_err-write_page-clause-changes c =
     path_then _ _ _ _ _ (c.args.at / 512) ((c.args.at + c.loop-done.done) / 512) (pages_met c.args.at (length c.args.from.now))
     (c.loop-done.invariant.changed_page c.loop-done-test.true) (c.loop-done.invariant.owned c.loop-done-test.true)
     c.write_page.ensures.keeps c.write_page.ensures.changes (omega arith) (omega (arith, met, c.loop-done-test.true))
+
+pub returns-in_err-write_page-clause-kept : goal.returns-in_err-write_page-clause-kept
+returns-in_err-write_page-clause-kept c n far =
+    let least = c.min-len.ensures in
+    let so_far = take c.loop-done.done c.args.from.now in
+    let front : length so_far ≡ c.loop-done.done = simp length-take (omega (arith, c.loop-done.invariant.within)) in
+    let kept = outside _ _ c.args.at so_far c.loop-done.invariant.written n in
+    elim far [
+      | inl low ↦ c.write_page.ensures.kept n (inl (omega (arith, low))) ∙ kept (inl low)
+      | inr past ↦
+          c.write_page.ensures.kept n (inr (omega (arith, least, past, c.loop-done-test.true)))
+          ∙ kept (inr (omega (arith, front, past, c.loop-done.invariant.within)))
+    ]
 
 pub returns-in_err-write_page-clause-used : goal.returns-in_err-write_page-clause-used
 returns-in_err-write_page-clause-used c =

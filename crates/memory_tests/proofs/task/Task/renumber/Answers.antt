@@ -1,4 +1,5 @@
 use Rattle.std.proofs.Common.{sym, arith}
+use Rattle.space_memory.specs.Memories.{roots}
 use Rattle.memory_tests.proofs.Tasks.{taken, given, in_hand, let_go, fewer}
 use Rattle.memory_tests.proofs.task.Task.renumber.Goals as goal
 
@@ -9,15 +10,18 @@ give-requires-clause-few c =
 
 pub forget-requires : goal.forget-requires
 forget-requires c =
-    let held = taken _ c.args.s.0 _ _ _ (sym c.if-live.ensures) c.take-space.ensures.space c.take-space.ensures.forgotten c.args.self.now.agree in
+    let other = roots c.args.self.now.other in
+    let held = taken other _ c.args.s.0 _ _ _ (sym c.if-live.ensures) c.take-space.ensures.space c.take-space.ensures.forgotten c.args.self.now.agree in
     record { agree = rw c.in-Err.ensures.back (in_hand _ _ _ held) }
 
 pub invariant_of-self : goal.invariant_of-self
 invariant_of-self c =
-    let held = taken _ c.args.s.0 _ _ _ (sym c.if-live.ensures) c.take-space.ensures.space c.take-space.ensures.forgotten c.args.self.now.agree in
-    record { agree = given _ _ _ _ c.in-Ok.ensures.given held }
+    let other = roots c.args.self.now.other in
+    let held = taken other _ c.args.s.0 _ _ _ (sym c.if-live.ensures) c.take-space.ensures.space c.take-space.ensures.forgotten c.args.self.now.agree in
+    record { agree = given other _ _ _ _ c.in-Ok.ensures.given held }
 
 pub invariant_of-self-in-Err : goal.invariant_of-self-in-Err
 invariant_of-self-in-Err c =
-    let held = taken _ c.args.s.0 _ _ _ (sym c.if-live.ensures) c.take-space.ensures.space c.take-space.ensures.forgotten c.args.self.now.agree in
+    let other = roots c.args.self.now.other in
+    let held = taken other _ c.args.s.0 _ _ _ (sym c.if-live.ensures) c.take-space.ensures.space c.take-space.ensures.forgotten c.args.self.now.agree in
     record { agree = rw c.in-Err.ensures.err (let_go _ _ _ _ (rw c.in-Err.ensures.back at c.forget.ensures.frames) held) }
