@@ -7,7 +7,7 @@ ghost use Rattle.choice_rules.specs.Choices as spec;
 ghost use Rattle.choice_rules.specs.walks.Steps as walk;
 ghost use Rattle.elan_scope.specs.Answer.{Gives};
 ghost use Rattle.elan_scope.specs.Scope as scopes;
-ghost use Rattle.elan_scope.specs.declared.heading.Sort.TheVariants.{Procedure};
+ghost use Rattle.elan_names.specs.declared.heading.Sort.TheVariants.{Procedure};
 ghost use Rattle.elan_meant.specs.Verdict.{told, Tells};
 
 use crate::parts::{delivery_in, joined, part_for_none};
@@ -17,8 +17,8 @@ use elan_meant::operands::delivers_kind;
 use elan_meant::part::{actions, boxed, one, value_of};
 use elan_meant::row::Judged;
 use elan_meant::together::pairs_of;
+use elan_names::heading::Sort;
 use elan_scope::delivery::Delivery;
-use elan_scope::heading::Sort;
 use elan_scope::scope::Scope;
 use elan_scope::trouble::Trouble;
 use elan_types::{Action, ElanType, ValuePhrase, Why};

@@ -8,8 +8,8 @@ use Rattle.elan_scope.specs.declared.known.Known.{Known}
 use Rattle.elan_scope.specs.declared.scope.Scope.{Scope}
 use Rattle.elan_scope.specs.Scope.{Found}
 use Rattle.elan_scope.specs.declared.scope.Home.{Home}
-use Rattle.elan_scope.specs.declared.scope.Denotes.{Denotes}
-use Rattle.elan_scope.specs.declared.scope.Denotes.TheVariants as denotes
+use Rattle.elan_names.specs.declared.entry.Denotes.{Denotes}
+use Rattle.elan_names.specs.declared.entry.Denotes.TheVariants as denotes
 use Rattle.elan_scope.specs.declared.scope.Usage.TheVariants.{Expression, Counter}
 use Rattle.elan_scope.specs.Known.{delivery_at, leads_back}
 use Rattle.elan_scope.specs.Scope.{find, left, refinement_named}

@@ -20,13 +20,13 @@ use Rattle.elan_tree.specs.declared.written_type.TypePhrase.{TypePhrase}
 use Rattle.elan_tree.specs.declared.written_type.Formal.{Formal}
 use Rattle.elan_tree.specs.declared.tree.Body.{Body as Written}
 use Rattle.elan_tree.specs.declared.tree.Refinement.{Refinement as Refined}
-use Rattle.elan_scope.specs.declared.scope.Denotes.{Denotes}
-use Rattle.elan_scope.specs.declared.scope.Denotes.TheVariants as denotes
-use Rattle.elan_scope.specs.declared.scope.Entry.{Entry}
-use Rattle.elan_scope.specs.declared.heading.Sort.{Sort}
-use Rattle.elan_scope.specs.declared.heading.What.{What}
-use Rattle.elan_scope.specs.declared.heading.What.TheVariants.{Routine, Refinement}
-use Rattle.elan_scope.specs.declared.heading.Heading.{Heading}
+use Rattle.elan_names.specs.declared.entry.Denotes.{Denotes}
+use Rattle.elan_names.specs.declared.entry.Denotes.TheVariants as denotes
+use Rattle.elan_names.specs.declared.entry.Entry.{Entry}
+use Rattle.elan_names.specs.declared.heading.Sort.{Sort}
+use Rattle.elan_names.specs.declared.heading.What.{What}
+use Rattle.elan_names.specs.declared.heading.What.TheVariants.{Routine, Refinement}
+use Rattle.elan_names.specs.declared.heading.Heading.{Heading}
 use Rattle.elan_meant.specs.declared.meant.Meant.{Meant}
 use Rattle.elan_meant.specs.declared.meant.Meant.TheVariants.{Done, Bodies}
 use Rattle.elan_scope.specs.Scope as scope
@@ -37,7 +37,7 @@ use Rattle.elan_scope.specs.declared.scope.Home.{Home}
 use Rattle.elan_scope.specs.Scope.{Found}
 use Rattle.elan_levels.specs.Bodies as b
 use Rattle.type_names.specs.Types.{body_types}
-use Rattle.elan_scope.specs.declared.type_name.TypeName.{TypeName}
+use Rattle.elan_names.specs.declared.type_name.TypeName.{TypeName}
 use Rattle.elan_scope.specs.Scope.{has_open}
 use Rattle.elan_levels.specs.Bodies.{parameters, result, frame, parameter_names, own_names, body_names, refinement_headings, bodies_in, unit_headings}
 use Rattle.elan_scope.specs.Phrase as form

@@ -16,13 +16,14 @@ use Rattle.elan_tree.specs.declared.tree.LevelUnit.TheVariants as level
 use Rattle.elan_walk.specs.declared.node.Held.TheVariants.{Variable, Constant}
 use Rattle.elan_walk.specs.Nodes as nodes
 use Rattle.elan_walk.specs.Nodes.{Node, alone, other, sign, of_type, item, let_name, abbreviation, new_type, unbuilt}
-use Rattle.elan_scope.specs.declared.scope.Denotes.TheVariants as denotes
-use Rattle.elan_scope.specs.declared.scope.Entry.{Entry}
-use Rattle.elan_scope.specs.declared.type_name.TypeName.{TypeName}
+use Rattle.elan_names.specs.declared.entry.Denotes.TheVariants as denotes
+use Rattle.elan_names.specs.declared.entry.Entry.{Entry}
+use Rattle.elan_names.specs.declared.type_name.TypeName.{TypeName}
 use Rattle.elan_scope.specs.Ruled.{Fault}
 use Rattle.elan_scope.specs.Scope.{held, all_held, has_open, is_open_result}
 use Rattle.value_rules.specs.Calls.{holds_open}
 use Rattle.type_definitions.specs.declared.definition.Definition.{Definition}
+use Rattle.type_definitions.specs.Definitions as definitions
 use Rattle.type_names.specs.Types as names
 use Rattle.type_names.specs.Types.{type_in, defined_by, first_from, names_of, body_definitions, parameter_definitions, refinement_definitions, in_refinements}
 use Rattle.type_names.specs.Types.{unit_definitions, level_definitions, level_types, body_types}
@@ -103,13 +104,13 @@ module _ (h : Here) where
   nodes_sound (n ∷ ns) c = sound_append (defined_by n) (flat_map defined_by ns) (node_sound n c.0) (nodes_sound ns c.1)
 
   -- The names of parameters, PROCs and refinements denote no types.
-  named_sound : (ns : List Name) → AllSound (flat_map names.other ns)
+  named_sound : (ns : List Name) → AllSound (flat_map definitions.other ns)
   named_sound [] = tt
   named_sound (n ∷ ns) = (tt, named_sound ns)
 
   parameters_sound : (fs : List Formal) → AllSound (parameter_definitions fs)
   parameters_sound [] = tt
-  parameters_sound (f ∷ fs) = sound_append (flat_map names.other f.names) (parameter_definitions fs) (named_sound f.names) (parameters_sound fs)
+  parameters_sound (f ∷ fs) = sound_append (flat_map definitions.other f.names) (parameter_definitions fs) (named_sound f.names) (parameters_sound fs)
 
   refinements_sound : (rs : List Refinement) → Clean (nodes.refinements rs) → AllSound (refinement_definitions rs)
   refinements_sound [] c = tt

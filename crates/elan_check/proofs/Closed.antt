@@ -4,24 +4,24 @@ use Rattle.std.specs.Prelude.{nat_eq, option_map, slice_get}
 use Rattle.elan_types.specs.declared.core_phrase.Exit.{Exit}
 use Rattle.std.specs.Option.{option_or, option_map_or}
 use Rattle.std.specs.Str.{bytes_eq}
-use Rattle.elan_scope.specs.declared.scope.Denotes.{Denotes}
-use Rattle.elan_scope.specs.declared.scope.Denotes.TheVariants as denotes
-use Rattle.elan_scope.specs.declared.scope.Entry.{Entry}
+use Rattle.elan_names.specs.declared.entry.Denotes.{Denotes}
+use Rattle.elan_names.specs.declared.entry.Denotes.TheVariants as denotes
+use Rattle.elan_names.specs.declared.entry.Entry.{Entry}
 use Rattle.elan_scope.specs.declared.scope.Scope.{Scope}
 use Rattle.elan_scope.specs.declared.scope.Within.{Within}
 use Rattle.elan_scope.specs.declared.scope.Home.{Home}
 use Rattle.elan_scope.specs.declared.scope.Home.TheVariants.{Level as of_level, Routine as of_routine}
-use Rattle.elan_scope.specs.declared.type_name.TypeName.{TypeName}
-use Rattle.elan_scope.specs.declared.type_name.Named.{Named}
-use Rattle.elan_scope.specs.declared.type_name.Named.TheVariants.{Of, Size, Other}
-use Rattle.elan_scope.specs.Types.{is_open_named}
+use Rattle.elan_names.specs.declared.type_name.TypeName.{TypeName}
+use Rattle.elan_names.specs.declared.type_name.Named.{Named}
+use Rattle.elan_names.specs.declared.type_name.Named.TheVariants.{Of, Size, Other}
+use Rattle.elan_names.specs.Types.{is_open_named}
 use Rattle.type_names.specs.Types.{look}
-use Rattle.elan_scope.specs.declared.heading.Sort.{Sort}
-use Rattle.elan_scope.specs.declared.heading.Sort.TheVariants.{Procedure, Operator}
-use Rattle.elan_scope.specs.declared.heading.What.{What}
-use Rattle.elan_scope.specs.declared.heading.What.TheVariants.{Routine, Refinement}
-use Rattle.elan_scope.specs.declared.heading.Heading.{Heading}
-use Rattle.elan_scope.specs.Names.{first_from, cells_held}
+use Rattle.elan_names.specs.declared.heading.Sort.{Sort}
+use Rattle.elan_names.specs.declared.heading.Sort.TheVariants.{Procedure, Operator}
+use Rattle.elan_names.specs.declared.heading.What.{What}
+use Rattle.elan_names.specs.declared.heading.What.TheVariants.{Routine, Refinement}
+use Rattle.elan_names.specs.declared.heading.Heading.{Heading}
+use Rattle.elan_names.specs.Names.{first_from, cells_held}
 use Rattle.elan_scope.specs.Scope as scope
 use Rattle.elan_scope.specs.Scope.{Found, Callable, first, found_in, first_named, from_inside, is_refinement, own_callable, own_callables, has_open, is_open_result, is_open_callable}
 use Rattle.elan_scope.specs.Phrase as form

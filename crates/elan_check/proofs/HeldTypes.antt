@@ -15,9 +15,9 @@ use Rattle.elan_tree.specs.declared.tree.LevelUnit.TheVariants as level
 use Rattle.elan_walk.specs.declared.node.Held.TheVariants.{Variable, Constant}
 use Rattle.elan_walk.specs.Nodes as nodes
 use Rattle.elan_walk.specs.Nodes.{Node, alone, other, sign, of_type, item, let_name, abbreviation, new_type, unbuilt}
-use Rattle.elan_scope.specs.declared.scope.Denotes.TheVariants as denotes
-use Rattle.elan_scope.specs.declared.scope.Entry.{Entry}
-use Rattle.elan_scope.specs.declared.type_name.TypeName.{TypeName}
+use Rattle.elan_names.specs.declared.entry.Denotes.TheVariants as denotes
+use Rattle.elan_names.specs.declared.entry.Entry.{Entry}
+use Rattle.elan_names.specs.declared.type_name.TypeName.{TypeName}
 use Rattle.elan_scope.specs.Scope.{all_held}
 use Rattle.type_names.specs.Types.{type_in, level_definitions, level_types, body_definitions, body_types}
 use Rattle.type_names.proofs.Sized.{SizedNames, type_sized, none_sized, names_sized, seen_sized}

@@ -28,7 +28,7 @@ use elan_levels::heading::{first_refinement, headings, number_behind};
 use elan_meant::meant::Meant;
 use elan_meant::row::{Judged, Row};
 use elan_meant::together::{let_go, none, one, with};
-use elan_scope::heading::Sort;
+use elan_names::heading::Sort;
 use elan_scope::known::Known;
 use elan_scope::scope::Scope;
 use elan_scope::trouble::Trouble;

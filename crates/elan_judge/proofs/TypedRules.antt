@@ -4,11 +4,11 @@ use Rattle.elan_meant.specs.declared.meant.Meant.{Meant}
 use Rattle.elan_scope.specs.Ruled.{Ruled, gives}
 use Rattle.elan_meant.specs.Verdict.{Verdict, told}
 use Rattle.std.specs.Prelude.{nat_eq}
-use Rattle.elan_scope.specs.declared.type_name.TypeName.{TypeName}
+use Rattle.elan_names.specs.declared.type_name.TypeName.{TypeName}
 use Rattle.elan_scope.specs.Scope as scope
 use Rattle.elan_scope.specs.declared.scope.Scope.{Scope}
 use Rattle.elan_scope.specs.declared.known.Known.{Known}
-use Rattle.elan_scope.specs.declared.heading.Sort.TheVariants.{Procedure, Operator}
+use Rattle.elan_names.specs.declared.heading.Sort.TheVariants.{Procedure, Operator}
 use Rattle.elan_scope.specs.Scope.{Callable}
 use Rattle.elan_meant.specs.Operands.{chosen, becomes}
 use Rattle.elan_scope.specs.Phrase as form

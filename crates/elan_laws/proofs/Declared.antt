@@ -36,8 +36,8 @@ use Rattle.elan_scope.specs.declared.scope.Usage.TheVariants.{Counter as Counts}
 use Rattle.elan_levels.specs.Declarations as d
 use Rattle.type_names.specs.Types.{defined_by}
 use Rattle.type_definitions.specs.declared.definition.Definition.{Definition}
-use Rattle.elan_scope.specs.declared.type_name.TypeName.{TypeName}
-use Rattle.elan_scope.specs.declared.scope.Entry.{Entry}
+use Rattle.elan_names.specs.declared.type_name.TypeName.{TypeName}
+use Rattle.elan_names.specs.declared.entry.Entry.{Entry}
 use Rattle.elan_scope.specs.Scope.{find, find_own, find_own_type}
 use Rattle.elan_laws.specs.Served.{HasOdd, HasBody, AreServed, AllServed}
 

@@ -21,25 +21,25 @@ use Rattle.elan_types.specs.declared.core_phrase.ValuePhrase.{ValuePhrase}
 use Rattle.elan_types.specs.declared.core_phrase.Exit.{Exit}
 use Rattle.elan_scope.specs.declared.delivery.Delivery.{Delivery}
 use Rattle.elan_scope.specs.declared.delivery.Delivery.TheVariants.{Open, Nothing, Of}
-use Rattle.elan_scope.specs.declared.heading.Heading.{Heading}
-use Rattle.elan_scope.specs.declared.heading.Sort.{Sort}
-use Rattle.elan_scope.specs.declared.heading.Sort.TheVariants.{Procedure, Operator}
+use Rattle.elan_names.specs.declared.heading.Heading.{Heading}
+use Rattle.elan_names.specs.declared.heading.Sort.{Sort}
+use Rattle.elan_names.specs.declared.heading.Sort.TheVariants.{Procedure, Operator}
 use Rattle.elan_scope.specs.declared.scope.Scope.{Scope}
 use Rattle.elan_scope.specs.Scope.{Found}
 use Rattle.elan_scope.specs.declared.scope.Home.{Home}
-use Rattle.elan_scope.specs.declared.denoter.Denoter.{Denoter}
-use Rattle.elan_scope.specs.declared.denoter.Denoter.TheVariants as denoters
-use Rattle.elan_scope.specs.declared.scope.Denotes.{Denotes}
-use Rattle.elan_scope.specs.declared.scope.Denotes.TheVariants as denotes
+use Rattle.elan_names.specs.declared.denoter.Denoter.{Denoter}
+use Rattle.elan_names.specs.declared.denoter.Denoter.TheVariants as denoters
+use Rattle.elan_names.specs.declared.entry.Denotes.{Denotes}
+use Rattle.elan_names.specs.declared.entry.Denotes.TheVariants as denotes
 use Rattle.elan_scope.specs.declared.scope.Usage.{Usage}
 use Rattle.elan_scope.specs.declared.scope.Usage.TheVariants.{Expression, Counter}
 use Rattle.elan_scope.specs.declared.known.Known.{Known}
-use Rattle.elan_scope.specs.Callees.{Callee}
-use Rattle.elan_scope.specs.Callees.{Predefined, Body}
-use Rattle.elan_scope.specs.declared.predefined.Predefined.TheVariants.{Operation, Change, Request, ErrorStop}
+use Rattle.elan_names.specs.Callees.{Callee}
+use Rattle.elan_names.specs.Callees.{Predefined, Body}
+use Rattle.elan_names.specs.declared.predefined.Predefined.TheVariants.{Operation, Change, Request, ErrorStop}
 use Rattle.elan_scope.specs.Known.{leads_back, delivery_at}
 use Rattle.std.specs.Prelude.{◌||◌, is_some}
-use Rattle.elan_scope.specs.declared.type_name.TypeName.{TypeName}
+use Rattle.elan_names.specs.declared.type_name.TypeName.{TypeName}
 use Rattle.elan_scope.specs.Scope.{Callable, number_named, find, find_own, find_own_type, is_known, has_open, is_alike, left, first_heading}
 use Rattle.elan_scope.specs.Scope.{types_of, refinement_named}
 use Rattle.elan_scope.specs.Phrase as form

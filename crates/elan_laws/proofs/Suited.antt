@@ -9,16 +9,16 @@ use Rattle.elan_types.specs.declared.core_phrase.ValuePhrase.TheVariants as valu
 use Rattle.eu_base.specs.declared.operation.Change.{Change as Changed}
 use Rattle.eu_base.specs.Operations.{change_kind}
 use Rattle.elan_types.specs.Types.{type_in, shape_in, held_const, held_var}
-use Rattle.elan_scope.specs.declared.heading.Sort.{Sort}
-use Rattle.elan_scope.specs.declared.heading.What.{What}
-use Rattle.elan_scope.specs.declared.heading.What.TheVariants.{Routine, Refinement}
-use Rattle.elan_scope.specs.declared.heading.Heading.{Heading}
+use Rattle.elan_names.specs.declared.heading.Sort.{Sort}
+use Rattle.elan_names.specs.declared.heading.What.{What}
+use Rattle.elan_names.specs.declared.heading.What.TheVariants.{Routine, Refinement}
+use Rattle.elan_names.specs.declared.heading.Heading.{Heading}
 use Rattle.elan_scope.specs.declared.scope.Scope.{Scope}
 use Rattle.elan_scope.specs.declared.scope.Within.{Within}
-use Rattle.elan_scope.specs.Callees.{Predefined}
-use Rattle.elan_scope.specs.declared.predefined.Predefined.{Predefined as Name}
-use Rattle.elan_scope.specs.declared.predefined.Predefined.TheVariants.{Operation, Change, Request, ErrorStop}
-use Rattle.elan_scope.specs.Predefined.{Row, predefined, parameters, result}
+use Rattle.elan_names.specs.Callees.{Predefined}
+use Rattle.elan_names.specs.declared.predefined.Predefined.{Predefined as Name}
+use Rattle.elan_names.specs.declared.predefined.Predefined.TheVariants.{Operation, Change, Request, ErrorStop}
+use Rattle.elan_names.specs.Predefined.{Row, predefined, parameters, result}
 use Rattle.elan_scope.specs.Scope.{Callable, Layer, own_callable, own_callables, predefined_callable}
 use Rattle.std.specs.Option.{option_or}
 use Rattle.elan_scope.specs.Scope.{first, first_in, called_by, is_called}

@@ -30,9 +30,9 @@ use Rattle.elan_walk.specs.Nodes.{Node, alone, other, sign, of_type, item, let_n
 use Rattle.elan_unbuilt.specs.Names.{is_not_built}
 use Rattle.elan_unbuilt.specs.NotBuilt as built
 use Rattle.elan_unbuilt.specs.Types.{is_type_built, is_field_built, is_size_built, are_names_built, built_step, field_built_step}
-use Rattle.elan_scope.specs.declared.type_name.TypeName.{TypeName}
-use Rattle.elan_scope.specs.declared.type_name.Named.{Named}
-use Rattle.elan_scope.specs.declared.type_name.Named.TheVariants as named
+use Rattle.elan_names.specs.declared.type_name.TypeName.{TypeName}
+use Rattle.elan_names.specs.declared.type_name.Named.{Named}
+use Rattle.elan_names.specs.declared.type_name.Named.TheVariants as named
 use Rattle.elan_scope.specs.Ruled.{Fault}
 use Rattle.type_definitions.specs.declared.definition.Definition.{Definition}
 use Rattle.type_names.specs.Types.{first_from, names_of, body_definitions, level_definitions, look, size_in, size_of, is_broken}

@@ -3,9 +3,9 @@ use Rattle.std.specs.Prelude.{◌≡◌, ℕ, Option, Some, None, slice_get}
 use Rattle.elan_tree.specs.declared.tree.Tree.{Tree}
 use Rattle.elan_scope.specs.declared.delivery.Delivery.{Delivery}
 use Rattle.elan_scope.specs.declared.delivery.Delivery.TheVariants.{Nothing}
-use Rattle.elan_scope.specs.declared.heading.What.{What}
-use Rattle.elan_scope.specs.declared.heading.What.TheVariants.{Routine, Refinement}
-use Rattle.elan_scope.specs.declared.heading.Heading.{Heading}
+use Rattle.elan_names.specs.declared.heading.What.{What}
+use Rattle.elan_names.specs.declared.heading.What.TheVariants.{Routine, Refinement}
+use Rattle.elan_names.specs.declared.heading.Heading.{Heading}
 use Rattle.elan_scope.specs.declared.known.Known.{Known}
 use Rattle.elan_scope.specs.Known.{delivered, delivery_at}
 use Rattle.elan_scope.specs.Phrase.{Phrase}

@@ -3,7 +3,7 @@
 ghost use Rattle.std.specs.Prelude.{◌≡◌, ℕ, List, Some};
 ghost use Rattle.elan_tree.specs.declared.tree.Tree.{Tree};
 ghost use Rattle.elan_types.specs.declared.core_phrase.Actual.{Actual};
-ghost use Rattle.elan_scope.specs.declared.heading.Sort.{Sort};
+ghost use Rattle.elan_names.specs.declared.heading.Sort.{Sort};
 ghost use Rattle.elan_scope.specs.declared.scope.Scope.{Scope};
 ghost use Rattle.elan_scope.specs.Scope.{Callable};
 ghost use Rattle.elan_meant.specs.declared.meant.Meant.{Meant};

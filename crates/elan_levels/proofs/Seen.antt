@@ -4,7 +4,7 @@ use Rattle.std.specs.Prelude.{flat_map}
 use Rattle.std.proofs.lemmas.List.{append-nil}
 use Rattle.elan_walk.specs.Nodes.{Node}
 use Rattle.elan_walk.specs.Walk.{went}
-use Rattle.elan_scope.specs.declared.scope.Entry.{Entry}
+use Rattle.elan_names.specs.declared.entry.Entry.{Entry}
 use Rattle.elan_levels.specs.declared.declare.Names.{Names}
 use Rattle.elan_levels.specs.declared.uses.Called.{Called}
 use Rattle.elan_levels.specs.walks.Seen.{visible, with_entries, with_numbers}

@@ -6,14 +6,14 @@ use Rattle.elan_tree.specs.declared.written_type.Constant.TheVariants as written
 use Rattle.elan_tree.specs.declared.phrase.Unit.{Unit as Statement}
 use Rattle.elan_walk.specs.declared.node.Held.TheVariants as held
 use Rattle.type_names.specs.Types.{type_in}
-use Rattle.elan_scope.specs.declared.type_name.TypeName.{TypeName}
+use Rattle.elan_names.specs.declared.type_name.TypeName.{TypeName}
 use Rattle.elan_walk.specs.Nodes as nodes
 use Rattle.elan_walk.specs.Nodes.{Node, item, let_name}
-use Rattle.elan_scope.specs.declared.denoter.Denoter.{Denoter}
-use Rattle.elan_scope.specs.declared.denoter.Denoter.TheVariants as denoters
-use Rattle.elan_scope.specs.declared.scope.Denotes.{Denotes}
-use Rattle.elan_scope.specs.declared.scope.Denotes.TheVariants.{Variable, Constant, Denoter as Given}
-use Rattle.elan_scope.specs.declared.scope.Entry.{Entry}
+use Rattle.elan_names.specs.declared.denoter.Denoter.{Denoter}
+use Rattle.elan_names.specs.declared.denoter.Denoter.TheVariants as denoters
+use Rattle.elan_names.specs.declared.entry.Denotes.{Denotes}
+use Rattle.elan_names.specs.declared.entry.Denotes.TheVariants.{Variable, Constant, Denoter as Given}
+use Rattle.elan_names.specs.declared.entry.Entry.{Entry}
 
 abbrev pub entry : Name → Denotes → List Entry
 entry n d = record { at = n.at; name = n.text; denotes = d } ∷ []

@@ -3,7 +3,7 @@
 ghost use Rattle.std.specs.Prelude.{◌≡◌, ◌++◌, flat_map, IfOk, OnOk};
 ghost use Rattle.eu_base.specs.Shapes.{cell_kinds};
 ghost use Rattle.elan_types.specs.Types.{shape_in};
-ghost use Rattle.elan_scope.specs.declared.scope.Denotes.TheVariants as denote;
+ghost use Rattle.elan_names.specs.declared.entry.Denotes.TheVariants as denote;
 ghost use Rattle.elan_scope.specs.Scope as scopes;
 ghost use Rattle.elan_levels.specs.Bodies as spec;
 ghost use Rattle.elan_levels.specs.walks.Seen.{visible, Adds};
@@ -11,9 +11,10 @@ ghost use Rattle.type_names.specs.Types as types;
 
 use crate::declare::Names;
 use cell_kinds::CellKinds;
-use elan_scope::directory::Directory;
-use elan_scope::scope::{Denotes, Entry, Within};
-use elan_scope::type_directory::TypeDirectory;
+use elan_names::directory::Directory;
+use elan_names::entry::{Denotes, Entry};
+use elan_names::type_directory::TypeDirectory;
+use elan_scope::scope::Within;
 use elan_tree::{Access as Given, Body, Formal, Level, LevelUnit, Name, Refinement};
 use elan_types::{Access, ElanType, Parameter};
 use eu_base::{List, NoMemory};
@@ -182,7 +183,11 @@ fn all_unit_names<'a>(mut out: Names<'a>, units: &[LevelUnit]) -> Names<'a>
 }
 
 /// The names of a level that declares these types: what its units declare, and its refinements.
-pub fn level_names(alloc: Global, types: &TypeDirectory, level: &Level) -> Result<Directory, NoMemory>
+pub fn level_names(
+    alloc: Global,
+    types: &TypeDirectory,
+    level: &Level,
+) -> Result<Directory, NoMemory>
     ensures { IfOk result (λ names. names ≡ spec.names_in types.now level.now) }
 {
     let none = TypeDirectory::new(alloc);

@@ -1,12 +1,12 @@
 //! The declarations of a text, in text order.
 
 ghost use Rattle.std.specs.Prelude.{◌≡◌, false, IfOk, OnOk};
-ghost use Rattle.elan_scope.specs.declared.scope.Denotes.TheVariants as denote;
+ghost use Rattle.elan_names.specs.declared.entry.Denotes.TheVariants as denote;
 ghost use Rattle.elan_levels.specs.Declarations as spec;
 
-use elan_scope::denoter::Denoter;
-use elan_scope::scope::{Denotes, Entry};
-use elan_scope::type_directory::TypeDirectory;
+use elan_names::denoter::Denoter;
+use elan_names::entry::{Denotes, Entry};
+use elan_names::type_directory::TypeDirectory;
 use elan_tree::{Constant, Name, TypePhrase, Unit};
 use elan_types::Parameter;
 use elan_walk::{Held, Node, Visitor, visit_unit, visit_units};

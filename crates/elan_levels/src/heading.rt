@@ -5,9 +5,9 @@ ghost use Rattle.elan_levels.specs.Bodies as spec;
 ghost use Rattle.elan_levels.specs.walks.Headings as walks;
 
 use crate::bodies::parameters;
-use elan_scope::heading::{Heading, Sort, What};
-use elan_scope::headings::Headings;
-use elan_scope::type_directory::TypeDirectory;
+use elan_names::heading::{Heading, Sort, What};
+use elan_names::headings::Headings;
+use elan_names::type_directory::TypeDirectory;
 use elan_tree::{Formal, Level, LevelUnit, Refinement, TypePhrase};
 use elan_types::ElanType;
 use elan_unbuilt::operator_text;

@@ -2,16 +2,16 @@
 
 ghost use Rattle.std.specs.Prelude.{◌≡◌, map, option_map};
 ghost use Rattle.elan_types.specs.Types.{type_in};
-ghost use Rattle.elan_scope.specs.Predefined.{predefined};
+ghost use Rattle.elan_names.specs.Predefined.{predefined};
 ghost use Rattle.elan_scope.specs.Scope as scopes;
-ghost use Rattle.elan_scope.specs.walks.Seen as seen;
+ghost use Rattle.elan_names.specs.walks.Seen as seen;
 ghost use Rattle.elan_meant.specs.Operands as spec;
 
 use crate::meant::Meant;
-use elan_scope::callable::{Callable, Parameters, predefined_callable};
-use elan_scope::heading::Sort;
-use elan_scope::headings::Headings;
-use elan_scope::predefined::rows;
+use elan_names::callable::{Callable, Parameters, predefined_callable};
+use elan_names::heading::Sort;
+use elan_names::headings::Headings;
+use elan_names::predefined::rows;
 use elan_scope::scope::Scope;
 use elan_types::ElanType;
 use eu_base::Kind;
@@ -89,7 +89,7 @@ fn chosen_own<'a>(
     ensures { option_map seen.callable result ≡ scopes.first (spec.takes sort name.now operands.now) (scopes.own_callables 0 headings.now) }
 {
     for number in headings.named(name) {
-        let callable = if_takes(headings.callable_at(*number), sort, name, operands);
+        let callable = if_takes(headings.callable_at(0, *number), sort, name, operands);
         if callable.is_some() {
             return callable;
         }
@@ -126,7 +126,7 @@ fn open_own<'a>(
     ensures { option_map seen.callable result ≡ scopes.first (spec.may_take sort name.now operands.now) (scopes.own_callables 0 headings.now) }
 {
     for number in headings.named(name) {
-        let callable = if_may_take(headings.callable_at(*number), sort, name, operands);
+        let callable = if_may_take(headings.callable_at(0, *number), sort, name, operands);
         if callable.is_some() {
             return callable;
         }

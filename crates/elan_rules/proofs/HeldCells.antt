@@ -15,8 +15,8 @@ use Rattle.elan_types.specs.declared.elan_type.Parameter.{Parameter}
 use Rattle.elan_types.specs.Types.{shape_in, formal_of}
 use Rattle.elan_types.specs.Typing.{Held, OfKind, OfPlace, held_as, cells_of, values_held, place_held, starts}
 use Rattle.elan_types.proofs.Sized.{is_sized, is_sized_type, sized_has_cell, begins_self, begins_first, begins_starts}
-use Rattle.elan_scope.specs.declared.scope.Entry.{Entry}
-use Rattle.elan_scope.specs.Names.{held, cells_held, first_from, first_named}
+use Rattle.elan_names.specs.declared.entry.Entry.{Entry}
+use Rattle.elan_names.specs.Names.{held, cells_held, first_from, first_named}
 use Rattle.elan_scope.specs.Scope.{all_held, types_of}
 
 -- ---- what names hold

@@ -3,9 +3,9 @@ use Rattle.std.proofs.Common.{◌≡◌, ℕ, Bool, true, false, if◌then◌els
 use Rattle.elan_types.specs.declared.why.Why.TheVariants.{WrongPlace}
 use Rattle.elan_scope.specs.declared.delivery.Delivery.{Delivery}
 use Rattle.elan_scope.specs.declared.delivery.Delivery.TheVariants.{Open, Nothing, Of}
-use Rattle.elan_scope.specs.declared.scope.Denotes.{Denotes}
-use Rattle.elan_scope.specs.declared.scope.Denotes.TheVariants as denotes
-use Rattle.elan_scope.specs.declared.heading.Sort.TheVariants.{Procedure}
+use Rattle.elan_names.specs.declared.entry.Denotes.{Denotes}
+use Rattle.elan_names.specs.declared.entry.Denotes.TheVariants as denotes
+use Rattle.elan_names.specs.declared.heading.Sort.TheVariants.{Procedure}
 use Rattle.elan_scope.specs.declared.scope.Usage.{Usage}
 use Rattle.elan_scope.specs.declared.scope.Usage.TheVariants as usage
 use Rattle.elan_scope.specs.declared.scope.Scope.{Scope}

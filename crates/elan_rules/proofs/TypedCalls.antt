@@ -31,14 +31,14 @@ use Rattle.elan_types.specs.Typing.{owner as owner_in}
 use Rattle.elan_types.proofs.Shapes.{same_shape_self}
 use Rattle.elan_scope.specs.declared.delivery.Delivery.{Delivery}
 use Rattle.elan_scope.specs.declared.delivery.Delivery.TheVariants.{Open, Nothing, Of}
-use Rattle.elan_scope.specs.declared.scope.Denotes.{Denotes}
-use Rattle.elan_scope.specs.declared.scope.Denotes.TheVariants as denotes
-use Rattle.elan_scope.specs.declared.scope.Entry.{Entry}
-use Rattle.elan_scope.specs.declared.heading.Sort.{Sort}
-use Rattle.elan_scope.specs.declared.heading.Sort.TheVariants.{Procedure}
-use Rattle.elan_scope.specs.declared.heading.What.{What}
-use Rattle.elan_scope.specs.declared.heading.What.TheVariants.{Routine, Refinement}
-use Rattle.elan_scope.specs.declared.heading.Heading.{Heading}
+use Rattle.elan_names.specs.declared.entry.Denotes.{Denotes}
+use Rattle.elan_names.specs.declared.entry.Denotes.TheVariants as denotes
+use Rattle.elan_names.specs.declared.entry.Entry.{Entry}
+use Rattle.elan_names.specs.declared.heading.Sort.{Sort}
+use Rattle.elan_names.specs.declared.heading.Sort.TheVariants.{Procedure}
+use Rattle.elan_names.specs.declared.heading.What.{What}
+use Rattle.elan_names.specs.declared.heading.What.TheVariants.{Routine, Refinement}
+use Rattle.elan_names.specs.declared.heading.Heading.{Heading}
 use Rattle.elan_scope.specs.Scope as scope
 use Rattle.std.specs.Option.{option_or}
 use Rattle.elan_scope.specs.Scope.{Callable, number_of, held, all_held, types_of, variables_of}
@@ -49,9 +49,9 @@ use Rattle.elan_scope.specs.Scope.{Found}
 use Rattle.elan_scope.specs.declared.scope.Home.TheVariants.{Level as of_level, Routine as of_routine}
 use Rattle.elan_scope.specs.Known.{delivery_at, leads_back}
 use Rattle.elan_scope.specs.declared.known.Known.{Known}
-use Rattle.elan_scope.specs.Predefined.{predefined}
+use Rattle.elan_names.specs.Predefined.{predefined}
 use Rattle.elan_scope.proofs.Layers.{called_as, layers_in, outer_layers}
-use Rattle.elan_scope.proofs.Named.{first_heading_from}
+use Rattle.elan_names.proofs.Named.{first_heading_from}
 use Rattle.elan_meant.specs.Operands.{delivers, takes, chosen}
 use Rattle.eu_base.specs.Shapes.{cell_kinds}
 use Rattle.elan_types.specs.declared.core_phrase.PlacePhrase.TheVariants as place

@@ -23,9 +23,9 @@ use Rattle.elan_types.specs.Typing.{result_of_content, delivered_by, scope_of, i
 use Rattle.elan_types.specs.Types.{shape_in, type_in, formal_of, held_var, values_of}
 use Rattle.elan_scope.specs.declared.delivery.Delivery.{Delivery}
 use Rattle.elan_scope.specs.declared.delivery.Delivery.TheVariants.{Open, Nothing, Of}
-use Rattle.elan_scope.specs.declared.heading.What.{What}
-use Rattle.elan_scope.specs.declared.heading.What.TheVariants.{Routine, Refinement}
-use Rattle.elan_scope.specs.declared.heading.Heading.{Heading}
+use Rattle.elan_names.specs.declared.heading.What.{What}
+use Rattle.elan_names.specs.declared.heading.What.TheVariants.{Routine, Refinement}
+use Rattle.elan_names.specs.declared.heading.Heading.{Heading}
 use Rattle.elan_scope.specs.Scope as scope
 use Rattle.std.specs.Option.{option_or}
 use Rattle.elan_scope.specs.Scope.{Callable}
@@ -35,11 +35,11 @@ use Rattle.eu_base.specs.declared.shape.Shape.TheVariants.{Cell}
 use Rattle.eu_base.specs.Shapes.{cell_kinds, same_shape}
 use Rattle.eu_base.specs.Operations.{operand_kinds, result_kind, change_kind}
 use Rattle.eu_base.specs.Requests.{request_kinds, request_places}
-use Rattle.elan_scope.specs.Callees.{Callee}
-use Rattle.elan_scope.specs.Callees as Callees
-use Rattle.elan_scope.specs.declared.predefined.Predefined.{Predefined}
-use Rattle.elan_scope.specs.declared.predefined.Predefined.TheVariants.{Operation, Change, Request, ErrorStop}
-use Rattle.elan_scope.specs.Predefined.{Row, parameters, result}
+use Rattle.elan_names.specs.Callees.{Callee}
+use Rattle.elan_names.specs.Callees as Callees
+use Rattle.elan_names.specs.declared.predefined.Predefined.{Predefined}
+use Rattle.elan_names.specs.declared.predefined.Predefined.TheVariants.{Operation, Change, Request, ErrorStop}
+use Rattle.elan_names.specs.Predefined.{Row, parameters, result}
 use Rattle.elan_meant.specs.Operands.{delivers, fit}
 use Rattle.elan_types.proofs.Shapes.{same_shape_self, same_shape_is}
 use Rattle.elan_rules.proofs.Typed as ty

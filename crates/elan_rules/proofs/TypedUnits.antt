@@ -20,8 +20,8 @@ use Rattle.elan_meant.specs.declared.meant.Meant.{Meant}
 use Rattle.elan_meant.specs.declared.meant.Meant.TheVariants.{Absent, Variable, Value, Done, Left, Labels, Bodies, Level}
 use Rattle.elan_types.specs.Typing.{is_content_typed, starts, if_true, item_kinds, has_part}
 use Rattle.eu_base.specs.Operations.{in_range}
-use Rattle.elan_scope.specs.declared.denoter.Denoter.{Denoter}
-use Rattle.elan_scope.specs.declared.denoter.Denoter.TheVariants as denoters
+use Rattle.elan_names.specs.declared.denoter.Denoter.{Denoter}
+use Rattle.elan_names.specs.declared.denoter.Denoter.TheVariants as denoters
 use Rattle.elan_meant.specs.Operands.{delivers}
 use Rattle.elan_rules.proofs.Typed as ty
 use Rattle.elan_rules.proofs.Typed.{same_type_is, has_self, agree_self, only_if_holds, both, and_true, Gives, on_if, on_bind}

@@ -3,7 +3,7 @@ pub use Rattle.elan_scope.specs.Phrase
 pub use Rattle.elan_scope.specs.Ruled
 pub use Rattle.elan_scope.specs.Known
 pub use Rattle.elan_scope.specs.Answer
-pub use Rattle.elan_scope.specs.Predefined
+pub use Rattle.elan_names.specs.Predefined
 pub use Rattle.elan_meant.specs.Operands
 pub use Rattle.elan_meant.specs.Parts
 pub use Rattle.value_rules.specs.Calls

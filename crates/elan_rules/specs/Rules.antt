@@ -12,7 +12,7 @@ use Rattle.elan_meant.specs.Operands.{chosen, is_unclear, becomes}
 use Rattle.elan_scope.specs.declared.known.Known.{Known}
 use Rattle.elan_meant.specs.Parts.{nth, unit_of, actions_of}
 use Rattle.elan_scope.specs.declared.scope.Scope.{Scope}
-use Rattle.elan_scope.specs.declared.heading.Sort.TheVariants.{Procedure, Operator}
+use Rattle.elan_names.specs.declared.heading.Sort.TheVariants.{Procedure, Operator}
 use Rattle.value_rules.specs.Calls.{named, applied, called, declared, heading, leaving}
 use Rattle.value_rules.specs.Calls.{type_declared, leaves_open, is_open_name, declares_open, is_open_type, heading_open}
 use Rattle.unit_rules.specs.Units.{assigned, initial, in_order, alone, without_value, must_deliver, body_with, content_as, content_of, bodies_in}

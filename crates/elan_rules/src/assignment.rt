@@ -2,7 +2,7 @@
 
 ghost use Rattle.elan_rules.specs.Rules as spec;
 ghost use Rattle.std.specs.Prelude.{[], ◌∷◌};
-ghost use Rattle.elan_scope.specs.declared.heading.Sort.TheVariants as sorts;
+ghost use Rattle.elan_names.specs.declared.heading.Sort.TheVariants as sorts;
 ghost use Rattle.elan_scope.specs.Answer.{Is};
 ghost use Rattle.elan_meant.specs.Operands.{becomes, is_unclear};
 ghost use Rattle.elan_meant.specs.Verdict.{told, unless};
@@ -11,7 +11,7 @@ use elan_meant::meant::Meant;
 use elan_meant::operands::{chosen, is_unclear};
 use elan_meant::row::Judged;
 use elan_meant::together::{listed, two_of};
-use elan_scope::heading::Sort;
+use elan_names::heading::Sort;
 use elan_scope::scope::Scope;
 use elan_scope::trouble::Trouble;
 use std::alloc::Global;

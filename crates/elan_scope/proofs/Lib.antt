@@ -1,7 +1,1 @@
-pub mod Closed
 pub mod Layers
-pub mod Kept
-pub mod Ends
-pub mod Named
-pub mod Numbered
-pub mod Counted

@@ -1,7 +1,3 @@
-pub mod Types
-pub mod Predefined
-pub mod Names
-pub mod Callees
 pub mod Scope
 pub mod Phrase
 pub mod Ruled

@@ -4,7 +4,7 @@ use Rattle.eu_base.specs.declared.operation.Way.{Way}
 use Rattle.elan_types.specs.declared.elan_type.ElanType.{ElanType}
 use Rattle.elan_types.specs.declared.elan_type.Parameter.{Parameter}
 use Rattle.elan_types.specs.declared.core_phrase.Scope.{Scope as Owner}
-use Rattle.elan_scope.specs.declared.heading.Sort.{Sort}
+use Rattle.elan_names.specs.declared.heading.Sort.{Sort}
 use Rattle.elan_scope.specs.declared.scope.Scope.{Scope}
 use Rattle.elan_scope.specs.declared.scope.Usage.{Usage}
 

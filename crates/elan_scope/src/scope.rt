@@ -1,16 +1,18 @@
 //! Where a phrase stands, and what names denote there.
 
-ghost use Rattle.std.specs.Prelude.{◌≡◌, ◌<◌, SomeIff, option_map, slice_get};
+ghost use Rattle.std.specs.Prelude.{◌≡◌, option_map, slice_get};
 ghost use Rattle.elan_scope.specs.Scope as spec;
 ghost use Rattle.elan_scope.specs.walks.Seen as seen;
 
-use crate::denoter::Denoter;
-use crate::directory::Directory;
-use crate::headings::Headings;
-use crate::type_directory::TypeDirectory;
-use crate::type_name::TypeName;
-use elan_types::{ElanType, Exit, Parameter};
-use eu_base::Bytes;
+use elan_names::callable::{is_own, is_predefined};
+use elan_names::denoter::Denoter;
+use elan_names::directory::Directory;
+use elan_names::entry::Denotes;
+use elan_names::heading::Sort;
+use elan_names::headings::Headings;
+use elan_names::type_directory::TypeDirectory;
+use elan_names::type_name::TypeName;
+use elan_types::Exit;
 
 /// What an identifier without actuals is used as.
 #[derive(Clone, Copy)]
@@ -18,50 +20,6 @@ pub enum Usage {
     Expression,
     /// The counter of a loop, which calls nothing.
     Counter,
-}
-
-/// What an identifier without actuals denotes.
-#[derive(Drop)]
-pub enum Denotes {
-    Variable(ElanType),
-    Constant(ElanType),
-    Parameter(Parameter),
-    /// A PROC without parameters.
-    Procedure,
-    Refinement,
-    /// What LET gives the name to.
-    Denoter(Denoter),
-}
-
-impl Denotes {
-    /// The number of cells of what it holds; `None` exactly where they are more than 65,535.
-    #[tactic(auto, using(crate::proofs::Counted::value_cells, crate::proofs::Counted::given_cells))]
-    pub fn cells(&self) -> Option<u16>
-        ensures { SomeIff result (spec.cells_held self.now < 65536) (spec.cells_held self.now) }
-    {
-        match self {
-            Denotes::Variable(of) | Denotes::Constant(of) => of.cells(),
-            Denotes::Parameter(parameter) => parameter.cells(),
-            Denotes::Procedure | Denotes::Refinement | Denotes::Denoter(_) => Some(0),
-        }
-    }
-
-    fn is_refinement(&self) -> bool
-        ensures { result ≡ spec.is_refinement self.now }
-    {
-        match self {
-            Denotes::Refinement => true,
-            _ => false,
-        }
-    }
-}
-
-/// A declaration: the place of its name, the name, and what it denotes.
-#[derive(Drop)]
-pub struct Entry {
-    pub at: u32,
-    pub name: Bytes,
-    pub denotes: Denotes,
 }
 
 /// A PROC or OP, by its number among the bodies of the level, with the names that it declares in text order.
@@ -257,5 +215,13 @@ impl Scope {
                 Some(number) => Some((self.exit(), number)),
             },
         }
+    }
+
+    /// Whether a name can be called with that number of operands.
+    #[tactic(auto, using(crate::proofs::Layers::known_by))]
+    pub fn is_known(&self, sort: Sort, name: &[u8], count: usize) -> bool
+        ensures { result ≡ spec.is_known self.now sort name.now count }
+    {
+        is_own(&self.headings, 0, sort, name, count) || is_predefined(sort, name, count)
     }
 }

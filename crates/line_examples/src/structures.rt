@@ -176,6 +176,16 @@ FEHLER : falsche Stelle (Zeile 1, Stelle 5)
 FEHLER : zu gross (Zeile 1, Stelle 14)
 > TYPE T = ROW n T; put (1); LET n = 2
 FEHLER : falsche Stelle (Zeile 1, Stelle 1)
+> LET A = B, B = C, C = STRUCT (INT a, b); A VAR x; C VAR y; y.b := 4; x := y; put (x.b)
+4 
+> LET A = STRUCT (B b, C c), B = ROW n C, C = D, n = 2, D = INT; A VAR x; x.b [2] := 3; x.c := x.b [2]; put (x.c)
+3 
+> LET T = U, U = V, V = T; put (1)
+FEHLER : falsche Stelle (Zeile 1, Stelle 5)
+> LET S = T, T = U, U = T; put (1)
+FEHLER : falsche Stelle (Zeile 1, Stelle 12)
+> LET U = T; LET T = INT, T = U; put (1)
+FEHLER : doppelt (Zeile 1, Stelle 25)
 > LET T = INT; PROC p: LET T = ROW 2 T; put (1) END PROC p; p
 FEHLER : falsche Stelle (Zeile 1, Stelle 26)
 > LET T = INT; PROC p: LET U = ROW 2 T, T = TEXT; U VAR x; x [2] := \"t\"; put (x [2]) END PROC p; p

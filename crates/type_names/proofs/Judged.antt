@@ -10,7 +10,7 @@ use Rattle.elan_tree.specs.declared.written_type.TypePhrase.TheOpen.{TypePhrase-
 use Rattle.elan_tree.specs.declared.written_type.TypePhrase.TheFolds.{ind-TypePhrase, map-TypePhrase, map-Field, fold-roll-TypePhrase, fold-roll-Field}
 use Rattle.elan_tree.specs.declared.written_type.Field.{Field}
 use Rattle.elan_tree.specs.declared.written_type.Name.{Name}
-use Rattle.elan_scope.specs.declared.type_name.TypeName.{TypeName}
+use Rattle.elan_names.specs.declared.type_name.TypeName.{TypeName}
 use Rattle.type_names.specs.Types.{look, meant, fields_meant, meant_step, fields_step, size_of, row_of, structure_of}
 use Rattle.type_names.specs.walks.Judged.{named_alike}
 use Rattle.type_names.specs.Faults.{Judged, JudgedFields, judged, judged_fields, judged_step, judged_fields_step}

@@ -3,8 +3,8 @@ use Rattle.std.proofs.Common.{◌≡◌, ℕ, Bool, true, false, if◌then◌els
 use Rattle.std.specs.Prelude.{option_map}
 use Rattle.std.specs.Option.{option_or}
 use Rattle.std.specs.Str.{bytes_eq}
-use Rattle.elan_scope.specs.declared.type_name.TypeName.{TypeName}
-use Rattle.elan_scope.specs.Types.{first_type}
+use Rattle.elan_names.specs.declared.type_name.TypeName.{TypeName}
+use Rattle.elan_names.specs.Types.{first_type}
 use Rattle.type_names.specs.Types.{look}
 
 pub look_append : (x : List ℕ) (ts us : List TypeName) → first_type x (ts ++ us) ≡ option_or (first_type x ts) (first_type x us)

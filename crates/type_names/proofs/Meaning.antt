@@ -25,9 +25,9 @@ use Rattle.elan_tree.specs.declared.written_type.TypePhrase.TheOpen.{TypePhrase-
 use Rattle.elan_tree.specs.declared.written_type.TypePhrase.TheViews.{roll-TypePhrase, roll-Field}
 use Rattle.elan_tree.specs.declared.written_type.TypePhrase.TheFolds.{ind-TypePhrase, map-TypePhrase, map-Field, fold-roll-TypePhrase, fold-roll-Field}
 use Rattle.elan_tree.specs.declared.written_type.Field.{Field}
-use Rattle.elan_scope.specs.declared.type_name.TypeName.{TypeName}
-use Rattle.elan_scope.specs.declared.type_name.Named.{Named}
-use Rattle.elan_scope.specs.declared.type_name.Named.TheVariants as named
+use Rattle.elan_names.specs.declared.type_name.TypeName.{TypeName}
+use Rattle.elan_names.specs.declared.type_name.Named.{Named}
+use Rattle.elan_names.specs.declared.type_name.Named.TheVariants as named
 use Rattle.elan_scope.specs.Ruled.{Fault}
 use Rattle.type_names.specs.Types.{size_in, size_named, size_of, or_open, row_of, any_doubled, is_broken, structure_of, type_named, meant, fields_meant}
 use Rattle.type_names.specs.Types.{meant_step, fields_step, look}

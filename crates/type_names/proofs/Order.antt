@@ -10,11 +10,11 @@ use Rattle.elan_types.specs.declared.elan_type.ElanType.TheVariants as types
 use Rattle.elan_types.specs.Types.{is_open}
 use Rattle.elan_types.proofs.Shapes.{both}
 use Rattle.elan_types.proofs.Types.{open_open, open_is}
-use Rattle.elan_scope.specs.declared.type_name.TypeName.{TypeName}
-use Rattle.elan_scope.specs.declared.type_name.Named.{Named}
-use Rattle.elan_scope.specs.declared.type_name.Named.TheVariants as named
-use Rattle.elan_scope.specs.Types.{first_type, is_open_named}
-use Rattle.elan_scope.specs.walks.Firsts.{first_at, type_names, denoting}
+use Rattle.elan_names.specs.declared.type_name.TypeName.{TypeName}
+use Rattle.elan_names.specs.declared.type_name.Named.{Named}
+use Rattle.elan_names.specs.declared.type_name.Named.TheVariants as named
+use Rattle.elan_names.specs.Types.{first_type, is_open_named}
+use Rattle.elan_names.specs.walks.Firsts.{first_at, type_names, denoting}
 use Rattle.type_definitions.specs.declared.definition.Defined.{Defined}
 use Rattle.type_definitions.specs.declared.definition.Defined.TheVariants as defined
 use Rattle.type_definitions.specs.declared.definition.Definition.{Definition}

@@ -5,9 +5,9 @@ use Rattle.std.specs.Prelude.{option_map, Result, Ok, Err, IfOk}
 use Rattle.std.specs.Option.{option_or}
 use Rattle.std.specs.Str.{bytes_eq}
 use Rattle.std.proofs.Math.Path.{fun_ext}
-use Rattle.elan_scope.specs.declared.type_name.TypeName.{TypeName}
-use Rattle.elan_scope.specs.declared.type_name.Named.{Named}
-use Rattle.elan_scope.specs.Types.{first_type}
+use Rattle.elan_names.specs.declared.type_name.TypeName.{TypeName}
+use Rattle.elan_names.specs.declared.type_name.Named.{Named}
+use Rattle.elan_names.specs.Types.{first_type}
 use Rattle.type_definitions.specs.declared.definition.Definition.{Definition}
 use Rattle.type_names.specs.Types.{look, first_from, as_defined, by_definition, denoted, type_name, names_from, names_of}
 use Rattle.type_names.specs.walks.Further.{read, read_again}

@@ -22,9 +22,9 @@ use Rattle.elan_tree.specs.declared.written_type.TypePhrase.TheOpen as phrase
 use Rattle.elan_tree.specs.declared.written_type.TypePhrase.TheOpen.{TypePhrase-F, Field-F}
 use Rattle.elan_tree.specs.declared.written_type.TypePhrase.TheFolds.{ind-TypePhrase, map-TypePhrase, map-Field, fold-roll-TypePhrase, fold-roll-Field}
 use Rattle.elan_tree.specs.declared.written_type.Field.{Field}
-use Rattle.elan_scope.specs.declared.type_name.TypeName.{TypeName}
-use Rattle.elan_scope.specs.declared.type_name.Named.{Named}
-use Rattle.elan_scope.specs.declared.type_name.Named.TheVariants as named
+use Rattle.elan_names.specs.declared.type_name.TypeName.{TypeName}
+use Rattle.elan_names.specs.declared.type_name.Named.{Named}
+use Rattle.elan_names.specs.declared.type_name.Named.TheVariants as named
 use Rattle.type_definitions.specs.declared.definition.Defined.{Defined}
 use Rattle.type_definitions.specs.declared.definition.Defined.TheVariants as defined
 use Rattle.type_definitions.specs.declared.definition.Definition.{Definition}

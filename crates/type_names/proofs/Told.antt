@@ -13,7 +13,7 @@ use Rattle.elan_tree.specs.declared.written_type.TypePhrase.TheVariants as type
 use Rattle.elan_tree.specs.declared.written_type.TypePhrase.TheOpen as phrase
 use Rattle.elan_tree.specs.declared.written_type.TypePhrase.TheFolds.{fold-roll-TypePhrase, fold-roll-Field}
 use Rattle.elan_tree.specs.declared.written_type.Field.{Field}
-use Rattle.elan_scope.specs.declared.type_name.TypeName.{TypeName}
+use Rattle.elan_names.specs.declared.type_name.TypeName.{TypeName}
 use Rattle.elan_scope.specs.Ruled.{Fault}
 use Rattle.type_names.specs.declared.judgement.Judged.{Judged as Told}
 use Rattle.type_names.specs.declared.judgement.Fields.{Fields}

@@ -26,11 +26,11 @@ use Rattle.elan_tree.specs.declared.tree.LevelUnit.{LevelUnit}
 use Rattle.elan_tree.specs.declared.tree.LevelUnit.TheVariants as level
 use Rattle.elan_walk.specs.Nodes as nodes
 use Rattle.elan_walk.specs.Nodes.{Node, of_type, item, abbreviation, new_type}
-use Rattle.elan_scope.specs.declared.heading.Sort.TheVariants.{Procedure}
-use Rattle.elan_scope.specs.declared.type_name.TypeName.{TypeName}
-use Rattle.elan_scope.specs.declared.type_name.Named.{Named}
-use Rattle.elan_scope.specs.declared.type_name.Named.TheVariants as named
-use Rattle.elan_scope.specs.Predefined.{predefined}
+use Rattle.elan_names.specs.declared.heading.Sort.TheVariants.{Procedure}
+use Rattle.elan_names.specs.declared.type_name.TypeName.{TypeName}
+use Rattle.elan_names.specs.declared.type_name.Named.{Named}
+use Rattle.elan_names.specs.declared.type_name.Named.TheVariants as named
+use Rattle.elan_names.specs.Predefined.{predefined}
 use Rattle.elan_scope.specs.Scope.{first, has_as_many, predefined_callable}
 use Rattle.elan_scope.specs.Ruled.{Fault}
 use Rattle.type_definitions.specs.declared.definition.Defined.{Defined}

@@ -17,10 +17,10 @@ use Rattle.elan_tree.specs.declared.written_type.Size.TheVariants as size
 use Rattle.elan_tree.specs.declared.written_type.Formal.{Formal}
 use Rattle.elan_tree.specs.declared.tree.Body.{Body}
 use Rattle.elan_tree.specs.declared.tree.Level.{Level}
-use Rattle.elan_scope.specs.declared.type_name.TypeName.{TypeName}
-use Rattle.elan_scope.specs.declared.type_name.Named.{Named}
-use Rattle.elan_scope.specs.declared.type_name.Named.TheVariants as named
-use Rattle.elan_scope.specs.Types.{first_type, type_of}
+use Rattle.elan_names.specs.declared.type_name.TypeName.{TypeName}
+use Rattle.elan_names.specs.declared.type_name.Named.{Named}
+use Rattle.elan_names.specs.declared.type_name.Named.TheVariants as named
+use Rattle.elan_names.specs.Types.{first_type, type_of}
 use Rattle.type_definitions.specs.declared.definition.Defined.{Defined}
 use Rattle.type_definitions.specs.declared.definition.Defined.TheVariants as defined
 use Rattle.type_definitions.specs.declared.definition.Definition.{Definition}

@@ -4,7 +4,7 @@ ghost use Rattle.std.specs.Prelude.{◌≡◌, ◌++◌, map, flat_map, IfOk, On
 ghost use Rattle.type_names.specs.Faults as spec;
 ghost use Rattle.type_names.specs.walks.Further as walk;
 
-use elan_scope::type_directory::TypeDirectory;
+use elan_names::type_directory::TypeDirectory;
 use elan_tree::{Field, TypePhrase};
 use eu_base::{List, NoMemory};
 use std::alloc::Global;

@@ -9,7 +9,7 @@ ghost use Rattle.type_names.specs.walks.Seen.{plainly, AreOf, Finds};
 
 use crate::scope_types::ScopeTypes;
 use crate::search::{Fault, Search};
-use elan_scope::type_directory::TypeDirectory;
+use elan_names::type_directory::TypeDirectory;
 use elan_tree::{Body, Formal, Level, LevelUnit, Refinement, TypePhrase, Unit};
 use elan_walk::{Node, Visitor, formals, refinements, result_type, visit_unit, visit_units};
 use eu_base::NoMemory;

@@ -10,7 +10,7 @@ ghost use Rattle.type_names.specs.walks.Seen.{earlier};
 ghost use Rattle.type_names.specs.walks.Judged.{texts, named_alike};
 
 use crate::visible::Fault;
-use elan_scope::heading::is_one;
+use elan_names::heading::is_one;
 use elan_tree::Name;
 use elan_types::{ElanType, FieldType, Why};
 use eu_base::{Bytes, List, NoMemory};

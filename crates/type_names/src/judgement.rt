@@ -8,7 +8,7 @@ ghost use Rattle.type_names.specs.walks.Judged.{told, told_fields};
 
 use crate::fields::{add_fields, any_doubled, any_open, earlier};
 use crate::visible::{Fault, Visible};
-use elan_scope::type_name::Named;
+use elan_names::type_name::Named;
 use elan_tree::{Field, Name, TypePhrase};
 use elan_types::{ElanType, FieldType, Why};
 use eu_base::{List, NoMemory, Shared};

@@ -1,7 +1,7 @@
 //! What names denote.
 
 ghost use Rattle.std.specs.Prelude.{◌≡◌, ℕ, ◌+◌, ◌++◌, length, IfOk, OnOk};
-ghost use Rattle.elan_scope.specs.Types.{is_open_named};
+ghost use Rattle.elan_names.specs.Types.{is_open_named};
 ghost use Rattle.type_names.specs.Faults as faults;
 ghost use Rattle.type_names.specs.Types as spec;
 ghost use Rattle.type_names.specs.walks.Further as walk;
@@ -9,8 +9,8 @@ ghost use Rattle.type_names.specs.walks.Further as walk;
 use crate::calls::calls;
 use crate::written::type_in;
 use call_graph::CallGraph;
-use elan_scope::type_directory::TypeDirectory;
-use elan_scope::type_name::{Named, TypeName};
+use elan_names::type_directory::TypeDirectory;
+use elan_names::type_name::{Named, TypeName};
 use elan_types::ElanType;
 use eu_base::{Bytes, List, NoMemory, Shared};
 use std::alloc::Global;

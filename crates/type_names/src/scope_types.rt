@@ -4,12 +4,12 @@ ghost use Rattle.std.specs.Prelude.{◌≡◌, option_map, IfOk};
 ghost use Rattle.type_names.specs.Faults as spec;
 ghost use Rattle.type_names.specs.Types.{first_from};
 ghost use Rattle.type_names.specs.walks.Further.{definition_names};
-ghost use Rattle.elan_scope.specs.walks.Firsts.{type_names};
+ghost use Rattle.elan_names.specs.walks.Firsts.{type_names};
 
 use crate::calls::numbers_named;
 use crate::resolve::{Resolution, resolve};
 use call_graph::CallGraph;
-use elan_scope::type_directory::TypeDirectory;
+use elan_names::type_directory::TypeDirectory;
 use elan_tree::TypePhrase;
 use eu_base::{List, NoMemory};
 use std::alloc::Global;

@@ -10,7 +10,7 @@ use crate::judgement::judge;
 use crate::scope_types::ScopeTypes;
 pub use crate::visible::Fault;
 use crate::visible::Visible;
-use elan_scope::type_directory::TypeDirectory;
+use elan_names::type_directory::TypeDirectory;
 use elan_tree::{Name, Refinement, TypePhrase};
 use elan_types::Why;
 use elan_walk::{Node, Visitor};

@@ -7,10 +7,10 @@ ghost use Rattle.type_names.specs.Faults as faults;
 ghost use Rattle.type_names.specs.Types as types;
 ghost use Rattle.type_names.specs.walks.Seen.{names_seen};
 
-use elan_scope::callable::is_predefined;
-use elan_scope::heading::{Sort, is_one};
-use elan_scope::type_directory::TypeDirectory;
-use elan_scope::type_name::Named;
+use elan_names::callable::is_predefined;
+use elan_names::heading::{Sort, is_one};
+use elan_names::type_directory::TypeDirectory;
+use elan_names::type_name::Named;
 use elan_tree::{Refinement, Size};
 use elan_types::Why;
 

@@ -5,7 +5,7 @@ ghost use Rattle.type_names.specs.Types as spec;
 
 use crate::judgement::judge;
 use crate::visible::Visible;
-use elan_scope::type_directory::TypeDirectory;
+use elan_names::type_directory::TypeDirectory;
 use elan_tree::TypePhrase;
 use elan_types::ElanType;
 use eu_base::NoMemory;

@@ -6,8 +6,8 @@ use Rattle.elan_types.specs.declared.core_phrase.Action.TheVariants as action
 use Rattle.elan_types.specs.declared.core_phrase.Formal.{Formal}
 use Rattle.elan_types.specs.Types.{shape_in, formal_of}
 use Rattle.elan_types.specs.declared.core_phrase.Actual.TheVariants as actual
-use Rattle.elan_scope.specs.Callees.{Predefined}
-use Rattle.elan_scope.specs.declared.predefined.Predefined.TheVariants as names
+use Rattle.elan_names.specs.Callees.{Predefined}
+use Rattle.elan_names.specs.declared.predefined.Predefined.TheVariants as names
 use Rattle.elan_meant.specs.declared.meant.Meant.TheVariants.{Done}
 use Rattle.elan_types.specs.declared.why.Why.TheVariants.{WrongType}
 use Rattle.elan_meant.specs.walks.Arity.{two_of}

@@ -10,8 +10,8 @@ use Rattle.elan_types.specs.declared.core_phrase.ValuePhrase.{ValuePhrase}
 use Rattle.elan_types.specs.declared.core_phrase.ValuePhrase.TheVariants as value
 use Rattle.elan_types.specs.declared.why.Why.TheVariants.{WrongType, Unknown}
 use Rattle.eu_base.specs.declared.value.TheConstants.{TEXT_BYTES}
-use Rattle.elan_scope.specs.declared.denoter.Denoter.{Denoter}
-use Rattle.elan_scope.specs.declared.denoter.Denoter.TheVariants as denoters
+use Rattle.elan_names.specs.declared.denoter.Denoter.{Denoter}
+use Rattle.elan_names.specs.declared.denoter.Denoter.TheVariants as denoters
 use Rattle.eu_base.specs.Operations.{in_range}
 use Rattle.elan_meant.specs.declared.meant.Meant.{Meant}
 use Rattle.elan_meant.specs.declared.meant.Meant.TheVariants.{Variable, Value}

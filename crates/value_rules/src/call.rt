@@ -1,29 +1,30 @@
 //! Calls: operators with their operands, and procedures with their actuals.
 
-ghost use Rattle.std.specs.Prelude.{◌≡◌, ◌++◌, ◌∷◌, [], IfOk, Option, Some, List};
+ghost use Rattle.std.specs.Prelude.{◌≡◌, ◌++◌, ◌∷◌, [], ℕ, IfOk, Option, Some, List, option_map};
 ghost use Rattle.elan_types.specs.declared.elan_type.ElanType.{ElanType as ElanTypes};
 ghost use Rattle.elan_types.specs.declared.core_phrase.Actual.{Actual as Actuals};
 ghost use Rattle.eu_base.specs.Operations.{result_kind};
 ghost use Rattle.elan_types.specs.Types.{shape_in, type_in};
-ghost use Rattle.elan_scope.specs.Callees as callees;
-ghost use Rattle.elan_scope.specs.Predefined as table;
-ghost use Rattle.elan_scope.specs.declared.heading.Sort.TheVariants as sorts;
-ghost use Rattle.elan_scope.specs.declared.predefined.Predefined.TheVariants as names;
-ghost use Rattle.elan_scope.specs.walks.Seen as seen;
+ghost use Rattle.elan_names.specs.Callees as callees;
+ghost use Rattle.elan_names.specs.Predefined as table;
+ghost use Rattle.elan_names.specs.declared.heading.Sort.TheVariants as sorts;
+ghost use Rattle.elan_names.specs.declared.predefined.Predefined.TheVariants as names;
+ghost use Rattle.elan_names.specs.walks.Seen as seen;
 ghost use Rattle.value_rules.specs.Calls as spec;
 ghost use Rattle.value_rules.specs.walks.Steps as walk;
 ghost use Rattle.elan_scope.specs.Answer.{Is};
 ghost use Rattle.elan_meant.specs.Operands.{is_unclear};
 ghost use Rattle.elan_meant.specs.Verdict.{Verdict, Tells, told, unless};
 
+use crate::numbered::behind;
 use elan_meant::arity::two_of;
 use elan_meant::meant::Meant;
 use elan_meant::operands::{chosen, is_unclear};
 use elan_meant::part::{delivering, delivering_as, done, value_in, variable};
 use elan_meant::row::{Judged, and, pushed};
-use elan_scope::callable::{Callable, Called, Parameters};
-use elan_scope::heading::Sort;
-use elan_scope::predefined::Predefined;
+use elan_names::callable::{Callable, Called, Parameters};
+use elan_names::heading::Sort;
+use elan_names::predefined::Predefined;
 use elan_scope::scope::Scope;
 use elan_scope::trouble::Trouble;
 use elan_types::{Access, Action, Actual, Change, ElanType, Formal, Operation, ValuePhrase, Why};
@@ -208,13 +209,34 @@ fn called_for(alloc: Global, at: u32, number: usize, of: &ElanType, actuals: Lis
     }
 }
 
+// A call of a PROC or OP, for what it delivers.
+fn called_body(
+    alloc: Global,
+    at: u32,
+    number: Result<usize, NoMemory>,
+    delivered: Option<&ElanType>,
+    actuals: List<Actual>,
+) -> Judged
+    ensures { (n : ℕ) → IfOk number (λ m. m ≡ n) → Tells result (spec.performed at (callees.Body n) (option_map (λ t. t.now) delivered.entry) actuals) }
+{
+    match (number, delivered) {
+        (Err(_refusal), _) => {
+            given_let_go(Ok(actuals));
+            Err(Trouble::NoMemory)
+        }
+        (Ok(number), None) => done(alloc, Action::Call(number, actuals)),
+        (Ok(number), Some(of)) => called_for(alloc, at, number, of, actuals),
+    }
+}
+
 fn performed(alloc: Global, at: u32, called: Called<'_>, actuals: List<Actual>) -> Judged
     ensures { Tells result (spec.performed at (seen.callee called.entry) (seen.result called.entry) actuals) }
 {
     match called {
         Called::Predefined(callee) => predefined(alloc, at, callee, actuals),
-        Called::Body(number, _, None) => done(alloc, Action::Call(number, actuals)),
-        Called::Body(number, _, Some(of)) => called_for(alloc, at, number, of, actuals),
+        Called::Body(before, number, _, delivered) => {
+            called_body(alloc, at, behind(before, number), delivered, actuals)
+        }
     }
 }
 

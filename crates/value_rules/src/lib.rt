@@ -4,5 +4,6 @@
 pub mod call;
 pub mod leave;
 pub mod name;
+mod numbered;
 pub mod part;
 pub mod value;

@@ -14,7 +14,7 @@ use elan_meant::meant::Meant;
 use elan_meant::operands::delivers_kind;
 use elan_meant::part::{delivering, loaded, value_of};
 use elan_meant::row::{Judged, both};
-use elan_scope::denoter::Denoter;
+use elan_names::denoter::Denoter;
 use elan_scope::trouble::Trouble;
 use elan_types::{ElanType, PlacePhrase, ValuePhrase, Why};
 use eu_base::{Boxed, Bytes, Kind, TEXT_BYTES};

@@ -2,7 +2,7 @@
 use Rattle.std.specs.Prelude.{◌≡◌, ◌⊎◌, ℕ, ◌+◌, List, map, length, Some, slice_get}
 use Rattle.elan_tree.specs.declared.tree.Level.{Level}
 use Rattle.elan_scope.specs.declared.delivery.Delivery.TheVariants.{Open}
-use Rattle.elan_scope.specs.declared.heading.Heading.{Heading}
+use Rattle.elan_names.specs.declared.heading.Heading.{Heading}
 use Rattle.elan_scope.specs.declared.known.Known.{Known}
 use Rattle.elan_scope.specs.Known.{delivery_at}
 use Rattle.elan_levels.specs.Bodies.{headings}

@@ -1,7 +1,7 @@
 -- What was found on a walk, and more behind it.
 use Rattle.std.specs.Prelude.{◌≡◌, ℕ, false, List, ◌++◌}
-use Rattle.elan_scope.specs.declared.scope.Entry.{Entry}
-use Rattle.elan_scope.specs.declared.type_name.TypeName.{TypeName}
+use Rattle.elan_names.specs.declared.entry.Entry.{Entry}
+use Rattle.elan_names.specs.declared.type_name.TypeName.{TypeName}
 use Rattle.elan_levels.specs.declared.declare.Names.{Names}
 use Rattle.elan_levels.specs.declared.uses.Called.{Called}
 

@@ -2,11 +2,11 @@
 use Rattle.std.specs.Prelude.{◌≡◌, ℕ, zero, suc, ◌+◌, Bool, true, false, ◌&&◌, List, [], ◌∷◌, ◌++◌, map, flat_map, Option, Some, None}
 use Rattle.std.specs.Prelude.{option_map, option_and_then, option_to_list, slice_get, if◌then◌else◌}
 use Rattle.elan_types.specs.declared.elan_type.ElanType.TheVariants as types
-use Rattle.elan_scope.specs.declared.type_name.TypeName.{TypeName}
-use Rattle.elan_scope.specs.declared.type_name.Named.{Named}
-use Rattle.elan_scope.specs.declared.type_name.Named.TheVariants as named
-use Rattle.elan_scope.specs.Types.{is_open_named}
-use Rattle.elan_scope.specs.walks.Firsts.{first_at, type_names, denoting}
+use Rattle.elan_names.specs.declared.type_name.TypeName.{TypeName}
+use Rattle.elan_names.specs.declared.type_name.Named.{Named}
+use Rattle.elan_names.specs.declared.type_name.Named.TheVariants as named
+use Rattle.elan_names.specs.Types.{is_open_named}
+use Rattle.elan_names.specs.walks.Firsts.{first_at, type_names, denoting}
 use Rattle.type_definitions.specs.declared.definition.Defined.{Defined}
 use Rattle.type_definitions.specs.declared.definition.Defined.TheVariants as defined
 use Rattle.type_definitions.specs.declared.definition.Definition.{Definition}

@@ -2,7 +2,7 @@
 use Rattle.std.specs.Prelude.{◌≡◌, true, false, List, ◌++◌, Option, Some, None, Result, Ok, Err, IfOk}
 use Rattle.elan_tree.specs.declared.tree.Refinement.{Refinement}
 use Rattle.elan_scope.specs.Ruled.{Fault}
-use Rattle.elan_scope.specs.declared.type_name.TypeName.{TypeName}
+use Rattle.elan_names.specs.declared.type_name.TypeName.{TypeName}
 use Rattle.elan_walk.specs.Nodes.{Node}
 use Rattle.type_names.specs.Types.{names_of}
 use Rattle.type_names.specs.Faults.{Here, calls, first_fault, node_faults}

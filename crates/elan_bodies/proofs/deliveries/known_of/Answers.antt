@@ -1,5 +1,5 @@
 use Rattle.std.proofs.Common.{◌≡◌, ◌≤◌, ◌+◌, ℕ, suc, List, length, map, sym, arith, ap, subst, ◌∙◌}
-use Rattle.elan_scope.specs.declared.heading.Heading.{Heading}
+use Rattle.elan_names.specs.declared.heading.Heading.{Heading}
 use Rattle.elan_scope.specs.declared.delivery.Delivery.{Delivery}
 use Rattle.elan_scope.specs.declared.scope.Scope.{Scope}
 use Rattle.elan_levels.specs.Bodies.{headings}

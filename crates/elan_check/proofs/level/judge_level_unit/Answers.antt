@@ -1,6 +1,6 @@
 use Rattle.std.proofs.Common.{[], sym, subst}
 use Rattle.elan_tree.specs.declared.tree.LevelUnit.{LevelUnit}
-use Rattle.elan_scope.specs.declared.heading.Sort.TheVariants.{Operator}
+use Rattle.elan_names.specs.declared.heading.Sort.TheVariants.{Operator}
 use Rattle.elan_scope.specs.Answer.{Is}
 use Rattle.elan_rules.specs.Meaning.{judged}
 use Rattle.elan_unbuilt.specs.Operators.{operator_text}

@@ -1,7 +1,7 @@
 use Rattle.std.proofs.Common.{◌++◌, List, sym, ◌∙◌}
 use Rattle.std.proofs.lemmas.List.{append-nil, at_drop_all}
 use Rattle.elan_tree.specs.declared.written_type.Name.{Name}
-use Rattle.elan_scope.specs.declared.scope.Denotes.TheVariants as denotes
+use Rattle.elan_names.specs.declared.entry.Denotes.TheVariants as denotes
 use Rattle.elan_scope.specs.Scope.{all_held}
 use Rattle.elan_levels.specs.Bodies.{named_as}
 use Rattle.elan_levels.proofs.bodies.for_each.Goals as goal

@@ -2,7 +2,7 @@ use Rattle.std.proofs.Common.{◌+◌, List, subst, drop}
 use Rattle.elan_tree.specs.declared.phrase.Unit.{Unit as Statement}
 use Rattle.elan_tree.specs.declared.tree.Refinement.{Refinement}
 use Rattle.elan_walk.proofs.Went.{rest_of}
-use Rattle.elan_scope.specs.declared.scope.Denotes.TheVariants as denotes
+use Rattle.elan_names.specs.declared.entry.Denotes.TheVariants as denotes
 use Rattle.elan_levels.specs.Declarations.{entry, in_units}
 use Rattle.elan_levels.specs.Bodies.{refinement_names}
 use Rattle.elan_levels.specs.walks.Seen.{visible, Adds}

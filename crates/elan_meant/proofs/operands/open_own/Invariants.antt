@@ -1,10 +1,10 @@
 use Rattle.std.proofs.Common.{◌≡◌, drop}
 use Rattle.elan_scope.specs.Scope.{first, own_callables}
-use Rattle.elan_scope.specs.walks.Numbers.{callables_among}
+use Rattle.elan_names.specs.walks.Numbers.{callables_among}
 use Rattle.elan_meant.specs.Operands.{may_take}
 use Rattle.elan_meant.proofs.operands.open_own.Given as goal
 
 abbrev pub invariant-loop-number : goal.invariant-loop-number
 invariant-loop-number l =
-    first (may_take l.sort l.name l.operands) (callables_among l.headings (drop l.number-index l.number-items))
+    first (may_take l.sort l.name l.operands) (callables_among 0 l.headings (drop l.number-index l.number-items))
     ≡ first (may_take l.sort l.name l.operands) (own_callables 0 l.headings)

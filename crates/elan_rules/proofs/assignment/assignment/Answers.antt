@@ -1,11 +1,11 @@
 use Rattle.std.proofs.Common.{◌≡◌, ℕ, Bool, false, List, [], ◌∷◌, Option, Some, Result, option_map, sym, ap, subst, ◌∙◌}
-use Rattle.elan_scope.specs.declared.heading.Sort.TheVariants.{Operator}
-use Rattle.elan_scope.specs.declared.callable.Callable.{Callable as Handed}
+use Rattle.elan_names.specs.declared.heading.Sort.TheVariants.{Operator}
+use Rattle.elan_names.specs.declared.callable.Callable.{Callable as Handed}
 use Rattle.elan_scope.specs.declared.trouble.Trouble.{Trouble}
 use Rattle.elan_scope.specs.Answer.{Is}
 use Rattle.elan_scope.specs.Ruled as ruled
 use Rattle.elan_scope.specs.Scope.{Callable}
-use Rattle.elan_scope.specs.walks.Seen.{callable}
+use Rattle.elan_names.specs.walks.Seen.{callable}
 use Rattle.elan_meant.specs.declared.meant.Meant.{Meant}
 use Rattle.elan_meant.specs.Operands.{becomes, chosen, is_unclear}
 use Rattle.elan_meant.specs.Verdict.{gives, told, unless, Tells}

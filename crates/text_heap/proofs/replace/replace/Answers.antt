@@ -62,3 +62,26 @@ returns-clause-cells g c =
     let later = content c.move_hint.new.space in
     keeps_cells before middle later (content c.put.new.space) c.args.cell first had freed
     (λ n low. hint_cells spread later c.in_ok-move_hint.ensures.kept n low ∙ c.in_ok-first.ensures.cells n low) c.in_ok-put.ensures.kept
+
+pub returns-clause-follows : goal.returns-clause-follows
+returns-clause-follows g c =
+    let two = g.met.S.Space.transitive _ _ _ c.release.ensures.follows c.spread.ensures.follows in
+    let three = g.met.S.Space.transitive _ _ _ two c.move_hint.ensures.follows in
+    g.met.S.Space.transitive _ _ _ three c.put.ensures.follows
+
+pub returns-in_default-clause-follows : goal.returns-in_default-clause-follows
+returns-in_default-clause-follows g c = g.met.S.Space.transitive _ _ _ c.release.ensures.follows c.spread.ensures.follows
+
+pub returns-in_err-put-clause-follows : goal.returns-in_err-put-clause-follows
+returns-in_err-put-clause-follows g c =
+    let two = g.met.S.Space.transitive _ _ _ c.release.ensures.follows c.spread.ensures.follows in
+    let three = g.met.S.Space.transitive _ _ _ two c.move_hint.ensures.follows in
+    g.met.S.Space.transitive _ _ _ three c.put.ensures.follows
+
+pub returns-in_err-move_hint-clause-follows : goal.returns-in_err-move_hint-clause-follows
+returns-in_err-move_hint-clause-follows g c =
+    let two = g.met.S.Space.transitive _ _ _ c.release.ensures.follows c.spread.ensures.follows in
+    g.met.S.Space.transitive _ _ _ two c.move_hint.ensures.follows
+
+pub returns-in_err-first-clause-follows : goal.returns-in_err-first-clause-follows
+returns-in_err-first-clause-follows g c = g.met.S.Space.transitive _ _ _ c.release.ensures.follows c.spread.ensures.follows

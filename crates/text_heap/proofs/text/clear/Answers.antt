@@ -18,3 +18,16 @@ returns-clause-cells g c =
     let before = content c.args.space.now in
     let kept : content c.read_hint.new.space ≡ before = c.in_ok-hint.ensures.kept ∙ c.in_ok-old.ensures.kept in
     subst (λ x. KeepsCells x (content c.replace.new.space) c.args.cell) kept c.in_ok-replace.ensures.cells
+
+pub returns-clause-follows : goal.returns-clause-follows
+returns-clause-follows g c =
+    let two = g.met.S.Space.transitive _ _ _ c.read_entry.ensures.follows c.read_hint.ensures.follows in
+    g.met.S.Space.transitive _ _ _ two c.replace.ensures.follows
+
+pub returns-in_err-hint-clause-follows : goal.returns-in_err-hint-clause-follows
+returns-in_err-hint-clause-follows g c = g.met.S.Space.transitive _ _ _ c.read_entry.ensures.follows c.read_hint.ensures.follows
+
+pub returns-in_err-replace-clause-follows : goal.returns-in_err-replace-clause-follows
+returns-in_err-replace-clause-follows g c =
+    let two = g.met.S.Space.transitive _ _ _ c.read_entry.ensures.follows c.read_hint.ensures.follows in
+    g.met.S.Space.transitive _ _ _ two c.replace.ensures.follows

@@ -14,3 +14,9 @@ returns-clause-text g c = λ texts h some.
     ∙ ap (λ k. gather before k length (blocks_of length)) c.in_ok-entry.ensures.entry.1
     ∙ ap (λ n. gather before (first_in before c.args.cell) n (blocks_of n)) c.in_ok-entry.ensures.entry.0 in
     found before texts c.args.cell c.in_ok-text.text c.requires is h some
+
+pub returns-clause-follows : goal.returns-clause-follows
+returns-clause-follows g c = g.met.S.Space.transitive _ _ _ c.read_entry.ensures.follows c.collect.ensures.follows
+
+pub returns-in_err-text-clause-follows : goal.returns-in_err-text-clause-follows
+returns-in_err-text-clause-follows g c = g.met.S.Space.transitive _ _ _ c.read_entry.ensures.follows c.collect.ensures.follows

@@ -40,3 +40,19 @@ returns-clause-cells g c =
     let before = content c.args.space.now in
     let kept : content c.find_room.new.space ≡ before = c.in_ok-room.ensures.kept ∙ c.in_ok-old.ensures.kept in
     subst (λ x. KeepsCells x (content c.replace.new.space) c.args.cell) kept c.in_ok-set.ensures.cells
+
+pub returns-clause-follows : goal.returns-clause-follows
+returns-clause-follows g c =
+    let two = g.met.S.Space.transitive _ _ _ c.read_entry.ensures.follows c.find_room.ensures.follows in
+    g.met.S.Space.transitive _ _ _ two c.replace.ensures.follows
+
+pub returns-in_default-clause-follows : goal.returns-in_default-clause-follows
+returns-in_default-clause-follows g c = g.met.S.Space.transitive _ _ _ c.read_entry.ensures.follows c.find_room.ensures.follows
+
+pub returns-in_err-room-clause-follows : goal.returns-in_err-room-clause-follows
+returns-in_err-room-clause-follows g c = g.met.S.Space.transitive _ _ _ c.read_entry.ensures.follows c.find_room.ensures.follows
+
+pub returns-in_err-set-clause-follows : goal.returns-in_err-set-clause-follows
+returns-in_err-set-clause-follows g c =
+    let two = g.met.S.Space.transitive _ _ _ c.read_entry.ensures.follows c.find_room.ensures.follows in
+    g.met.S.Space.transitive _ _ _ two c.replace.ensures.follows

@@ -3,7 +3,7 @@ use Rattle.std.specs.Prelude.{flat_map}
 use Rattle.elan_tree.specs.declared.tree.LevelUnit.{LevelUnit}
 use Rattle.type_names.specs.Faults.{unit_faults, first_fault}
 use Rattle.type_names.specs.walks.Seen.{AreOf}
-use Rattle.elan_scope.specs.declared.type_name.TypeName.{TypeName}
+use Rattle.elan_names.specs.declared.type_name.TypeName.{TypeName}
 use Rattle.type_names.proofs.Searched.{level_none}
 use Rattle.type_names.proofs.fault.level_fault.Goals as goal
 

@@ -1,6 +1,6 @@
 use Rattle.std.proofs.Common.{◌≡◌, ◌+◌, ℕ, List, subst, sym}
 use Rattle.std.specs.Prelude.{Result, Ok, Err, OnOk}
-use Rattle.elan_scope.specs.declared.type_name.TypeName.{TypeName}
+use Rattle.elan_names.specs.declared.type_name.TypeName.{TypeName}
 use Rattle.type_definitions.specs.declared.definition.Definition.{Definition}
 use Rattle.type_names.specs.walks.Further.{Reads, with_read}
 use Rattle.type_names.proofs.Order.{not_read, was_read}

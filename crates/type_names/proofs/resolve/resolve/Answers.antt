@@ -1,5 +1,5 @@
 use Rattle.std.proofs.Common.{List, ap, ◌∙◌}
-use Rattle.elan_scope.specs.declared.type_name.TypeName.{TypeName}
+use Rattle.elan_names.specs.declared.type_name.TypeName.{TypeName}
 use Rattle.type_names.specs.walks.Further.{all_unread, calls_at}
 use Rattle.type_names.proofs.Order.{unread_names, calls_are}
 use Rattle.type_names.proofs.resolve.resolve.Goals as goal

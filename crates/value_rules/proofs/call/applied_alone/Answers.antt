@@ -1,5 +1,5 @@
 use Rattle.std.proofs.Common.{List, subst}
-use Rattle.elan_scope.specs.declared.heading.Sort.TheVariants.{Procedure}
+use Rattle.elan_names.specs.declared.heading.Sort.TheVariants.{Procedure}
 use Rattle.elan_scope.specs.Answer.{Is}
 use Rattle.elan_meant.specs.Operands.{is_unclear}
 use Rattle.elan_meant.specs.Verdict.{told, unless}

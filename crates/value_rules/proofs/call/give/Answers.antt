@@ -1,6 +1,6 @@
 use Rattle.std.proofs.Common.{sym, ◌∙◌}
 use Rattle.elan_meant.specs.Verdict.{told}
-use Rattle.elan_scope.specs.walks.Seen.{parameters}
+use Rattle.elan_names.specs.walks.Seen.{parameters}
 use Rattle.value_rules.proofs.Given.{next_is}
 use Rattle.value_rules.proofs.call.give.Goals as goal
 

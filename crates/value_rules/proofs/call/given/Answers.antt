@@ -1,7 +1,7 @@
 use Rattle.std.proofs.Common.{List, drop, refl, sym, ap, subst, ◌∙◌}
 use Rattle.elan_types.specs.declared.elan_type.Parameter.{Parameter}
 use Rattle.elan_types.specs.declared.core_phrase.Actual.{Actual}
-use Rattle.elan_scope.specs.walks.Seen.{parameters}
+use Rattle.elan_names.specs.walks.Seen.{parameters}
 use Rattle.elan_meant.specs.Verdict.{Verdict, gives, told, Tells}
 use Rattle.value_rules.specs.Calls.{given}
 use Rattle.value_rules.specs.walks.Steps.{given_next}

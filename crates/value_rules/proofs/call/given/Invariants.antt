@@ -1,5 +1,5 @@
 use Rattle.std.proofs.Common.{◌≡◌, length, drop}
-use Rattle.elan_scope.specs.walks.Seen.{parameters}
+use Rattle.elan_names.specs.walks.Seen.{parameters}
 use Rattle.elan_meant.specs.Verdict.{Tells}
 use Rattle.value_rules.specs.Calls.{given}
 use Rattle.value_rules.proofs.call.given.Given as goal

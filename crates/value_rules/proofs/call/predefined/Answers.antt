@@ -1,7 +1,7 @@
 use Rattle.std.proofs.Common.{None, sym, subst}
-use Rattle.elan_scope.specs.Callees as callees
-use Rattle.elan_scope.specs.declared.predefined.Predefined.{Predefined}
-use Rattle.elan_scope.specs.Predefined.{result}
+use Rattle.elan_names.specs.Callees as callees
+use Rattle.elan_names.specs.declared.predefined.Predefined.{Predefined}
+use Rattle.elan_names.specs.Predefined.{result}
 use Rattle.elan_meant.specs.Verdict.{Tells}
 use Rattle.value_rules.specs.Calls.{performed}
 use Rattle.value_rules.proofs.call.predefined.Goals as goal

@@ -12,3 +12,9 @@ returns-clause-fits g c =
     tells_rooms c.args.values.now c.args.at c.requires.cell (few_values c.args.values.now c.requires.few) (g.M.Memory.holds c.args.m.now) c.args.needed
     c.in_ok-had.had c.in_ok-rooms.rooms _ c.requires.needed c.requires.few c.in_ok-had.ensures.had
     (λ cells h. c.in_ok-rooms.ensures.rooms cells (c.in_ok-had.ensures.kept cells h)) c.if-needed-had.false refl
+
+pub returns-clause-follows : goal.returns-clause-follows
+returns-clause-follows g c = g.met.M.Memory.transitive _ _ _ c.blocks_at.ensures.follows c.rooms.ensures.follows
+
+pub returns-in_err-rooms-clause-follows : goal.returns-in_err-rooms-clause-follows
+returns-in_err-rooms-clause-follows g c = g.met.M.Memory.transitive _ _ _ c.blocks_at.ensures.follows c.rooms.ensures.follows

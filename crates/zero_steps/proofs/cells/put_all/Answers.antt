@@ -20,3 +20,16 @@ returns-clause-puts g c =
     (g.M.Memory.holds c.has_room.new.m) (g.M.Memory.holds c.put_each-2.new.m) (g.M.Memory.holds c.put_each-3.new.m) c.in_ok-has_room.field-0
     c.in_ok-has_room.ensures.fits c.if-not-branch.false c.in_ok-has_room.ensures.kept (g.met.M.Memory.room c.has_room.new.m c.args.at.area)
     c.in_ok-put_each-2.ensures.put c.in_ok-put_each-3.ensures.put
+
+pub returns-in_err-put_each-2-clause-follows : goal.returns-in_err-put_each-2-clause-follows
+returns-in_err-put_each-2-clause-follows g c = g.met.M.Memory.transitive _ _ _ c.has_room.ensures.follows c.put_each-2.ensures.follows
+
+pub returns-in_err-put_each-3-clause-follows : goal.returns-in_err-put_each-3-clause-follows
+returns-in_err-put_each-3-clause-follows g c =
+    let two = g.met.M.Memory.transitive _ _ _ c.has_room.ensures.follows c.put_each-2.ensures.follows in
+    g.met.M.Memory.transitive _ _ _ two c.put_each-3.ensures.follows
+
+pub returns-clause-follows : goal.returns-clause-follows
+returns-clause-follows g c =
+    let two = g.met.M.Memory.transitive _ _ _ c.has_room.ensures.follows c.put_each-2.ensures.follows in
+    g.met.M.Memory.transitive _ _ _ two c.put_each-3.ensures.follows

@@ -13,3 +13,9 @@ returns-in-Err-Stop-clause-changes g c =
     not_appended (g.M.Memory.holds c.args.m.now) (g.M.Memory.holds c.text.new.self) (g.M.Memory.holds c.text.new.self) c.args.at c.args.operand.now
     c.in_ok-text.text c.text-2.result.now c.in_ok-text.ensures.text c.in_ok-text.ensures.kept c.text-2.ensures _
     (rw c.in-Err-Stop.field-0-is (rw c.in-Err-Stop.field-0-is at c.in-Err-Stop.ensures.err))
+
+pub returns-in-Ok-clause-follows : goal.returns-in-Ok-clause-follows
+returns-in-Ok-clause-follows g c = g.met.M.Memory.transitive _ _ _ c.text.ensures.follows c.set_text.ensures.follows
+
+pub returns-in_err-set_text-in-Ok-clause-follows : goal.returns-in_err-set_text-in-Ok-clause-follows
+returns-in_err-set_text-in-Ok-clause-follows g c = g.met.M.Memory.transitive _ _ _ c.text.ensures.follows c.set_text.ensures.follows

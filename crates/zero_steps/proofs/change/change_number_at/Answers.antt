@@ -23,3 +23,9 @@ returns-in-Err-clause-changes g c =
     number_stops (g.M.Memory.holds c.args.m.now) (g.M.Memory.holds c.cell.new.self) (g.M.Memory.holds c.cell.new.self) c.args.at c.args.by
     c.args.operand.now c.in_ok-cell.field-0 _ c.requires.number (same_number c.number_in-number.result _ fits c.number_in-number.ensures)
     c.in_ok-cell.ensures.number c.in_ok-cell.ensures.kept c.in-Err.fault (sym c.in-Err.ensures)
+
+pub returns-in_ok-set_cell-in-Ok-clause-follows : goal.returns-in_ok-set_cell-in-Ok-clause-follows
+returns-in_ok-set_cell-in-Ok-clause-follows g c = g.met.M.Memory.transitive _ _ _ c.cell.ensures.follows c.set_cell.ensures.follows
+
+pub returns-in_err-set_cell-in-Ok-clause-follows : goal.returns-in_err-set_cell-in-Ok-clause-follows
+returns-in_err-set_cell-in-Ok-clause-follows g c = g.met.M.Memory.transitive _ _ _ c.cell.ensures.follows c.set_cell.ensures.follows

@@ -54,3 +54,12 @@ returns-else-is_past-clause-goes g c =
     c.is_past.result _ _ (same_number c.number-limit.result _ fits c.number-limit.ensures)
     (same_number c.number_in-number.result _ fits' c.number_in-number.ensures) c.is_past.ensures
     (ap (λ b. cond b c.args.to (s.pc + 1)) (sym c.if-is_past.false)))
+
+pub returns-then-is_past-clause-follows : goal.returns-then-is_past-clause-follows
+returns-then-is_past-clause-follows g c = g.met.M.Memory.transitive _ _ _ c.cell.ensures.follows c.set_cell.ensures.follows
+
+pub returns-else-is_past-clause-follows : goal.returns-else-is_past-clause-follows
+returns-else-is_past-clause-follows g c = g.met.M.Memory.transitive _ _ _ c.cell.ensures.follows c.set_cell.ensures.follows
+
+pub returns-in_err-set_cell-clause-follows : goal.returns-in_err-set_cell-clause-follows
+returns-in_err-set_cell-clause-follows g c = g.met.M.Memory.transitive _ _ _ c.cell.ensures.follows c.set_cell.ensures.follows

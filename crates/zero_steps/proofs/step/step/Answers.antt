@@ -43,3 +43,19 @@ returns-clause-goes g c =
     ∙ ap (next_number c.args.way) (same_number c.number_in-number.result _ fits' c.number_in-number.ensures)))
     c.cell-3.ensures (λ cells h. c.in_ok-cell-2.ensures.kept cells (c.in_ok-cell.ensures.kept cells h)) c.in_ok-set_cell.ensures.written)
     c.has_reached.result c.has_reached.ensures c.if-has_reached.false)
+
+pub returns-clause-follows : goal.returns-clause-follows
+returns-clause-follows g c =
+    let two = g.met.M.Memory.transitive _ _ _ c.cell.ensures.follows c.cell-2.ensures.follows in
+    g.met.M.Memory.transitive _ _ _ two c.set_cell.ensures.follows
+
+pub returns-then-has_reached-clause-follows : goal.returns-then-has_reached-clause-follows
+returns-then-has_reached-clause-follows g c = g.met.M.Memory.transitive _ _ _ c.cell.ensures.follows c.cell-2.ensures.follows
+
+pub returns-in_err-set_cell-clause-follows : goal.returns-in_err-set_cell-clause-follows
+returns-in_err-set_cell-clause-follows g c =
+    let two = g.met.M.Memory.transitive _ _ _ c.cell.ensures.follows c.cell-2.ensures.follows in
+    g.met.M.Memory.transitive _ _ _ two c.set_cell.ensures.follows
+
+pub returns-in_err-cell-2-clause-follows : goal.returns-in_err-cell-2-clause-follows
+returns-in_err-cell-2-clause-follows g c = g.met.M.Memory.transitive _ _ _ c.cell.ensures.follows c.cell-2.ensures.follows

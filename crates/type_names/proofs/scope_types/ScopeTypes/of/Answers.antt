@@ -1,5 +1,5 @@
 use Rattle.std.proofs.Common.{ap, ◌∙◌}
-use Rattle.elan_scope.specs.walks.Firsts.{type_names}
+use Rattle.elan_names.specs.walks.Firsts.{type_names}
 use Rattle.type_names.specs.walks.Further.{definition_names}
 use Rattle.type_names.proofs.Order.{names_named}
 use Rattle.type_names.proofs.scope_types.ScopeTypes.of.Goals as goal

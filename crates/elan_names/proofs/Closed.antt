@@ -1,0 +1,35 @@
+-- What is predefined has types with meaning.
+use Rattle.std.proofs.Common.{◌≡◌, Bool, false, ◌||◌, List, [], ◌∷◌, ◌++◌, map, refl, ap, ◌∙◌}
+use Rattle.eu_base.specs.declared.value.Kind.{Kind}
+use Rattle.eu_base.specs.declared.value.Kind.TheVariants as kinds
+use Rattle.eu_base.specs.Requests.{request_kinds, request_places}
+use Rattle.eu_base.specs.Operations.{operand_kinds, result_kind, change_kind}
+use Rattle.elan_types.specs.Types.{type_in, held_var, values_of}
+use Rattle.elan_types.proofs.Types.{type_closed}
+use Rattle.elan_names.specs.declared.predefined.Predefined.{Predefined}
+use Rattle.elan_names.specs.declared.predefined.Predefined.TheVariants.{Operation, Change, Request, ErrorStop}
+use Rattle.elan_names.specs.Predefined.{parameters, result}
+use Rattle.elan_names.specs.Callables.{has_open, is_open_result}
+
+values_closed : (ks js : List Kind) → has_open (values_of ks ++ map (λ k. held_var (type_in k)) js) ≡ false
+values_closed [] [] = refl
+values_closed [] (j ∷ js) = ap (λ (b : Bool). b || has_open (map (λ k. held_var (type_in k)) js)) (type_closed j) ∙ values_closed [] js
+values_closed (k ∷ ks) js =
+    ap (λ (b : Bool). b || has_open (values_of ks ++ map (λ k. held_var (type_in k)) js)) (type_closed k) ∙ values_closed ks js
+
+plain_closed : (ks : List Kind) → has_open (values_of ks) ≡ false
+plain_closed [] = refl
+plain_closed (k ∷ ks) = ap (λ (b : Bool). b || has_open (values_of ks)) (type_closed k) ∙ plain_closed ks
+
+pub parameters_closed : (p : Predefined) → has_open (parameters p) ≡ false
+parameters_closed (Operation o) = plain_closed (operand_kinds o)
+parameters_closed (Change c) =
+    ap (λ (b : Bool). b || has_open (values_of (change_kind c ∷ []))) (type_closed (change_kind c)) ∙ plain_closed (change_kind c ∷ [])
+parameters_closed (Request name) = values_closed (request_kinds name) (request_places name)
+parameters_closed ErrorStop = plain_closed (kinds.Text ∷ [])
+
+pub result_closed : (p : Predefined) → is_open_result (result p) ≡ false
+result_closed (Operation o) = type_closed (result_kind o)
+result_closed (Change c) = refl
+result_closed (Request name) = refl
+result_closed ErrorStop = refl

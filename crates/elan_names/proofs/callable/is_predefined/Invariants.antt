@@ -1,0 +1,12 @@
+use Rattle.std.proofs.Common.{◌≡◌, length, map}
+use Rattle.elan_names.specs.Predefined.{predefined}
+use Rattle.elan_names.specs.Callables.{first, has_as_many, predefined_callable}
+use Rattle.elan_names.proofs.callable.is_predefined.Given as goal
+
+abbrev pub invariant-loop-rest : goal.invariant-loop-rest
+invariant-loop-rest l =
+    first (has_as_many l.sort l.name l.count) (map predefined_callable (map (λ r. (r.0, r.1.now, r.2)) l.rest))
+    ≡ first (has_as_many l.sort l.name l.count) (map predefined_callable predefined)
+
+abbrev pub decreases-loop-rest : goal.decreases-loop-rest
+decreases-loop-rest l = length l.rest

@@ -1,0 +1,8 @@
+use Rattle.std.proofs.Common.{◌≡◌, drop}
+use Rattle.elan_names.specs.Callables.{first_heading, is_refined}
+use Rattle.elan_names.specs.walks.Numbers.{first_among}
+use Rattle.elan_names.proofs.headings.Headings.first_refined.Given as goal
+
+abbrev pub invariant-loop-number : goal.invariant-loop-number
+invariant-loop-number l =
+    first_among (is_refined l.home l.name) l.self (drop l.number-index l.number-items) ≡ first_heading (is_refined l.home l.name) l.self

@@ -1,5 +1,0 @@
-use Rattle.std.proofs.Common.{length}
-use Rattle.elan_scope.proofs.callable.+has_open.Given as goal
-
-abbrev pub decreases-has_open : goal.decreases-has_open
-decreases-has_open l = length l.parameters.now

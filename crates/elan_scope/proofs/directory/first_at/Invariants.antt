@@ -1,6 +1,0 @@
-use Rattle.std.proofs.Common.{◌≡◌, drop}
-use Rattle.elan_scope.specs.walks.Firsts as spec
-use Rattle.elan_scope.proofs.directory.first_at.Given as goal
-
-abbrev pub invariant-loop-index : goal.invariant-loop-index
-invariant-loop-index l = spec.first_at l.index (spec.entry_names (drop l.index l.entries)) l.name ≡ spec.first_at 0 (spec.entry_names l.entries) l.name

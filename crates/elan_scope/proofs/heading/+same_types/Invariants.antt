@@ -1,5 +1,0 @@
-use Rattle.std.proofs.Common.{length}
-use Rattle.elan_scope.proofs.heading.+same_types.Given as goal
-
-abbrev pub decreases-same_types : goal.decreases-same_types
-decreases-same_types l = length l.parameters.now
