@@ -67,7 +67,7 @@ module _ (here : Stand) (s : Scope) (k : Known) (fits : Fits here s k) where
   plain_rules at (form.text x) ms i g = text_good here at x
   plain_rules at (form.applied z sort x) ms i g = in_scope (λ y. r.applied at y sort x ms) z i (applied_good here s k fits at sort x ms g)
   plain_rules at form.bracket ms i g = bracketed_good here at (p.nth ms 0) (good_part ms 0 g)
-  plain_rules at form.concr ms i g = concr_good here at (p.nth ms 0) (good_part ms 0 g)
+  plain_rules at (form.concr z) ms i g = concr_good here at z (p.nth ms 0) (good_part ms 0 g)
   plain_rules at form.index ms i g = indexed_good here at (p.nth ms 0) (p.nth ms 1) (good_part ms 0 g) (good_part ms 1 g)
   plain_rules at (form.field x) ms i g = field_part_good here at x (p.nth ms 0) (good_part ms 0 g)
   plain_rules at form.cand ms i g = cand_good here at (p.nth ms 0) (p.nth ms 1) (good_part ms 0 g) (good_part ms 1 g)

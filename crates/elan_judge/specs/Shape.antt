@@ -125,7 +125,7 @@ module _ (s : Scope) where
   expr_step (t.Cand at a b) = pair at form.cand a b
   expr_step (t.Cor at a b) = pair at form.cor a b
   expr_step (t.Procedure at n) = leaf at form.not_built
-  expr_step (t.Concr at a) = around at form.concr a
+  expr_step (t.Concr at a) = around at (form.concr s) a
   expr_step (t.Index at of index) = pair at form.index of index
   expr_step (t.Field at of field) = around at (form.field field.text) of
 

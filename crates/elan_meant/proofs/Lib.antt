@@ -2,3 +2,4 @@ pub mod Beside
 pub mod Told
 pub mod Halves
 mod Pairs
+pub mod Chosen

@@ -39,7 +39,7 @@ nearest cs sort x ms = option_or (first (takes sort x ms) cs) (first (may_take s
 
 -- Whether it takes these operands, or what it delivers, hangs on a type that has no meaning.
 abbrev pub is_unclear : Scope → Sort → List ℕ → List Meant → Bool
-is_unclear s sort x ms = option_map_or is_open_callable (nearest (own_callables 0 s.headings) sort x ms) false
+is_unclear s sort x ms = option_map_or is_open_callable (nearest (own_callables s.bodies_before s.headings) sort x ms) false
 
 -- the operator of assignments, for which a text can have one of its own
 abbrev pub becomes : List ℕ

@@ -1,16 +1,19 @@
 //! Operands: what they deliver, and what takes them.
 
 ghost use Rattle.std.specs.Prelude.{◌≡◌, map, option_map};
+ghost use Rattle.std.specs.Option.{option_or};
 ghost use Rattle.elan_types.specs.Types.{type_in};
 ghost use Rattle.elan_names.specs.Predefined.{predefined};
 ghost use Rattle.elan_scope.specs.Scope as scopes;
 ghost use Rattle.elan_names.specs.walks.Seen as seen;
+ghost use Rattle.elan_scope.specs.walks.Seen as looked;
 ghost use Rattle.elan_meant.specs.Operands as spec;
 
 use crate::meant::Meant;
 use elan_names::callable::{Callable, Parameters, predefined_callable};
 use elan_names::heading::Sort;
 use elan_names::headings::Headings;
+use elan_names::interface::Inserted;
 use elan_names::predefined::rows;
 use elan_scope::scope::Scope;
 use elan_types::ElanType;
@@ -79,17 +82,18 @@ fn if_takes<'a>(
     }
 }
 
-// The first PROC or OP that takes these operands.
+// The first PROC or OP of a level that takes these operands, where so many bodies are before those of the level.
 fn chosen_own<'a>(
     headings: &'a Headings,
+    before: usize,
     sort: Sort,
     name: &[u8],
     operands: &[Meant],
 ) -> Option<Callable<'a>>
-    ensures { option_map seen.callable result ≡ scopes.first (spec.takes sort name.now operands.now) (scopes.own_callables 0 headings.now) }
+    ensures { option_map seen.callable result ≡ scopes.first (spec.takes sort name.now operands.now) (scopes.own_callables before headings.now) }
 {
     for number in headings.named(name) {
-        let callable = if_takes(headings.callable_at(0, *number), sort, name, operands);
+        let callable = if_takes(headings.callable_at(before, *number), sort, name, operands);
         if callable.is_some() {
             return callable;
         }
@@ -116,17 +120,18 @@ fn if_may_take<'a>(
     }
 }
 
-// The first PROC or OP that may take these operands.
+// The first that may take these operands.
 fn open_own<'a>(
     headings: &'a Headings,
+    before: usize,
     sort: Sort,
     name: &[u8],
     operands: &[Meant],
 ) -> Option<Callable<'a>>
-    ensures { option_map seen.callable result ≡ scopes.first (spec.may_take sort name.now operands.now) (scopes.own_callables 0 headings.now) }
+    ensures { option_map seen.callable result ≡ scopes.first (spec.may_take sort name.now operands.now) (scopes.own_callables before headings.now) }
 {
     for number in headings.named(name) {
-        let callable = if_may_take(headings.callable_at(0, *number), sort, name, operands);
+        let callable = if_may_take(headings.callable_at(before, *number), sort, name, operands);
         if callable.is_some() {
             return callable;
         }
@@ -136,15 +141,16 @@ fn open_own<'a>(
 
 fn nearest<'a>(
     headings: &'a Headings,
+    before: usize,
     sort: Sort,
     name: &[u8],
     operands: &[Meant],
 ) -> Option<Callable<'a>>
-    ensures { option_map seen.callable result ≡ spec.nearest (scopes.own_callables 0 headings.now) sort name.now operands.now }
+    ensures { option_map seen.callable result ≡ spec.nearest (scopes.own_callables before headings.now) sort name.now operands.now }
 {
-    match chosen_own(headings, sort, name, operands) {
+    match chosen_own(headings, before, sort, name, operands) {
         Some(callable) => Some(callable),
-        None => open_own(headings, sort, name, operands),
+        None => open_own(headings, before, sort, name, operands),
     }
 }
 
@@ -152,7 +158,7 @@ fn nearest<'a>(
 pub fn is_unclear(scope: &Scope, sort: Sort, name: &[u8], operands: &[Meant]) -> bool
     ensures { result ≡ spec.is_unclear scope.now sort name.now operands.now }
 {
-    match nearest(&scope.headings, sort, name, operands) {
+    match nearest(&scope.headings, scope.bodies_before, sort, name, operands) {
         None => false,
         Some(callable) => callable.is_open(),
     }
@@ -172,8 +178,68 @@ fn chosen_predefined(sort: Sort, name: &[u8], operands: &[Meant]) -> Option<Call
     None
 }
 
-/// What is called by a name with exactly these operands: the PROCs and OPs of the level are looked at first, and then what is
-/// predefined. `None` exactly where nothing of that name takes them.
+// What a packet shows that takes these operands.
+#[tactic(auto, using(crate::proofs::Chosen::packet_chosen))]
+fn chosen_in_packet<'a>(
+    packet: &'a Inserted,
+    sort: Sort,
+    name: &[u8],
+    operands: &[Meant],
+) -> Option<Callable<'a>>
+    ensures { option_map seen.callable result ≡ looked.called_in_packet (spec.takes sort name.now operands.now) packet.now }
+{
+    let interface = packet.interface.get();
+    let callable = chosen_own(
+        &interface.headings,
+        packet.bodies_before,
+        sort,
+        name,
+        operands,
+    )?;
+    if interface.exports(name) {
+        Some(callable)
+    } else {
+        None
+    }
+}
+
+// What the packets show, from the last inserted on.
+fn chosen_in_packets<'a>(
+    packets: &'a [Inserted],
+    sort: Sort,
+    name: &[u8],
+    operands: &[Meant],
+) -> Option<Callable<'a>>
+    ensures { option_map seen.callable result ≡ looked.called_in_packets (spec.takes sort name.now operands.now) packets.now }
+{
+    let mut rest = packets;
+    while let [packet, others @ ..] = rest {
+        let callable = chosen_in_packet(packet, sort, name, operands);
+        if callable.is_some() {
+            return callable;
+        }
+        rest = others;
+    }
+    None
+}
+
+fn chosen_outside<'a>(
+    packets: &'a [Inserted],
+    sort: Sort,
+    name: &[u8],
+    operands: &[Meant],
+) -> Option<Callable<'a>>
+    ensures { option_map seen.callable result ≡ option_or (looked.called_in_packets (spec.takes sort name.now operands.now) packets.now)
+        (scopes.first (spec.takes sort name.now operands.now) (map scopes.predefined_callable predefined)) }
+{
+    match chosen_in_packets(packets, sort, name, operands) {
+        Some(callable) => Some(callable),
+        None => chosen_predefined(sort, name, operands),
+    }
+}
+
+/// What is called by a name with exactly these operands: the PROCs and OPs of the level are looked at first, then those that the
+/// packets export, from the last inserted on, and then what is predefined. `None` exactly where nothing of that name takes them.
 #[tactic(auto, using(elan_scope::proofs::Layers::called_as))]
 pub fn chosen<'a>(
     scope: &'a Scope,
@@ -183,8 +249,8 @@ pub fn chosen<'a>(
 ) -> Option<Callable<'a>>
     ensures { option_map seen.callable result ≡ spec.chosen scope.now sort name.now operands.now }
 {
-    match chosen_own(&scope.headings, sort, name, operands) {
+    match chosen_own(&scope.headings, scope.bodies_before, sort, name, operands) {
         Some(callable) => Some(callable),
-        None => chosen_predefined(sort, name, operands),
+        None => chosen_outside(scope.packets.as_slice(), sort, name, operands),
     }
 }

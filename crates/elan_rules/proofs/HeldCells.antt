@@ -63,36 +63,41 @@ HeldAt ps hs n = (rest : List Held) × (drop n hs ≡ cells_in ps ++ rest)
 held_behind : (ps : List Parameter) (hs js : List Held) (n : ℕ) → HeldAt ps js n → HeldAt ps (hs ++ js) (length hs + n)
 held_behind ps hs js n h = (h.0, drop-append-add hs js n ∙ h.1)
 
-abbrev FoundAt : List Entry → ℕ → ℕ → Entry → Type 0
-FoundAt es k n d = (i : ℕ) × (n ≡ k + i) × HeldAt (held d.denotes) (held_cells es) i
+-- where more is held behind
+module _ (js : List Held) where
+  abbrev FoundAt : List Entry → ℕ → ℕ → Entry → Type 0
+  FoundAt es k n d = (i : ℕ) × (n ≡ k + i) × HeldAt (held d.denotes) (held_cells es ++ js) i
 
-found_from : (k : ℕ) (es : List Entry) (x : List ℕ) (f : ℕ × Entry) → first_from k es x ≡ Some f → FoundAt es k f.0 f.1
-found_from k [] x f e = absurd cc
-found_from k (d ∷ es) x f e = by_name (found_from (k + cells_held d.denotes) es x f) (bytes_eq d.name x) e
-  where
-    by_name : (first_from (k + cells_held d.denotes) es x ≡ Some f → FoundAt es (k + cells_held d.denotes) f.0 f.1) → (b : Bool)
-        → (if b then Some (k, d) else first_from (k + cells_held d.denotes) es x) ≡ Some f → FoundAt (d ∷ es) k f.0 f.1
-    by_name rest true h =
-        let g : (k, d) ≡ f = cc in (
-          0,
-          (let i : f.0 ≡ k = sym (ap (λ (q : ℕ × Entry). q.0) g) in omega arith),
-          subst (λ (q : ℕ × Entry). HeldAt (held q.1.denotes) (held_cells (d ∷ es)) 0) g (held_cells es, held_more d es),
-        )
-    by_name rest false h =
-        let g = rest h in
-        let c = cells_held d.denotes in (
-          c + g.0,
-          (let i = g.1 in omega arith),
-          subst (λ (hs : List Held). HeldAt (held f.1.denotes) hs (c + g.0)) (sym (held_more d es))
-              (held_behind (held f.1.denotes) (cells_in (held d.denotes)) (held_cells es) g.0 g.2),
-        )
+  more_behind : (d : Entry) (es : List Entry) → held_cells (d ∷ es) ++ js ≡ cells_in (held d.denotes) ++ (held_cells es ++ js)
+  more_behind d es = ap (λ (hs : List Held). hs ++ js) (held_more d es) ∙ append_assoc (cells_in (held d.denotes)) (held_cells es) js
 
--- The cells of what is held under a name begin at the number that is found for it.
-pub found_held : (es : List Entry) (x : List ℕ) (f : ℕ × Entry) → first_named es x ≡ Some f → HeldAt (held f.1.denotes) (held_cells es) f.0
-found_held es x f e =
-    let h = found_from 0 es x f e in
-    let i : f.0 ≡ h.0 = (let j = h.1 in omega arith) in
-    subst (λ (n : ℕ). HeldAt (held f.1.denotes) (held_cells es) n) (sym i) h.2
+  found_from : (k : ℕ) (es : List Entry) (x : List ℕ) (f : ℕ × Entry) → first_from k es x ≡ Some f → FoundAt es k f.0 f.1
+  found_from k [] x f e = absurd cc
+  found_from k (d ∷ es) x f e = by_name (found_from (k + cells_held d.denotes) es x f) (bytes_eq d.name x) e
+    where
+      by_name : (first_from (k + cells_held d.denotes) es x ≡ Some f → FoundAt es (k + cells_held d.denotes) f.0 f.1) → (b : Bool)
+          → (if b then Some (k, d) else first_from (k + cells_held d.denotes) es x) ≡ Some f → FoundAt (d ∷ es) k f.0 f.1
+      by_name rest true h =
+          let g : (k, d) ≡ f = cc in (
+            0,
+            (let i : f.0 ≡ k = sym (ap (λ (q : ℕ × Entry). q.0) g) in omega arith),
+            subst (λ (q : ℕ × Entry). HeldAt (held q.1.denotes) (held_cells (d ∷ es) ++ js) 0) g (held_cells es ++ js, more_behind d es),
+          )
+      by_name rest false h =
+          let g = rest h in
+          let c = cells_held d.denotes in (
+            c + g.0,
+            (let i = g.1 in omega arith),
+            subst (λ (hs : List Held). HeldAt (held f.1.denotes) hs (c + g.0)) (sym (more_behind d es))
+                (held_behind (held f.1.denotes) (cells_in (held d.denotes)) (held_cells es ++ js) g.0 g.2),
+          )
+
+  -- The cells of what is held under a name begin at the number that is found for it.
+  pub found_held : (es : List Entry) (x : List ℕ) (f : ℕ × Entry) → first_named es x ≡ Some f → HeldAt (held f.1.denotes) (held_cells es ++ js) f.0
+  found_held es x f e =
+      let h = found_from 0 es x f e in
+      let i : f.0 ≡ h.0 = (let j = h.1 in omega arith) in
+      subst (λ (n : ℕ). HeldAt (held f.1.denotes) (held_cells es ++ js) n) (sym i) h.2
 
 sized_from : (k : ℕ) (es : List Entry) (x : List ℕ) (f : ℕ × Entry) → AllSized (all_held es) → first_from k es x ≡ Some f → AllSized (held f.1.denotes)
 sized_from k [] x f z e = absurd cc

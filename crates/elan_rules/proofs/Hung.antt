@@ -1,5 +1,5 @@
 -- Only an identifier hangs on a phrase elsewhere: one that denotes a refinement of which nothing is known.
-use Rattle.std.proofs.Common.{◌≡◌, ℕ, Bool, true, false, if◌then◌else◌, List, [], Option, Some, None, refl}
+use Rattle.std.proofs.Common.{◌≡◌, ℕ, ◌+◌, Bool, true, false, if◌then◌else◌, List, [], Option, Some, None, refl}
 use Rattle.elan_types.specs.declared.why.Why.TheVariants.{WrongPlace}
 use Rattle.elan_scope.specs.declared.delivery.Delivery.{Delivery}
 use Rattle.elan_scope.specs.declared.delivery.Delivery.TheVariants.{Open, Nothing, Of}
@@ -33,10 +33,10 @@ module _ (kn : Known) (at : ℕ) (s : Scope) (x : List ℕ) where
   refined_open None i e = absurd cc
   refined_open (Some n) i e = by_test (leads_back kn n s.refinement) refl e
     where
-      by_test : (b : Bool) → leads_back kn n s.refinement ≡ b → (if b then told (breaks (at, WrongPlace)) else c.referred at n (delivery_at kn n)) ≡ hangs
+      by_test : (b : Bool) → leads_back kn n s.refinement ≡ b → (if b then told (breaks (at, WrongPlace)) else c.referred at (s.bodies_before + n) (delivery_at kn n)) ≡ hangs
           → IsOpen kn s x
       by_test true j g = absurd cc
-      by_test false j g = (n, i, referred_open n (delivery_at kn n) g, j)
+      by_test false j g = (n, i, referred_open (s.bodies_before + n) (delivery_at kn n) g, j)
 
   -- An identifier that hangs is an expression.
   abbrev pub OpenUse : Usage → Type 0

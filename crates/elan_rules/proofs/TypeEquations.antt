@@ -106,6 +106,9 @@ module _ (here : Stand) where
   pub variable_is : (n : ℕ) → cells (place.Variable n) ≡ drop n here.outside.variables
   variable_is n = ap cells (sym (place.rolls-Variable n)) ∙ of_place (t.Variable n)
 
+  pub packet_is : (n : ℕ) → cells (place.Packet n) ≡ drop n here.outside.packets
+  packet_is n = ap cells (sym (place.rolls-Packet n)) ∙ of_place (t.Packet n)
+
   pub local_is : (n : ℕ) → cells (place.Local n) ≡ values_held (drop n frame)
   local_is n = ap cells (sym (place.rolls-Local n)) ∙ of_place (t.Local n)
 

@@ -12,7 +12,9 @@ use Rattle.elan_meant.specs.declared.meant.Meant.{Meant}
 use Rattle.elan_scope.specs.declared.scope.Usage.{Usage}
 use Rattle.elan_scope.specs.declared.scope.Usage.TheVariants as usage
 use Rattle.elan_meant.specs.declared.meant.Meant.TheVariants.{Absent, Variable, Value, Done, Left, Labels, Bodies, Level}
-use Rattle.std.specs.Prelude.{slice_get, nat_eq, option_and_then}
+use Rattle.std.specs.Prelude.{slice_get, nat_eq, option_and_then, option_map, option_to_list, ◌==◌, ◌&&◌}
+use lib.Seq.{drop-drop}
+use Rattle.std.proofs.Common.{append-nil}
 use Rattle.std.specs.Str.{bytes_eq}
 use Rattle.elan_types.specs.declared.core_phrase.Access.{Access}
 use Rattle.elan_types.specs.declared.core_phrase.Access.TheVariants.{Const, Var}
@@ -46,12 +48,15 @@ use Rattle.elan_scope.specs.declared.scope.Scope.{Scope}
 use Rattle.elan_scope.specs.declared.scope.Within.{Within}
 use Rattle.elan_scope.specs.declared.scope.Home.{Home}
 use Rattle.elan_scope.specs.Scope.{Found}
-use Rattle.elan_scope.specs.declared.scope.Home.TheVariants.{Level as of_level, Routine as of_routine}
+use Rattle.elan_scope.specs.declared.scope.Home.TheVariants.{Level as of_level, Routine as of_routine, Packet as of_packet}
 use Rattle.elan_scope.specs.Known.{delivery_at, leads_back}
 use Rattle.elan_scope.specs.declared.known.Known.{Known}
 use Rattle.elan_names.specs.Predefined.{predefined}
-use Rattle.elan_scope.proofs.Layers.{called_as, layers_in, outer_layers}
-use Rattle.elan_names.proofs.Named.{first_heading_from}
+use Rattle.elan_scope.proofs.Layers.{called_as, found_as}
+use Rattle.elan_scope.specs.walks.Seen.{called_in_packets, found_in_packets, found_around, found_within}
+use Rattle.elan_names.specs.declared.interface.Inserted.{Inserted}
+use Rattle.elan_names.specs.Interfaces.{exports}
+use Rattle.elan_names.proofs.Named.{first_heading_from, and_right}
 use Rattle.elan_meant.specs.Operands.{delivers, takes, chosen}
 use Rattle.eu_base.specs.Shapes.{cell_kinds}
 use Rattle.elan_types.specs.declared.core_phrase.PlacePhrase.TheVariants as place
@@ -64,8 +69,9 @@ use Rattle.value_rules.specs.Calls as r
 use Rattle.value_rules.specs.Values.{denoter}
 use Rattle.elan_rules.proofs.TypedUnits.{denoter_good}
 use Rattle.value_rules.specs.walks.Steps as walk
-use Rattle.elan_rules.proofs.TypeEquations.{Stand, typed, cells, frame, variable_is, local_is, parameter_is, refer_is, action_refer_is, leave_is, leave_with_is}
-use Rattle.elan_rules.proofs.TypedPerformed.{owner_with, Headed, Delivering, BodyFits, Fitting, MayCall, none_holds, has_holds, own_calls, predefined_calls}
+use Rattle.elan_rules.proofs.TypeEquations.{Stand, typed, cells, frame, variable_is, packet_is, local_is, parameter_is, refer_is, action_refer_is, leave_is, leave_with_is}
+use Rattle.std.proofs.lemmas.Bool.Decides.{Decides-eqb}
+use Rattle.elan_rules.proofs.TypedPerformed.{owner_with, behind, Headed, Delivering, BodyFits, Fitting, MayCall, none_holds, has_holds, own_calls, predefined_calls}
 use Rattle.elan_rules.proofs.TypedPerformed.{first_calls, else_calls, called_good}
 
 -- ---- look-ups
@@ -104,18 +110,43 @@ abbrev pub WithinSized : Option Within → Type 0
 WithinSized None = Unit {0}
 WithinSized (Some v) = AllSized (all_held v.names)
 
+-- the cells that are held somewhere
+abbrev pub home_cells : Stand → Home → List Held
+home_cells here of_level = map OfKind here.outside.variables
+home_cells here (of_packet before) = map OfKind (drop before here.outside.packets)
+home_cells here of_routine = frame here
+
+-- These declarations are held there first.
+abbrev pub HeldThere : Stand → Home → List Entry → Type 0
+HeldThere here home es = (rest : List Held) × (home_cells here home ≡ held_cells es ++ rest)
+
+-- The bodies and variables of a packet are those that it shows.
+pub record PacketFits (here : Stand) (p : Inserted) : Type 0 where
+  pub held : HeldThere here (of_packet p.cells_before) p.interface.names
+  pub sized : AllSized (all_held p.interface.names)
+  pub bodies : Fitting here p.bodies_before p.bodies_before p.interface.headings
+
+abbrev pub AllFit : Stand → List Inserted → Type 0
+AllFit here [] = Unit {0}
+AllFit here (p ∷ ps) = PacketFits here p × AllFit here ps
+
 -- The bodies are those that a scope tells of.
 pub record Fits (here : Stand) (s : Scope) (k : Known) : Type 0 where
-  pub level : here.outside.variables ≡ variables_of s.level
-  -- what the level and the routine hold, and that of the level is no place
-  pub constant : AllConst (all_held s.level)
+  pub packets : AllFit here s.packets
+  -- what the level and the routine hold
+  pub level : HeldThere here s.home s.level
   pub sized : AllSized (all_held s.level)
   pub frame_sized : WithinSized s.routine
   pub frame : FrameIs (frame_in here.bodies (owner_in here.bodies here.home)) s.routine
-  pub owner_is : owner_in here.bodies here.home ≡ number_of s.routine
-  pub home_is : here.home ≡ option_or s.refinement (number_of s.routine)
-  pub part_of : (r q : ℕ) → s.refinement ≡ Some r → number_of s.routine ≡ Some q → scope_of (slice_get here.bodies r) ≡ Some (owner.Of q)
-  pub bodies : (n : ℕ) (h : Heading) → slice_get s.headings n ≡ Some h → BodyFits (slice_get here.bodies n) h (delivery_at k n)
+  pub owner_is : owner_in here.bodies here.home ≡ behind s.bodies_before (number_of s.routine)
+  pub home_is : here.home ≡ behind s.bodies_before (option_or s.refinement (number_of s.routine))
+  pub part_of : (r q : ℕ) → s.refinement ≡ Some r → number_of s.routine ≡ Some q
+      → scope_of (slice_get here.bodies (s.bodies_before + r)) ≡ Some (owner.Of (s.bodies_before + q))
+  pub bodies : (n : ℕ) (h : Heading) → slice_get s.headings n ≡ Some h
+      → BodyFits s.bodies_before (slice_get here.bodies (s.bodies_before + n)) h (delivery_at k n)
+
+same_behind : (b n m : ℕ) → (n == m) ≡ true → (b + n == b + m) ≡ true
+same_behind b n m e = ap (λ (k : ℕ). b + n == b + k) (sym ((Decides-eqb n m).0 e)) ∙ (Decides-eqb (b + n) (b + n)).1 refl
 
 module _ (here : Stand) where
   abbrev Has : Shape → ValuePhrase → Type 0
@@ -132,13 +163,9 @@ module _ (here : Stand) where
 
   -- ---- what stands at places
 
-  abbrev home_cells : Home → List Held
-  home_cells of_level = map OfKind here.outside.variables
-  home_cells of_routine = frame here
-
   -- The cells of what is held begin at this number.
   abbrev AtHome : Home → ℕ → Parameter → Type 0
-  AtHome home n q = (rest : List Held) × (drop n (home_cells home) ≡ cells_of (formal_of q) ++ rest)
+  AtHome home n q = (rest : List Held) × (drop n (home_cells here home) ≡ cells_of (formal_of q) ++ rest)
 
   abbrev Stays : Shape → PlacePhrase → Type 0
   Stays = ty.Lies here
@@ -151,6 +178,11 @@ module _ (here : Stand) where
   place_lies of_level n t Const h z =
       lies_by (shape_in t) (place.Variable n) _ (variable_is here n ∙ kinds_at (cell_kinds (shape_in t)) here.outside.variables h.0 n h.1) z
   place_lies of_level n t Var h z = absurd (no_place (cell_kinds (shape_in t)) here.outside.variables h.0 n h.1)
+  place_lies (of_packet b) n t Const h z =
+      lies_by (shape_in t) (place.Packet (b + n)) _
+      (packet_is here (b + n) ∙ sym (drop-drop n b here.outside.packets)
+      ∙ kinds_at (cell_kinds (shape_in t)) (drop b here.outside.packets) h.0 n h.1) z
+  place_lies (of_packet b) n t Var h z = absurd (no_place (cell_kinds (shape_in t)) (drop b here.outside.packets) h.0 n h.1)
   place_lies of_routine n t Const h z =
       lies_by (shape_in t) (place.Local n) _ (local_is here n ∙ values_at (cell_kinds (shape_in t)) (frame here) h.0 n h.1) z
   place_lies of_routine n t Var h z =
@@ -168,30 +200,28 @@ module _ (here : Stand) where
     Lies home n [] = Unit {0}
     Lies home n (q ∷ qs) = AtHome home n q × (is_sized_type q.of ≡ true)
 
-    held_lies : (home : Home) (n : ℕ) (ps : List Parameter) → HeldAt ps (home_cells home) n → AllSized ps → Lies home n ps
+    held_lies : (home : Home) (n : ℕ) (ps : List Parameter) → HeldAt ps (home_cells here home) n → AllSized ps → Lies home n ps
     held_lies home n [] h z = tt
-    held_lies home n (q ∷ ps) h z = (held_first q ps (home_cells home) n h, z.0)
+    held_lies home n (q ∷ ps) h z = (held_first q ps (home_cells here home) n h, z.0)
 
-    entry_lies : (home : Home) (es : List Entry) (f : ℕ × Entry) (x : List ℕ) → home_cells home ≡ held_cells es → AllSized (all_held es)
+    entry_lies : (home : Home) (es : List Entry) (f : ℕ × Entry) (x : List ℕ) → HeldThere here home es → AllSized (all_held es)
         → scope.first_named es x ≡ Some f → Lies home f.0 (held f.1.denotes)
     entry_lies home es f x h z e =
-        held_lies home f.0 (held f.1.denotes) (subst (λ (hs : List Held). HeldAt (held f.1.denotes) hs f.0) (sym h) (found_held es x f e))
+        held_lies home f.0 (held f.1.denotes)
+        (subst (λ (hs : List Held). HeldAt (held f.1.denotes) hs f.0) (sym h.1) (found_held h.0 es x f e))
         (found_sized es x f z e)
 
     abbrev FoundLies : Option Found → Type 0
     FoundLies None = Unit {0}
     FoundLies (Some f) = Lies f.home f.number (held f.denotes)
 
-    names_lie : (home : Home) (es : List Entry) (o : Option (ℕ × Entry)) (x : List ℕ) → home_cells home ≡ held_cells es → AllSized (all_held es)
+    names_lie : (home : Home) (es : List Entry) (o : Option (ℕ × Entry)) (x : List ℕ) → HeldThere here home es → AllSized (all_held es)
         → scope.first_named es x ≡ o → FoundLies (scope.found_in home o)
     names_lie home es None x h z e = tt
     names_lie home es (Some f) x h z e = entry_lies home es f x h z e
 
-    level_is : home_cells of_level ≡ held_cells s.level
-    level_is = ap (λ (ks : List Kind). map OfKind ks) fits.level ∙ level_cells (all_held s.level) fits.constant
-
-    level_lies : (x : List ℕ) → FoundLies (scope.found_in of_level (scope.first_named s.level x))
-    level_lies x = names_lie of_level s.level (scope.first_named s.level x) x level_is fits.sized refl
+    level_lies : (x : List ℕ) → FoundLies (scope.found_in s.home (scope.first_named s.level x))
+    level_lies x = names_lie s.home s.level (scope.first_named s.level x) x fits.level fits.sized refl
 
     inside_lies : (o : Option Found) → FoundLies o → FoundLies (scope.from_inside o)
     inside_lies None h = tt
@@ -205,38 +235,77 @@ module _ (here : Stand) where
     else_lies None q h i = i
     else_lies (Some f) q h i = h
 
-    find_lies_from : (v : Option Within) (x : List ℕ) → FrameIs (frame here) v → WithinSized v
-        → FoundLies (scope.find_in x (layers_in v (outer_layers s.level s.headings)))
-    find_lies_from None x h z = else_lies (scope.found_in of_level (scope.first_named s.level x)) None (level_lies x) tt
-    find_lies_from (Some v) x h z =
+    seen_lies : (b : Bool) (o : Option Found) → FoundLies o → FoundLies (if b then o else None)
+    seen_lies true o h = h
+    seen_lies false o h = tt
+
+    packets_lie : (x : List ℕ) (ps : List Inserted) → AllFit here ps → FoundLies (found_in_packets x ps)
+    packets_lie x [] h = tt
+    packets_lie x (p ∷ ps) h =
+        let o = scope.found_in (of_packet p.cells_before) (scope.first_named p.interface.names x) in
+        let shown = if exports p.interface x then o else None in
+        else_lies (scope.from_inside shown) (found_in_packets x ps)
+        (inside_lies shown (seen_lies (exports p.interface x) o
+        (names_lie (of_packet p.cells_before) p.interface.names (scope.first_named p.interface.names x) x h.0.held h.0.sized refl)))
+        (packets_lie x ps h.1)
+
+    within_lies : (v : Option Within) (x : List ℕ) → FrameIs (frame here) v → WithinSized v → FoundLies (found_around x v s)
+    within_lies None x h z = level_lies x
+    within_lies (Some v) x h z =
         else_lies (scope.found_in of_routine (scope.first_named v.names x))
-        (option_or (scope.from_inside (scope.found_in of_level (scope.first_named s.level x))) None)
-        (names_lie of_routine v.names (scope.first_named v.names x) x h z refl)
-        (else_lies (scope.from_inside (scope.found_in of_level (scope.first_named s.level x))) None
-        (inside_lies (scope.found_in of_level (scope.first_named s.level x)) (level_lies x)) tt)
+        (scope.from_inside (scope.found_in s.home (scope.first_named s.level x)))
+        (names_lie of_routine v.names (scope.first_named v.names x) x ([], h ∙ sym (append-nil (held_cells v.names))) z refl)
+        (inside_lies (scope.found_in s.home (scope.first_named s.level x)) (level_lies x))
 
     find_lies : (x : List ℕ) → FoundLies (scope.find s x)
-    find_lies x = find_lies_from s.routine x fits.frame fits.frame_sized
+    find_lies x =
+        subst FoundLies (sym (found_as x s))
+        (else_lies (found_within x s) (found_in_packets x s.packets) (within_lies s.routine x fits.frame fits.frame_sized) (packets_lie x s.packets fits.packets))
+
+    abbrev layers_with : Option Within → List scope.Layer
+    layers_with v = option_to_list (option_map scope.routine_layer v) ++ scope.level_layer s ∷ (map scope.packet_layer s.packets ++ scope.predefined_layer ∷ [])
 
     own_lies_from : (v : Option Within) (x : List ℕ) → FrameIs (frame here) v → WithinSized v
-        → FoundLies (option_and_then (scope.found x) (slice_get (layers_in v (outer_layers s.level s.headings)) 0))
+        → FoundLies (option_and_then (scope.found x) (slice_get (layers_with v) 0))
     own_lies_from None x h z = level_lies x
-    own_lies_from (Some v) x h z = names_lie of_routine v.names (scope.first_named v.names x) x h z refl
+    own_lies_from (Some v) x h z =
+        names_lie of_routine v.names (scope.first_named v.names x) x ([], h ∙ sym (append-nil (held_cells v.names))) z refl
 
     -- ---- what is called
 
-    headings_fit : Fitting here 0 s.headings
-    headings_fit i h e =
-        let z : i ≡ 0 + i = omega arith in
-        (delivery_at k i, subst (λ (n : ℕ). BodyFits (slice_get here.bodies n) h (delivery_at k i)) z (fits.bodies i h e))
+    headings_fit : Fitting here s.bodies_before s.bodies_before s.headings
+    headings_fit i h e = (delivery_at k i, fits.bodies i h e)
+
+    module _ (test : Callable → Bool) where
+      -- what is seen of some, which may be called
+      seen_calls : (sees : List ℕ → Bool) (cs : List Callable) → MayCall here (λ c. sees c.name && test c) (scope.first (λ c. sees c.name && test c) cs)
+          → MayCall here test (scope.first (λ c. sees c.name && test c) cs)
+      seen_calls sees cs h = by_found (scope.first (λ c. sees c.name && test c) cs) h
+        where
+          by_found : (o : Option Callable) → MayCall here (λ c. sees c.name && test c) o → MayCall here test o
+          by_found None i = tt
+          by_found (Some c) i = (i.0, and_right (sees c.name) (test c) i.1)
+
+      packets_call : (ps : List Inserted) → AllFit here ps → MayCall here test (called_in_packets test ps)
+      packets_call [] h = tt
+      packets_call (p ∷ ps) h =
+          let cs = scope.own_callables p.bodies_before p.interface.headings in
+          let seen = λ (c : Callable). exports p.interface c.name && test c in
+          else_calls here test (scope.first seen cs) (called_in_packets test ps)
+          (seen_calls (exports p.interface) cs
+          (first_calls here seen cs (own_calls here p.bodies_before p.bodies_before p.interface.headings h.0.bodies)))
+          (packets_call ps h.1)
 
     chosen_good : (sort : Sort) (x : List ℕ) (ms : List Meant) → MayCall here (takes sort x ms) (chosen s sort x ms)
     chosen_good sort x ms =
-        subst (MayCall here (takes sort x ms)) (sym (called_as (takes sort x ms) s))
-        (else_calls here (takes sort x ms) (scope.first (takes sort x ms) (scope.own_callables 0 s.headings))
-        (scope.first (takes sort x ms) (map scope.predefined_callable predefined))
-        (first_calls here (takes sort x ms) (scope.own_callables 0 s.headings) (own_calls here 0 s.headings headings_fit))
-        (first_calls here (takes sort x ms) (map scope.predefined_callable predefined) (predefined_calls here predefined)))
+        let test = takes sort x ms in
+        subst (MayCall here test) (sym (called_as test s))
+        (else_calls here test (scope.first test (scope.own_callables s.bodies_before s.headings))
+        (option_or (called_in_packets test s.packets) (scope.first test (map scope.predefined_callable predefined)))
+        (first_calls here test (scope.own_callables s.bodies_before s.headings) (own_calls here s.bodies_before s.bodies_before s.headings headings_fit))
+        (else_calls here test (called_in_packets test s.packets) (scope.first test (map scope.predefined_callable predefined))
+        (packets_call test s.packets fits.packets)
+        (first_calls here test (map scope.predefined_callable predefined) (predefined_calls here predefined))))
 
     applied_as_good : (at : ℕ) (known : Bool) (sort : Sort) (x : List ℕ) (ms : List Meant) (o : Option Callable) → MayCall here (takes sort x ms) o
         → AllGood ms → Gives Good (r.applied_as at known ms o)
@@ -249,24 +318,24 @@ module _ (here : Stand) where
 
     -- ---- refinements
 
-    refines_same : (o q : Option ℕ) → same_home o q ≡ true → refines o (Some (owner_with q)) ≡ true
+    refines_same : (o q : Option ℕ) → same_home o q ≡ true → refines (behind s.bodies_before o) (Some (owner_with (behind s.bodies_before q))) ≡ true
     refines_same None None e = refl
     refines_same None (Some n) e = absurd cc
     refines_same (Some n) None e = absurd cc
-    refines_same (Some n) (Some m) e = e
+    refines_same (Some n) (Some m) e = same_behind s.bodies_before n m e
 
-    refined_owner : (w : What) (b : Body) → scope.is_refinement_of (number_of s.routine) w ≡ true → Headed w b
-        → refines (number_of s.routine) (Some b.scope) ≡ true
+    refined_owner : (w : What) (b : Body) → scope.is_refinement_of (number_of s.routine) w ≡ true → Headed s.bodies_before w b
+        → refines (behind s.bodies_before (number_of s.routine)) (Some b.scope) ≡ true
     refined_owner (Routine sort ps o) b e h = absurd cc
-    refined_owner (Refinement home) b e h = ap (λ (z : Owner). refines (number_of s.routine) (Some z)) h ∙ refines_same (number_of s.routine) home e
+    refined_owner (Refinement home) b e h = ap (λ (z : Owner). refines (behind s.bodies_before (number_of s.routine)) (Some z)) h ∙ refines_same (number_of s.routine) home e
 
-    refines_holds : (n : ℕ) (b : Body) → slice_get here.bodies n ≡ Some b → refines (number_of s.routine) (Some b.scope) ≡ true
+    refines_holds : (n : ℕ) (b : Body) → slice_get here.bodies n ≡ Some b → refines (behind s.bodies_before (number_of s.routine)) (Some b.scope) ≡ true
         → refines (owner_in here.bodies here.home) (scope_of (slice_get here.bodies n)) ≡ true
     refines_holds n b e h =
         ap (λ (o : Option ℕ). refines o (scope_of (slice_get here.bodies n))) fits.owner_is
-        ∙ ap (λ (c : Option Body). refines (number_of s.routine) (scope_of c)) e ∙ h
+        ∙ ap (λ (c : Option Body). refines (behind s.bodies_before (number_of s.routine)) (scope_of c)) e ∙ h
 
-    referred_good : (at n : ℕ) (b : Body) (d : Delivery) → slice_get here.bodies n ≡ Some b → refines (number_of s.routine) (Some b.scope) ≡ true
+    referred_good : (at n : ℕ) (b : Body) (d : Delivery) → slice_get here.bodies n ≡ Some b → refines (behind s.bodies_before (number_of s.routine)) (Some b.scope) ≡ true
         → Delivering d b → MayGive Good (r.referred at n d)
     referred_good at n b Open e o h = tt
     referred_good at n b Nothing e o h =
@@ -297,7 +366,7 @@ module _ (here : Stand) where
     refined_good at (Some n) h =
         let f = fits.bodies n h.0 h.1 in
         on_either Good (leads_back k n s.refinement) _ _ tt
-        (referred_good at n f.body (delivery_at k n) f.is (refined_owner h.0.what f.body h.2 f.headed) f.delivers)
+        (referred_good at (s.bodies_before + n) f.body (delivery_at k n) f.is (refined_owner h.0.what f.body h.2 f.headed) f.delivers)
 
     used_good : (u : Usage) (at : ℕ) (o : Option ℕ) → IsRefined o → MayGive Good (r.refined_as k u at s o)
     used_good usage.Expression at o h = refined_good at o h
@@ -339,7 +408,7 @@ module _ (here : Stand) where
 
     abbrev Leaves : Option (Exit × ℕ) → Type 0
     Leaves None = Unit {0}
-    Leaves (Some e) = (h : Heading) × (slice_get s.headings e.1 ≡ Some h) × (left_from here.bodies e.0 here.home ≡ result_of (slice_get here.bodies e.1))
+    Leaves (Some e) = (h : Heading) × (slice_get s.headings e.1 ≡ Some h) × (left_from here.bodies e.0 here.home ≡ result_of (slice_get here.bodies (s.bodies_before + e.1)))
 
     named_heading : (o : Option ℕ) (x : List ℕ) (n : ℕ) → scope.body_named s.headings o x ≡ Some n
         → (h : Heading) × (slice_get s.headings n ≡ Some h) × (o ≡ Some n)
@@ -355,7 +424,7 @@ module _ (here : Stand) where
             by_test true c = let d : m ≡ n = cc in (h, subst (λ (l : ℕ). slice_get s.headings l ≡ Some h) d i, c)
             by_test false c = absurd cc
 
-    body_left : (o : Option ℕ) (x : List ℕ) (q : Option ℕ) → scope.body_named s.headings o x ≡ q → ((n : ℕ) → o ≡ Some n → here.home ≡ Some n)
+    body_left : (o : Option ℕ) (x : List ℕ) (q : Option ℕ) → scope.body_named s.headings o x ≡ q → ((n : ℕ) → o ≡ Some n → here.home ≡ Some (s.bodies_before + n))
         → Leaves (scope.left_by exits.Body q)
     body_left o x None e i = tt
     body_left o x (Some n) e i =
@@ -371,13 +440,13 @@ module _ (here : Stand) where
     routine_left z x None i e = tt
     routine_left None x (Some n) i e =
         let h = named_heading (number_of s.routine) x n e in
-        (h.0, h.1, ap (λ (y : InBody). left_from here.bodies exits.Body y) (fits.home_is ∙ ap (λ (y : Option ℕ). option_or y (number_of s.routine)) i ∙ h.2))
+        (h.0, h.1, ap (λ (y : InBody). left_from here.bodies exits.Body y) (fits.home_is ∙ ap (λ (y : Option ℕ). behind s.bodies_before (option_or y (number_of s.routine))) i ∙ ap (behind s.bodies_before) h.2))
     routine_left (Some m) x (Some n) i e =
         let h = named_heading (number_of s.routine) x n e in
-        (h.0, h.1, around_left n m (fits.home_is ∙ ap (λ (y : Option ℕ). option_or y (number_of s.routine)) i) (fits.part_of m n i h.2))
+        (h.0, h.1, around_left (s.bodies_before + n) (s.bodies_before + m) (fits.home_is ∙ ap (λ (y : Option ℕ). behind s.bodies_before (option_or y (number_of s.routine))) i) (fits.part_of m n i h.2))
 
-    refinement_home : (n : ℕ) → s.refinement ≡ Some n → here.home ≡ Some n
-    refinement_home n e = fits.home_is ∙ ap (λ (y : Option ℕ). option_or y (number_of s.routine)) e
+    refinement_home : (n : ℕ) → s.refinement ≡ Some n → here.home ≡ Some (s.bodies_before + n)
+    refinement_home n e = fits.home_is ∙ ap (λ (y : Option ℕ). behind s.bodies_before (option_or y (number_of s.routine))) e
 
     else_leaves : (o q : Option (Exit × ℕ)) → Leaves o → Leaves q → Leaves (option_or o q)
     else_leaves None q h i = i
@@ -433,7 +502,7 @@ module _ (here : Stand) where
         let f = fits.bodies e.1 h.0 h.1 in
         on_if Good (r.agrees (delivery_at k e.1) m) _ _
         (λ a. ty.unit_typed here (walk.leave_of e.0 m ∷ [])
-        (ty.single_typed here (walk.leave_of e.0 m) (leave_of_typed e.0 e.1 f.body (delivery_at k e.1) m h.2 f.is f.delivers g a))) (λ a. tt)
+        (ty.single_typed here (walk.leave_of e.0 m) (leave_of_typed e.0 (s.bodies_before + e.1) f.body (delivery_at k e.1) m h.2 f.is f.delivers g a))) (λ a. tt)
 
     pub leaving_good : (at : ℕ) (x : List ℕ) (m : Meant) → Good m → Gives Good (r.leaving k at (scope.left s x) m)
     leaving_good at x m g = leaving_as_good at (scope.left s x) m (left_leaves x) g

@@ -55,20 +55,24 @@ abbrev pub owner_with : Option ℕ → Owner
 owner_with None = owner.Level
 owner_with (Some n) = owner.Of n
 
-abbrev pub Headed : What → Body → Type 0
-Headed (Routine sort ps r) b =
+-- the number among all bodies of one of a level, before whose bodies there are so many
+abbrev pub behind : ℕ → Option ℕ → Option ℕ
+behind before o = option_map (λ n. before + n) o
+
+abbrev pub Headed : ℕ → What → Body → Type 0
+Headed before (Routine sort ps r) b =
     (vs : List Kind) × (b.scope ≡ owner.Own (map formal_of ps) vs) × (result_of_content b.content ≡ option_map shape_in r)
-Headed (Refinement home) b = b.scope ≡ owner_with home
+Headed before (Refinement home) b = b.scope ≡ owner_with (behind before home)
 
 abbrev pub Delivering : Delivery → Body → Type 0
 Delivering Open b = ⊥
 Delivering Nothing b = result_of_content b.content ≡ None
 Delivering (Of t) b = result_of_content b.content ≡ Some (shape_in t)
 
-pub record BodyFits (o : Option Body) (h : Heading) (d : Delivery) : Type 0 where
+pub record BodyFits (before : ℕ) (o : Option Body) (h : Heading) (d : Delivery) : Type 0 where
   pub body : Body
   pub is : o ≡ Some body
-  pub headed : Headed h.what body
+  pub headed : Headed before h.what body
   pub delivers : Delivering d body
 
 -- ---- what is predefined, as a core knows it
@@ -254,24 +258,26 @@ module _ (here : Stand) where
   predefined_calls [] = tt
   predefined_calls (l ∷ rs) = (predefined_performs l.2, predefined_calls rs)
 
-  -- The bodies from this number on are those of these headings.
-  abbrev pub Fitting : ℕ → List Heading → Type 0
-  Fitting n hs = (i : ℕ) (h : Heading) → slice_get hs i ≡ Some h → (d : Delivery) × BodyFits (slice_get here.bodies (n + i)) h d
+  -- The bodies from this number on are those of these headings, in a level before whose bodies there are so many.
+  abbrev pub Fitting : ℕ → ℕ → List Heading → Type 0
+  Fitting before n hs = (i : ℕ) (h : Heading) → slice_get hs i ≡ Some h → (d : Delivery) × BodyFits before (slice_get here.bodies (n + i)) h d
 
-  one_calls : (n : ℕ) (x : List ℕ) (w : What) (b : Body) (rest : List Callable) → slice_get here.bodies n ≡ Some b → Headed w b → AllCall rest
-      → AllCall (scope.own_callable n x w ++ rest)
-  one_calls n x (Routine sort ps o) b rest e h g = (body_performs n b ps h.0 o e h.1 h.2, g)
-  one_calls n x (Refinement home) b rest e h g = g
+  module _ (before : ℕ) where
+    one_calls : (n : ℕ) (x : List ℕ) (w : What) (b : Body) (rest : List Callable) → slice_get here.bodies n ≡ Some b → Headed before w b → AllCall rest
+        → AllCall (scope.own_callable n x w ++ rest)
+    one_calls n x (Routine sort ps o) b rest e h g = (body_performs n b ps h.0 o e h.1 h.2, g)
+    one_calls n x (Refinement home) b rest e h g = g
 
-  pub own_calls : (n : ℕ) (hs : List Heading) → Fitting n hs → AllCall (scope.own_callables n hs)
-  own_calls n [] f = tt
-  own_calls n (h ∷ hs) f =
-      let b = (f 0 h refl).1 in
-      let z : n + 0 ≡ n = omega arith in
-      one_calls n h.name h.what b.body (scope.own_callables (n + 1) hs) (ap (slice_get here.bodies) (sym z) ∙ b.is) b.headed (own_calls (n + 1) hs (λ i g e.
-      let y : n + suc i ≡ n + 1 + i = omega arith in
-      let c = f (suc i) g e in
-      (c.0, subst (λ (m : ℕ). BodyFits (slice_get here.bodies m) g c.0) y c.1)))
+    pub own_calls : (n : ℕ) (hs : List Heading) → Fitting before n hs → AllCall (scope.own_callables n hs)
+    own_calls n [] f = tt
+    own_calls n (h ∷ hs) f =
+        let b = (f 0 h refl).1 in
+        let z : n + 0 ≡ n = omega arith in
+        one_calls n h.name h.what b.body (scope.own_callables (n + 1) hs) (ap (slice_get here.bodies) (sym z) ∙ b.is) b.headed
+        (own_calls (n + 1) hs (λ i g e.
+        let y : n + suc i ≡ n + 1 + i = omega arith in
+        let c = f (suc i) g e in
+        (c.0, subst (λ (m : ℕ). BodyFits before (slice_get here.bodies m) g c.0) y c.1)))
 
   abbrev pub MayCall : (Callable → Bool) → Option Callable → Type 0
   MayCall test None = Unit {0}

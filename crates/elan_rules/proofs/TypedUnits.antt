@@ -3,7 +3,8 @@ use Rattle.std.proofs.Common.{◌≡◌, ℤ, ℕ, Bool, true, false, if◌then�
 use Rattle.std.specs.Option.{option_map_or}
 use Rattle.eu_base.specs.declared.value.TheConstants.{TEXT_BYTES}
 use Rattle.elan_types.specs.declared.elan_type.ElanType.{ElanType}
-use Rattle.elan_types.specs.Types.{concrete, items, field, cells, shape_in, type_in, has_own}
+use Rattle.elan_types.specs.Types.{concrete, is_own_from, items, field, cells, shape_in, type_in, has_own}
+use Rattle.elan_scope.specs.declared.scope.Scope.{Scope}
 use Rattle.elan_types.proofs.Types.{concrete_shape, cells_kinds}
 use Rattle.elan_types.proofs.Sized.{items_shape, item_of_type_starts, item_of_type_sized, field_of_type_starts, field_of_type_sized, field_has_part}
 use Rattle.value_rules.specs.Values as v
@@ -98,21 +99,23 @@ module _ (here : Stand) where
 
   -- ---- CONCR
 
-  concr_as_good : (at : ℕ) (t : ElanType) (o : Option ElanType) (go : ElanType → Meant) → concrete t ≡ o
-      → ((u : ElanType) → shape_in u ≡ shape_in t → Good (go u)) → Gives Good (v.concr_as at o go)
-  concr_as_good at t (Some u) go e h = h u (sym (concrete_shape t u e))
-  concr_as_good at t None go e h = tt
+  concr_as_good : (at : ℕ) (own : Bool) (t : ElanType) (o : Option ElanType) (go : ElanType → Meant) → concrete t ≡ o
+      → ((u : ElanType) → shape_in u ≡ shape_in t → Good (go u)) → Gives Good (v.concr_as at own o go)
+  concr_as_good at true t (Some u) go e h = h u (sym (concrete_shape t u e))
+  concr_as_good at false t (Some u) go e h = tt
+  concr_as_good at own t None go e h = tt
 
-  pub concr_good : (at : ℕ) (m : Meant) → Good m → Gives Good (v.concr at m)
-  concr_good at Absent g = tt
-  concr_good at (Variable q t x) g =
-      concr_as_good at t (concrete t) (λ u. Variable at u x) refl (λ u e. subst (λ (r : Shape). Lies r x) (sym e) g)
-  concr_good at (Value q t x) g = concr_as_good at t (concrete t) (λ u. Value at u x) refl (λ u e. subst (λ (r : Shape). Has r x) (sym e) g)
-  concr_good at (Done as') g = tt
-  concr_good at (Left as') g = tt
-  concr_good at (Labels ns) g = tt
-  concr_good at (Bodies bs) g = tt
-  concr_good at (Level us bs) g = tt
+  pub concr_good : (at : ℕ) (s : Scope) (m : Meant) → Good m → Gives Good (v.concr at s m)
+  concr_good at s Absent g = tt
+  concr_good at s (Variable q t x) g =
+      concr_as_good at (is_own_from s.types_before t) t (concrete t) (λ u. Variable at u x) refl (λ u e. subst (λ (r : Shape). Lies r x) (sym e) g)
+  concr_good at s (Value q t x) g =
+      concr_as_good at (is_own_from s.types_before t) t (concrete t) (λ u. Value at u x) refl (λ u e. subst (λ (r : Shape). Has r x) (sym e) g)
+  concr_good at s (Done as') g = tt
+  concr_good at s (Left as') g = tt
+  concr_good at s (Labels ns) g = tt
+  concr_good at s (Bodies bs) g = tt
+  concr_good at s (Level us bs) g = tt
 
   -- ---- items of rows and fields of structures
 

@@ -21,7 +21,7 @@ pub data Plain : Type 0 where
   applied : Scope → Sort → List ℕ → Plain
   bracket : Plain
   -- CONCR of a value or place of one of the text's own types
-  concr : Plain
+  concr : Scope → Plain
   -- a value or place of a row and an index, and one of a structure
   index : Plain
   field : List ℕ → Plain

@@ -1,5 +1,5 @@
 -- What names denote where a phrase stands.
-use Rattle.std.specs.Prelude.{ℕ, ℤ, Bool, false, List, [], ◌∷◌, ◌++◌, map, Option, Some, None, if◌then◌else◌, slice_get}
+use Rattle.std.specs.Prelude.{ℕ, ℤ, Bool, true, false, ◌&&◌, List, [], ◌∷◌, ◌++◌, map, Option, Some, None, if◌then◌else◌, slice_get}
 use Rattle.std.specs.Prelude.{option_map, option_and_then, option_to_list}
 use Rattle.std.specs.Option.{is_some, option_or, option_map_or}
 use Rattle.std.specs.Str.{bytes_eq}
@@ -9,13 +9,15 @@ use Rattle.elan_names.specs.declared.entry.Denotes.{Denotes}
 use Rattle.elan_names.specs.declared.entry.Entry.{Entry}
 use Rattle.elan_names.specs.declared.heading.Sort.{Sort}
 use Rattle.elan_names.specs.declared.heading.Heading.{Heading}
+use Rattle.elan_names.specs.declared.interface.Inserted.{Inserted}
 use Rattle.elan_names.specs.declared.type_name.TypeName.{TypeName}
 use Rattle.elan_names.specs.Predefined.{predefined}
 use Rattle.elan_names.specs.Types.{first_type}
+use Rattle.elan_names.specs.Interfaces.{exports}
 use Rattle.elan_scope.specs.declared.scope.Within.{Within}
 use Rattle.elan_scope.specs.declared.scope.Scope.{Scope}
 use Rattle.elan_scope.specs.declared.scope.Home.{Home}
-use Rattle.elan_scope.specs.declared.scope.Home.TheVariants.{Level as of_level, Routine as of_routine}
+use Rattle.elan_scope.specs.declared.scope.Home.TheVariants.{Level as of_level, Routine as of_routine, Packet as of_packet}
 pub use Rattle.elan_names.specs.Names.{held, cells_held, first_from, first_named, all_held, types_of, variables_of, is_refinement, number_of_denoter}
 pub use Rattle.elan_names.specs.Callables.{Callable, first, same_sort, own_callable, own_callables, predefined_callable, is_called, has_as_many}
 pub use Rattle.elan_names.specs.Callables.{has_open, is_open_result, delivers_open, is_open_heading, is_open_callable}
@@ -27,18 +29,30 @@ number_of routine = option_map (λ w. w.number) routine
 
 -- ---- layers
 
--- the names that are declared somewhere around a phrase, and what can be called from there
+-- the names that are declared somewhere around a phrase, and what can be called from there, as far as they can be seen
 pub record Layer : Type 0 where
   pub home : Home
+  pub sees : List ℕ → Bool
   pub names : List Entry
   pub callables : List Callable
 
--- the layers around a phrase, from the inmost: the PROC or OP, the level, and what is predefined
+abbrev pub routine_layer : Within → Layer
+routine_layer w = record { home = of_routine; sees = λ x. true; names = w.names; callables = [] }
+
+abbrev pub level_layer : Scope → Layer
+level_layer s = record { home = s.home; sees = λ x. true; names = s.level; callables = own_callables s.bodies_before s.headings }
+
+-- Of a packet the names can be seen that it exports.
+abbrev pub packet_layer : Inserted → Layer
+packet_layer p =
+    record { home = of_packet p.cells_before; sees = exports p.interface; names = p.interface.names; callables = own_callables p.bodies_before p.interface.headings }
+
+abbrev pub predefined_layer : Layer
+predefined_layer = record { home = of_level; sees = λ x. true; names = []; callables = map predefined_callable predefined }
+
+-- the layers around a phrase, from the inmost: the PROC or OP, the level, the packets from the last inserted on, and what is predefined
 abbrev pub layers : Scope → List Layer
-layers s =
-    option_to_list (option_map (λ w. record { home = of_routine; names = w.names; callables = [] }) s.routine)
-    ++ record { home = of_level; names = s.level; callables = own_callables 0 s.headings }
-    ∷ record { home = of_level; names = []; callables = map predefined_callable predefined } ∷ []
+layers s = option_to_list (option_map routine_layer s.routine) ++ level_layer s ∷ (map packet_layer s.packets ++ predefined_layer ∷ [])
 
 -- what the first layer gives that has it
 abbrev pub first_in : {A : Type 0} → (Layer → Option A) → List Layer → Option A
@@ -56,7 +70,7 @@ abbrev pub found_in : Home → Option (ℕ × Entry) → Option Found
 found_in home entry = option_map (λ f. record { home = home; number = f.0; at = f.1.at; denotes = f.1.denotes }) entry
 
 abbrev pub found : List ℕ → Layer → Option Found
-found x l = found_in l.home (first_named l.names x)
+found x l = if l.sees x then found_in l.home (first_named l.names x) else None
 
 -- The refinements of a layer are for its own units and refinements alone.
 abbrev pub from_inside : Option Found → Option Found
@@ -79,7 +93,7 @@ find_own s x = option_and_then (found x) (slice_get (layers s) 0)
 
 -- what is called by a name with operands
 unfoldable pub called_by : (Callable → Bool) → Scope → Option Callable
-called_by test s = first_in (λ l. first test l.callables) (layers s)
+called_by test s = first_in (λ l. first (λ c. l.sees c.name && test c) l.callables) (layers s)
 
 -- The name can be called with that number of operands.
 abbrev pub is_known : Scope → Sort → List ℕ → ℕ → Bool

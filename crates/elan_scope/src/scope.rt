@@ -1,6 +1,7 @@
 //! Where a phrase stands, and what names denote there.
 
 ghost use Rattle.std.specs.Prelude.{◌≡◌, option_map, slice_get};
+ghost use Rattle.std.specs.Option.{is_some};
 ghost use Rattle.elan_scope.specs.Scope as spec;
 ghost use Rattle.elan_scope.specs.walks.Seen as seen;
 
@@ -10,9 +11,22 @@ use elan_names::directory::Directory;
 use elan_names::entry::Denotes;
 use elan_names::heading::Sort;
 use elan_names::headings::Headings;
+use elan_names::interface::Inserted;
 use elan_names::type_directory::TypeDirectory;
 use elan_names::type_name::TypeName;
 use elan_types::Exit;
+use eu_base::List;
+
+/// Where what is declared under a name is held.
+#[derive(Clone, Copy)]
+pub enum Home {
+    /// Among the variables of a program.
+    Level,
+    /// In a PROC or OP.
+    Routine,
+    /// Among the variables of a packet, before which there are so many cells of those of other packets.
+    Packet(usize),
+}
 
 /// What an identifier without actuals is used as.
 #[derive(Clone, Copy)]
@@ -34,6 +48,14 @@ pub struct Within {
 /// Where a phrase stands.
 #[derive(Drop)]
 pub struct Scope {
+    /// The packets of the task, from the last inserted on.
+    pub packets: List<Inserted>,
+    /// How many bodies they have; those of the level are numbered behind them.
+    pub bodies_before: usize,
+    /// How many names of types they declare; those of the level are numbered behind them.
+    pub types_before: usize,
+    /// Where the variables and constants of the level are held.
+    pub home: Home,
     /// The bodies of the level.
     pub headings: Headings,
     /// The names that the level declares, in text order.
@@ -46,12 +68,6 @@ pub struct Scope {
     pub refinement: Option<usize>,
 }
 
-/// Where a name was declared: in the level, or in the PROC or OP.
-#[derive(Clone, Copy)]
-pub enum Home {
-    Level,
-    Routine,
-}
 
 /// A declaration that was found, with the number of cells of what is held before it in its home.
 #[derive(Clone, Copy)]
@@ -62,8 +78,36 @@ pub struct Found<'a> {
     pub denotes: &'a Denotes,
 }
 
+// What a packet shows of a name.
+fn found_in_packet<'a>(packet: &'a Inserted, name: &[u8]) -> Option<Found<'a>>
+    ensures { option_map seen.found_there result ≡ spec.found name.now (spec.packet_layer packet.now) }
+{
+    let interface = packet.interface.get();
+    let found = found_in(Home::Packet(packet.cells_before), &interface.names, name)?;
+    if interface.exports(name) {
+        Some(found)
+    } else {
+        None
+    }
+}
+
+// What the packets show of a name, from the last inserted on.
+fn found_in_packets<'a>(packets: &'a [Inserted], name: &[u8]) -> Option<Found<'a>>
+    ensures { option_map seen.found_there result ≡ seen.found_in_packets name.now packets.now }
+{
+    let mut rest = packets;
+    while let [packet, others @ ..] = rest {
+        let found = from_inside(found_in_packet(packet, name));
+        if found.is_some() {
+            return found;
+        }
+        rest = others;
+    }
+    None
+}
+
 fn found_in<'a>(home: Home, names: &'a Directory, name: &[u8]) -> Option<Found<'a>>
-    ensures { option_map seen.found result ≡ spec.found_in home (spec.first_named names.now name.now) }
+    ensures { option_map seen.found_there result ≡ spec.found_in home (spec.first_named names.now name.now) }
 {
     match names.first_named(name) {
         None => None,
@@ -78,7 +122,7 @@ fn found_in<'a>(home: Home, names: &'a Directory, name: &[u8]) -> Option<Found<'
 
 // The refinements of a level are for its own units and refinements alone.
 fn from_inside(found: Option<Found<'_>>) -> Option<Found<'_>>
-    ensures { option_map seen.found result ≡ spec.from_inside (option_map seen.found found.entry) }
+    ensures { option_map seen.found_there result ≡ spec.from_inside (option_map seen.found_there found.entry) }
 {
     match found {
         None => None,
@@ -91,14 +135,35 @@ fn from_inside(found: Option<Found<'_>>) -> Option<Found<'_>>
     }
 }
 
+// Whether a packet shows a PROC or OP of a name with so many parameters.
+#[tactic(auto, using(crate::proofs::Layers::packet_known))]
+fn is_in_packet(packet: &Inserted, sort: Sort, name: &[u8], count: usize) -> bool
+    ensures { result ≡ is_some (seen.called_in_packet (spec.has_as_many sort name.now count) packet.now) }
+{
+    let interface = packet.interface.get();
+    is_own(&interface.headings, packet.bodies_before, sort, name, count) && interface.exports(name)
+}
+
+// Whether a packet does.
+fn is_inserted(packets: &[Inserted], sort: Sort, name: &[u8], count: usize) -> bool
+    ensures { result ≡ is_some (seen.called_in_packets (spec.has_as_many sort name.now count) packets.now) }
+{
+    let mut rest = packets;
+    while let [packet, others @ ..] = rest {
+        if is_in_packet(packet, sort, name, count) {
+            return true;
+        }
+        rest = others;
+    }
+    false
+}
+
 impl Scope {
-    /// What an identifier without actuals denotes in the first layer that declares it: the body is looked at first, and then
-    /// the level. `None` exactly where neither declares it.
-    #[tactic(auto, using(crate::proofs::Layers::or_none))]
-    pub fn find(&self, name: &[u8]) -> Option<Found<'_>>
-        ensures { option_map seen.found result ≡ spec.find self.now name.now }
+    // What is found in the PROC or OP, and else in the level.
+    fn find_within(&self, name: &[u8]) -> Option<Found<'_>>
+        ensures { option_map seen.found_there result ≡ seen.found_within name.now self.now }
     {
-        let level = found_in(Home::Level, &self.level, name);
+        let level = found_in(self.home, &self.level, name);
         match &self.routine {
             None => level,
             Some(within) => match found_in(Home::Routine, &within.names, name) {
@@ -108,12 +173,24 @@ impl Scope {
         }
     }
 
+    /// What an identifier without actuals denotes in the first layer that declares it: the body is looked at first, then
+    /// the level, and then the packets from the last inserted on. `None` exactly where none declares it.
+    #[tactic(auto, using(crate::proofs::Layers::found_as))]
+    pub fn find(&self, name: &[u8]) -> Option<Found<'_>>
+        ensures { option_map seen.found_there result ≡ spec.find self.now name.now }
+    {
+        match self.find_within(name) {
+            None => found_in_packets(self.packets.as_slice(), name),
+            Some(found) => Some(found),
+        }
+    }
+
     /// What a name denotes in the scope that declares it; `None` exactly where it is not declared there.
     pub fn find_own(&self, name: &[u8]) -> Option<Found<'_>>
-        ensures { option_map seen.found result ≡ spec.find_own self.now name.now }
+        ensures { option_map seen.found_there result ≡ spec.find_own self.now name.now }
     {
         match &self.routine {
-            None => found_in(Home::Level, &self.level, name),
+            None => found_in(self.home, &self.level, name),
             Some(within) => found_in(Home::Routine, &within.names, name),
         }
     }
@@ -222,6 +299,8 @@ impl Scope {
     pub fn is_known(&self, sort: Sort, name: &[u8], count: usize) -> bool
         ensures { result ≡ spec.is_known self.now sort name.now count }
     {
-        is_own(&self.headings, 0, sort, name, count) || is_predefined(sort, name, count)
+        is_own(&self.headings, self.bodies_before, sort, name, count)
+            || is_inserted(self.packets.as_slice(), sort, name, count)
+            || is_predefined(sort, name, count)
     }
 }

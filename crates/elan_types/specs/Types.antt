@@ -1,5 +1,5 @@
 -- The types of a text, and the kinds of their cells.
-use Rattle.std.specs.Prelude.{ℕ, ◌+◌, ◌*◌, nat_lt, Bool, true, false, ◌&&◌, ◌||◌, ◌==◌, if◌then◌else◌, List, [], ◌∷◌, ◌++◌, map, sum, Option, Some, None}
+use Rattle.std.specs.Prelude.{ℕ, ◌+◌, ◌*◌, nat_le, nat_lt, Bool, true, false, ◌&&◌, ◌||◌, ◌==◌, if◌then◌else◌, List, [], ◌∷◌, ◌++◌, map, sum, Option, Some, None}
 use Rattle.std.specs.List.{list_any}
 use Rattle.std.specs.Str.{bytes_eq}
 use Rattle.eu_base.specs.declared.value.Kind.{Kind}
@@ -75,6 +75,14 @@ concrete_here _ = None
 
 abbrev pub concrete : ElanType → Option ElanType
 concrete t = concrete_here (out-ElanType t)
+
+-- a type of the text's own that has this number or a greater one, so that it is none of the types before
+abbrev pub own_here_from : ℕ → ElanType-F ElanType FieldType → Bool
+own_here_from first (Own n t) = nat_le first n
+own_here_from first _ = false
+
+abbrev pub is_own_from : ℕ → ElanType → Bool
+is_own_from first t = own_here_from first (out-ElanType t)
 
 -- ---- parts
 

@@ -2,7 +2,7 @@
 
 ghost use Rattle.std.specs.Prelude.{◌≡◌, ◌<◌, IfOk, SomeIff, length, map, sum};
 ghost use Rattle.std.specs.List.{list_any};
-ghost use Rattle.elan_types.specs.Types.{are_same, cells, cells_of_field, concrete, field, field_from, field_has_own, field_shape, has_own, is_too_large, items, nodes, nodes_of_field, formal_of, is_open, is_own, same_field, same_type, shape_in, type_in};
+ghost use Rattle.elan_types.specs.Types.{are_same, cells, cells_of_field, concrete, field, field_from, field_has_own, field_shape, has_own, is_too_large, items, nodes, nodes_of_field, formal_of, is_open, is_own, is_own_from, same_field, same_type, shape_in, type_in};
 ghost use Rattle.elan_types.specs.Typing.{cells_of};
 
 use crate::core_phrase::{Access, Formal};
@@ -24,7 +24,8 @@ pub enum ElanType {
     Row(u16, Shared<ElanType>),
     /// `STRUCT (fields)`, its fields in order.
     Struct(Shared<List<FieldType>>),
-    /// A type that the text makes by TYPE: its number among the names of types that its level declares, and its concrete type.
+    /// A type that a text makes by TYPE: its number among the names of types that the packets of the task and the level declare, in
+    /// this order, and its concrete type.
     Own(usize, Shared<ElanType>),
     /// What is written for it has no meaning.
     Open,
@@ -87,6 +88,16 @@ impl ElanType {
     {
         match self {
             ElanType::Own(_, _) => true,
+            _ => false,
+        }
+    }
+
+    /// Whether it is one of the text's own that has this number or a greater one.
+    pub fn is_own_from(&self, first: usize) -> bool
+        ensures { result ≡ is_own_from first self.now }
+    {
+        match self {
+            ElanType::Own(number, _) => first <= *number,
             _ => false,
         }
     }

@@ -1,5 +1,5 @@
 -- Names, calls of PROCs, OPs and refinements, and LEAVE.
-use Rattle.std.specs.Prelude.{ℕ, Bool, true, false, ◌||◌, ◌&&◌, List, [], ◌∷◌, length, Option, Some, None, is_some, if◌then◌else◌, nat_eq, slice_get}
+use Rattle.std.specs.Prelude.{ℕ, ◌+◌, Bool, true, false, ◌||◌, ◌&&◌, List, [], ◌∷◌, length, Option, Some, None, is_some, if◌then◌else◌, nat_eq, slice_get}
 use Rattle.std.specs.Option.{option_map_or}
 use Rattle.elan_types.specs.declared.elan_type.ElanType.{ElanType}
 use Rattle.elan_types.specs.Types.{shape_in, is_open}
@@ -34,7 +34,7 @@ use Rattle.elan_names.specs.Types.{is_open_named}
 use Rattle.elan_scope.specs.declared.scope.Scope.{Scope}
 use Rattle.elan_scope.specs.Scope.{Found}
 use Rattle.elan_scope.specs.declared.scope.Home.{Home}
-use Rattle.elan_scope.specs.declared.scope.Home.TheVariants.{Level as of_level, Routine as of_routine}
+use Rattle.elan_scope.specs.declared.scope.Home.TheVariants.{Level as of_level, Routine as of_routine, Packet as of_packet}
 use Rattle.elan_meant.specs.Verdict.{Verdict, gives, breaks, ◌>>=◌, told, is_given, unless}
 use Rattle.elan_meant.specs.Operands.{delivers, chosen, is_unclear}
 use Rattle.elan_scope.specs.Known.{leads_back, delivery_at}
@@ -50,6 +50,7 @@ use Rattle.value_rules.specs.Values.{denoter}
 -- the place of what is held with this access; only PROCs and OPs have parameters
 abbrev pub place_in : Home → ℕ → Access → PlacePhrase
 place_in of_level n a = place.Variable n
+place_in (of_packet b) n a = place.Packet (b + n)
 place_in of_routine n Const = place.Local n
 place_in of_routine n Var = place.Parameter n
 
@@ -105,7 +106,7 @@ applied at s sort x ms = applied_as at (is_known s sort x (length ms)) ms (chose
 
 -- ---- refinements
 
--- Where it is not known what a refinement delivers, a call of it hangs on that.
+-- Where it is not known what a refinement delivers, a call of it hangs on that. It has this number among all bodies
 abbrev pub referred : ℕ → ℕ → Delivery → Ruled Meant
 referred at n Open = hangs
 referred at n Nothing = told (gives (Done (action.Refer n ∷ [])))
@@ -114,7 +115,7 @@ referred at n (Of t) = told (gives (Value at t (value.Refer n (shape_in t))))
 -- A refinement does not call itself through any chain. A name that no refinement has is unknown.
 abbrev pub refined : Known → ℕ → Scope → Option ℕ → Ruled Meant
 refined k at s None = told (breaks (at, Unknown))
-refined k at s (Some n) = if leads_back k n s.refinement then told (breaks (at, WrongPlace)) else referred at n (delivery_at k n)
+refined k at s (Some n) = if leads_back k n s.refinement then told (breaks (at, WrongPlace)) else referred at (s.bodies_before + n) (delivery_at k n)
 
 -- The identifier after FOR is no call, and a refinement is no variable, whatever it delivers.
 abbrev pub refined_as : Known → Usage → ℕ → Scope → Option ℕ → Ruled Meant

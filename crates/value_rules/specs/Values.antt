@@ -1,18 +1,19 @@
 -- Numbers, texts, brackets, items and fields, CAND and COR.
-use Rattle.std.specs.Prelude.{ℕ, ℤ, true, false, ◌&&◌, if◌then◌else◌, nat_le, List, length, Option, Some, None}
+use Rattle.std.specs.Prelude.{ℕ, ℤ, Bool, true, false, ◌&&◌, if◌then◌else◌, nat_le, List, length, Option, Some, None}
 use Rattle.elan_types.specs.declared.elan_type.ElanType.{ElanType}
 use Rattle.elan_types.specs.declared.elan_type.ElanType.TheVariants.{Int, Bool as Truths, Text}
-use Rattle.elan_types.specs.Types.{concrete, shape_in, items, field, cells}
+use Rattle.elan_types.specs.Types.{concrete, is_own_from, shape_in, items, field, cells}
 use Rattle.elan_types.specs.declared.core_phrase.PlacePhrase.TheVariants as place
 use Rattle.elan_types.specs.declared.core_phrase.Items.{Items}
 use Rattle.elan_types.specs.declared.core_phrase.Part.{Part}
 use Rattle.elan_types.specs.declared.core_phrase.ValuePhrase.{ValuePhrase}
 use Rattle.elan_types.specs.declared.core_phrase.ValuePhrase.TheVariants as value
-use Rattle.elan_types.specs.declared.why.Why.TheVariants.{WrongType, Unknown}
+use Rattle.elan_types.specs.declared.why.Why.TheVariants.{WrongType, WrongPlace, Unknown}
 use Rattle.eu_base.specs.declared.value.TheConstants.{TEXT_BYTES}
 use Rattle.elan_names.specs.declared.denoter.Denoter.{Denoter}
 use Rattle.elan_names.specs.declared.denoter.Denoter.TheVariants as denoters
 use Rattle.eu_base.specs.Operations.{in_range}
+use Rattle.elan_scope.specs.declared.scope.Scope.{Scope}
 use Rattle.elan_meant.specs.declared.meant.Meant.{Meant}
 use Rattle.elan_meant.specs.declared.meant.Meant.TheVariants.{Variable, Value}
 use Rattle.elan_meant.specs.Verdict.{Verdict, gives, breaks}
@@ -39,15 +40,15 @@ bracketed at (Variable p t x) = Value at t (value.Load x (shape_in t))
 bracketed at (Value p t v) = Value at t v
 bracketed at m = m
 
--- CONCR of a type of the text's own: the same place or value, as of its concrete type
-abbrev pub concr_as : ℕ → Option ElanType → (ElanType → Meant) → Verdict Meant
-concr_as at (Some t) go = gives (go t)
-concr_as at None go = breaks (at, WrongType)
+-- CONCR of a type that this level declares: the same place or value, as of its concrete type. It knows none of another level's
+abbrev pub concr_as : {A : Type 0} → ℕ → Bool → Option ElanType → (ElanType → A) → Verdict A
+concr_as at own (Some t) go = if own then gives (go t) else breaks (at, WrongPlace)
+concr_as at own None go = breaks (at, WrongType)
 
-abbrev pub concr : ℕ → Meant → Verdict Meant
-concr at (Variable p t x) = concr_as at (concrete t) (λ u. Variable at u x)
-concr at (Value p t v) = concr_as at (concrete t) (λ u. Value at u v)
-concr at m = breaks (at, WrongType)
+abbrev pub concr : ℕ → Scope → Meant → Verdict Meant
+concr at s (Variable p t x) = concr_as at (is_own_from s.types_before t) (concrete t) (λ u. Variable at u x)
+concr at s (Value p t v) = concr_as at (is_own_from s.types_before t) (concrete t) (λ u. Value at u v)
+concr at s m = breaks (at, WrongType)
 
 -- ---- items of rows and fields of structures
 

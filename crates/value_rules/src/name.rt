@@ -1,6 +1,6 @@
 //! Identifiers without actuals, and names in their declarations.
 
-ghost use Rattle.std.specs.Prelude.{◌≡◌, [], option_map};
+ghost use Rattle.std.specs.Prelude.{◌≡◌, [], option_map, IfOk};
 ghost use Rattle.std.specs.Option.{option_map_or};
 ghost use Rattle.elan_scope.specs.declared.delivery.Delivery.TheVariants as deliver;
 ghost use Rattle.elan_types.specs.declared.core_phrase.Access.TheVariants as accesses;
@@ -11,29 +11,31 @@ ghost use Rattle.elan_scope.specs.Answer.{Is};
 ghost use Rattle.elan_meant.specs.Verdict.{gives, told, unless, Tells};
 
 use crate::call::applied_alone;
+use crate::numbered::behind;
 use crate::value::denoter;
 use elan_meant::meant::Meant;
 use elan_meant::part::{delivering_as, done};
 use elan_meant::row::Judged;
 use elan_names::callable::{has_open, is_open_result};
-use elan_names::entry::Denotes;
-use elan_names::heading::Sort;
 use elan_scope::delivery::Delivery;
+use elan_names::heading::Sort;
 use elan_scope::known::Known;
+use elan_names::entry::Denotes;
 use elan_scope::scope::{Found, Home, Scope, Usage};
 use elan_scope::trouble::Trouble;
 use elan_types::{Access, Action, ElanType, Parameter, PlacePhrase, ValuePhrase, Why};
-use eu_base::List;
+use eu_base::{List, NoMemory};
 use std::alloc::Global;
 
 // The place of what is held with this access; only PROCs and OPs have parameters.
-fn place_in(home: Home, number: usize, access: Access) -> PlacePhrase
-    ensures { result ≡ spec.place_in home number access }
+fn place_in(home: Home, number: usize, access: Access) -> Result<PlacePhrase, NoMemory>
+    ensures { IfOk result (λ place. place ≡ spec.place_in home number access) }
 {
     match (home, access) {
-        (Home::Level, _) => PlacePhrase::Variable(number),
-        (Home::Routine, Access::Const) => PlacePhrase::Local(number),
-        (Home::Routine, Access::Var) => PlacePhrase::Parameter(number),
+        (Home::Level, _) => Ok(PlacePhrase::Variable(number)),
+        (Home::Packet(before), _) => Ok(PlacePhrase::Packet(behind(before, number)?)),
+        (Home::Routine, Access::Const) => Ok(PlacePhrase::Local(number)),
+        (Home::Routine, Access::Var) => Ok(PlacePhrase::Parameter(number)),
     }
 }
 
@@ -46,8 +48,8 @@ struct Held {
 }
 
 impl Held {
-    fn place(self) -> PlacePhrase
-        ensures { result ≡ spec.place_in self.home self.number self.access }
+    fn place(self) -> Result<PlacePhrase, NoMemory>
+        ensures { IfOk result (λ place. place ≡ spec.place_in self.home self.number self.access) }
     {
         place_in(self.home, self.number, self.access)
     }
@@ -56,19 +58,27 @@ impl Held {
 fn variable(at: u32, of: &ElanType, held: Held) -> Judged
     ensures { Tells result (gives (means.Variable at of.now (spec.place_in held.home held.number held.access))) }
 {
-    let of = of.try_clone()?;
-    Ok(Meant::Variable {
-        at,
-        of,
-        place: held.place(),
-    })
+    let place = held.place()?;
+    match of.try_clone() {
+        Err(_refusal) => {
+            place.let_go();
+            Err(Trouble::NoMemory)
+        }
+        Ok(of) => Ok(Meant::Variable { at, of, place }),
+    }
 }
 
 fn constant(alloc: Global, at: u32, of: &ElanType, held: Held) -> Judged
     ensures { Tells result (gives (spec.constant at of.now (spec.place_in held.home held.number held.access))) }
 {
-    let shape = of.shape(alloc)?;
-    delivering_as(alloc, at, of, ValuePhrase::Load(held.place(), shape))
+    let place = held.place()?;
+    match of.shape(alloc) {
+        Err(_refusal) => {
+            place.let_go();
+            Err(Trouble::NoMemory)
+        }
+        Ok(shape) => delivering_as(alloc, at, of, ValuePhrase::Load(place, shape)),
+    }
 }
 
 // A CONST parameter is a constant, a VAR parameter a variable.
@@ -113,6 +123,7 @@ fn refined(alloc: Global, known: &Known, at: u32, scope: &Scope, number: Option<
             if known.leads_back(alloc, number, scope.refinement)? {
                 Err(Trouble::Breaks(at, Why::WrongPlace))
             } else {
+                let number = behind(scope.bodies_before, number)?;
                 referred(alloc, at, number, delivery)
             }
         }

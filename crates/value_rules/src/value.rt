@@ -1,7 +1,7 @@
 //! Numbers, texts, brackets, CAND and COR.
 
 ghost use Rattle.std.specs.Prelude.{◌≡◌};
-ghost use Rattle.elan_types.specs.Types.{concrete};
+ghost use Rattle.elan_types.specs.Types.{concrete, is_own_from};
 ghost use Rattle.elan_types.specs.declared.elan_type.ElanType.TheVariants as types;
 ghost use Rattle.elan_types.specs.declared.core_phrase.ValuePhrase.TheVariants as values;
 ghost use Rattle.elan_meant.specs.declared.meant.Meant.TheVariants as means;
@@ -15,6 +15,7 @@ use elan_meant::operands::delivers_kind;
 use elan_meant::part::{delivering, loaded, value_of};
 use elan_meant::row::{Judged, both};
 use elan_names::denoter::Denoter;
+use elan_scope::scope::Scope;
 use elan_scope::trouble::Trouble;
 use elan_types::{ElanType, PlacePhrase, ValuePhrase, Why};
 use eu_base::{Boxed, Bytes, Kind, TEXT_BYTES};
@@ -123,51 +124,59 @@ pub fn cor(alloc: Global, at: u32, left: Meant, right: Meant) -> Judged
     of_truths(alloc, at, true, left, right)
 }
 
-// The same place, as of the concrete type.
-fn concrete_place(at: u32, of: ElanType, place: PlacePhrase) -> Judged
-    ensures { Tells result (spec.concr_as at (concrete of) (λ u. means.Variable at u place)) }
+// The type that stands behind one that the level declares, whose types have this number or a greater one.
+fn concrete_of(at: u32, first: usize, of: ElanType) -> Result<ElanType, Trouble>
+    ensures { Tells result (spec.concr_as at (is_own_from first of) (concrete of) (λ t. t)) }
 {
+    let own = of.is_own_from(first);
     let found = of.concrete();
     of.let_go();
-    match found {
-        Err(_refusal) => {
-            place.let_go();
-            Err(Trouble::NoMemory)
+    match found? {
+        None => Err(Trouble::Breaks(at, Why::WrongType)),
+        Some(of) => {
+            if own {
+                Ok(of)
+            } else {
+                of.let_go();
+                Err(Trouble::Breaks(at, Why::WrongPlace))
+            }
         }
-        Ok(None) => {
+    }
+}
+
+// The same place, as of the concrete type.
+fn concrete_place(at: u32, first: usize, of: ElanType, place: PlacePhrase) -> Judged
+    ensures { Tells result (spec.concr_as at (is_own_from first of) (concrete of) (λ u. means.Variable at u place)) }
+{
+    match concrete_of(at, first, of) {
+        Err(trouble) => {
             place.let_go();
-            Err(Trouble::Breaks(at, Why::WrongType))
+            Err(trouble)
         }
-        Ok(Some(of)) => Ok(Meant::Variable { at, of, place }),
+        Ok(of) => Ok(Meant::Variable { at, of, place }),
     }
 }
 
 // The same value, as of the concrete type.
-fn concrete_value(at: u32, of: ElanType, value: Boxed<ValuePhrase>) -> Judged
-    ensures { Tells result (spec.concr_as at (concrete of) (λ u. means.Value at u value)) }
+fn concrete_value(at: u32, first: usize, of: ElanType, value: Boxed<ValuePhrase>) -> Judged
+    ensures { Tells result (spec.concr_as at (is_own_from first of) (concrete of) (λ u. means.Value at u value)) }
 {
-    let found = of.concrete();
-    of.let_go();
-    match found {
-        Err(_refusal) => {
+    match concrete_of(at, first, of) {
+        Err(trouble) => {
             value.into_inner().let_go();
-            Err(Trouble::NoMemory)
+            Err(trouble)
         }
-        Ok(None) => {
-            value.into_inner().let_go();
-            Err(Trouble::Breaks(at, Why::WrongType))
-        }
-        Ok(Some(of)) => Ok(Meant::Value { at, of, value }),
+        Ok(of) => Ok(Meant::Value { at, of, value }),
     }
 }
 
-/// CONCR: the same place or value, as of the concrete type of one of the text's own.
-pub fn concr(at: u32, meant: Meant) -> Judged
-    ensures { Tells result (spec.concr at meant) }
+/// CONCR: the same place or value, as of the concrete type of one that the level declares.
+pub fn concr(at: u32, scope: &Scope, meant: Meant) -> Judged
+    ensures { Tells result (spec.concr at scope.now meant) }
 {
     match meant {
-        Meant::Variable { at: _at, of, place } => concrete_place(at, of, place),
-        Meant::Value { at: _at, of, value } => concrete_value(at, of, value),
+        Meant::Variable { at: _at, of, place } => concrete_place(at, scope.types_before, of, place),
+        Meant::Value { at: _at, of, value } => concrete_value(at, scope.types_before, of, value),
         other => {
             other.let_go();
             Err(Trouble::Breaks(at, Why::WrongType))

@@ -6,5 +6,5 @@ use Rattle.elan_meant.proofs.operands.chosen_own.Given as goal
 
 abbrev pub invariant-loop-number : goal.invariant-loop-number
 invariant-loop-number l =
-    first (takes l.sort l.name l.operands) (callables_among 0 l.headings (drop l.number-index l.number-items))
-    ≡ first (takes l.sort l.name l.operands) (own_callables 0 l.headings)
+    first (takes l.sort l.name l.operands) (callables_among l.before l.headings (drop l.number-index l.number-items))
+    ≡ first (takes l.sort l.name l.operands) (own_callables l.before l.headings)
