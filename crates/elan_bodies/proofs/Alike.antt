@@ -1,5 +1,5 @@
 -- Where the same is known of what a phrase calls and of what it leaves, it is judged alike.
-use Rattle.std.proofs.Common.{◌≡◌, ℕ, Bool, if◌then◌else◌, List, [], ◌∷◌, ◌++◌, length, Option, Some, None, refl, sym, ap, subst, ◌∙◌, inl, inr}
+use Rattle.std.proofs.Common.{◌≡◌, ℕ, ◌+◌, Bool, if◌then◌else◌, List, [], ◌∷◌, ◌++◌, length, Option, Some, None, refl, sym, ap, subst, ◌∙◌, inl, inr}
 use Rattle.std.specs.Prelude.{flat_map, option_to_list}
 use Rattle.elan_types.specs.declared.core_phrase.Exit.{Exit}
 use Rattle.elan_types.specs.declared.why.Why.TheVariants.{WrongPlace}
@@ -72,8 +72,8 @@ module _ (j k : Known) (z : Scope) (calls : j.calls ≡ k.calls) where
   refined_alike : (at : ℕ) (s : Scope) (o : Option ℕ) → ((n : ℕ) → o ≡ Some n → Same n) → r.refined j at s o ≡ r.refined k at s o
   refined_alike at s None h = refl
   refined_alike at s (Some n) h =
-      ap (λ (b : Bool). if b then told (verdict.breaks (at, WrongPlace)) else r.referred at n (delivery_at j n)) (back_alike n s.refinement)
-      ∙ ap (λ (d : Delivery). if leads_back k n s.refinement then told (verdict.breaks (at, WrongPlace)) else r.referred at n d) (h n refl)
+      ap (λ (b : Bool). if b then told (verdict.breaks (at, WrongPlace)) else r.referred at (s.bodies_before + n) (delivery_at j n)) (back_alike n s.refinement)
+      ∙ ap (λ (d : Delivery). if leads_back k n s.refinement then told (verdict.breaks (at, WrongPlace)) else r.referred at (s.bodies_before + n) d) (h n refl)
 
   denoted_alike : (at : ℕ) (s : Scope) (x : List ℕ) (home : Home) (i : ℕ) (d : Denotes) → ((n : ℕ) → refinement_named s x ≡ Some n → Same n)
       → r.denoted j Expression at s x home i d ≡ r.denoted k Expression at s x home i d

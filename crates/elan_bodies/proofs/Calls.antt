@@ -265,7 +265,7 @@ module _ (s : Scope) where
   expr_calls (t.Named n) = refl
   expr_calls (t.Call n actuals) = whole _ _ (all_of (map (shape.expr s) (map fst actuals))) refl ∙ exprs_call actuals
   expr_calls (t.Procedure at n) = refl
-  expr_calls (t.Concr at a) = one_calls at form.concr (shape.expr s a.0) refl ∙ a.1
+  expr_calls (t.Concr at a) = one_calls at (form.concr s) (shape.expr s a.0) refl ∙ a.1
   expr_calls (t.Bracket at a) = one_calls at form.bracket (shape.expr s a.0) refl ∙ a.1
   expr_calls (t.If at branches None) =
       let ps = shape.branches (map (shape.branch s) (map fst branches)) in

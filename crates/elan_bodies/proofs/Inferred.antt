@@ -1,5 +1,5 @@
 -- What is found out about refinements: it is what their last units deliver, and in the end nothing more can be found.
-use Rattle.std.proofs.Common.{◌≡◌, ℕ, Bool, true, false, if◌then◌else◌, List, [], ◌∷◌, Option, Some, None, refl, sym, ap, subst, ◌∙◌, ◌⊎◌, inl, inr}
+use Rattle.std.proofs.Common.{◌≡◌, ℕ, ◌+◌, Bool, true, false, if◌then◌else◌, List, [], ◌∷◌, Option, Some, None, refl, sym, ap, subst, ◌∙◌, ◌⊎◌, inl, inr}
 use Rattle.elan_types.specs.declared.core_phrase.Exit.{Exit}
 use Rattle.elan_types.specs.declared.why.Why.TheVariants.{WrongType, WrongPlace}
 use Rattle.elan_types.specs.declared.core_phrase.Action.{Action}
@@ -122,11 +122,11 @@ module _ (j k : Known) (below : Below j k) where
   open_hangs at n Nothing m e h = absurd cc
   open_hangs at n (Of t) m e h = absurd cc
 
-  referred_same : (at i : ℕ) (m n : Meant) → r.referred at i (delivery_at j i) ≡ gives m → r.referred at i (delivery_at k i) ≡ gives n → m ≡ n
-  referred_same at i m n h g =
+  referred_same : (at b i : ℕ) (m n : Meant) → r.referred at b (delivery_at j i) ≡ gives m → r.referred at b (delivery_at k i) ≡ gives n → m ≡ n
+  referred_same at b i m n h g =
       elim (below.1 i) [
-        | inl e ↦ absurd (open_hangs at i (delivery_at j i) m e h)
-        | inr e ↦ gives_is m n (sym h ∙ ap (r.referred at i) e ∙ g)
+        | inl e ↦ absurd (open_hangs at b (delivery_at j i) m e h)
+        | inr e ↦ gives_is m n (sym h ∙ ap (r.referred at b) e ∙ g)
       ]
 
   as_referred : (at i : ℕ) (d : Delivery) (a : Bool) (m : Meant) → (if a then breaks (at, WrongPlace) else r.referred at i d) ≡ gives m
@@ -137,8 +137,9 @@ module _ (j k : Known) (below : Below j k) where
   refined_same : (at : ℕ) (s : Scope) (o : Option ℕ) (m n : Meant) → r.refined j at s o ≡ gives m → r.refined k at s o ≡ gives n → m ≡ n
   refined_same at s None m n h g = absurd cc
   refined_same at s (Some i) m n h g =
-      referred_same at i m n (as_referred at i (delivery_at j i) (leads_back j i s.refinement) m h)
-      (as_referred at i (delivery_at k i) (leads_back k i s.refinement) n g)
+      let b = s.bodies_before + i in
+      referred_same at b i m n (as_referred at b (delivery_at j i) (leads_back j i s.refinement) m h)
+      (as_referred at b (delivery_at k i) (leads_back k i s.refinement) n g)
 
   used_same : (u : Usage) (at : ℕ) (s : Scope) (o : Option ℕ) (m n : Meant) → r.refined_as j u at s o ≡ gives m → r.refined_as k u at s o ≡ gives n → m ≡ n
   used_same usage.Expression at s o m n h g = refined_same at s o m n h g

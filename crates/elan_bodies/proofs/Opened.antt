@@ -1,5 +1,5 @@
 -- A phrase that calls a refinement of which nothing is known has no meaning.
-use Rattle.std.proofs.Common.{◌≡◌, ℕ, Bool, true, false, ◌||◌, if◌then◌else◌, List, [], ◌∷◌, ◌++◌, Option, Some, None, refl, ap, subst, ◌⊎◌, inl, inr}
+use Rattle.std.proofs.Common.{◌≡◌, ℕ, ◌+◌, Bool, true, false, ◌||◌, if◌then◌else◌, List, [], ◌∷◌, ◌++◌, Option, Some, None, refl, ap, subst, ◌⊎◌, inl, inr}
 use Rattle.std.specs.Prelude.{flat_map, option_to_list}
 use Rattle.elan_types.specs.declared.why.Why.TheVariants.{WrongPlace}
 use Rattle.elan_scope.specs.declared.delivery.Delivery.{Delivery}
@@ -54,15 +54,15 @@ in_one n (Some m) h =
     ]
 
 module _ (k : Known) (n : ℕ) (untold : delivery_at k n ≡ Open) where
-  referred_open : (at : ℕ) (b : Bool) (d : Delivery) (m : Meant) → d ≡ Open → (if b then breaks (at, WrongPlace) else c.referred at n d) ≡ gives m → ⊥
-  referred_open at true d m e h = absurd cc
-  referred_open at false Open m e h = absurd cc
-  referred_open at false Nothing m e h = absurd cc
-  referred_open at false (Of t) m e h = absurd cc
+  referred_open : (at i : ℕ) (b : Bool) (d : Delivery) (m : Meant) → d ≡ Open → (if b then breaks (at, WrongPlace) else c.referred at i d) ≡ gives m → ⊥
+  referred_open at i true d m e h = absurd cc
+  referred_open at i false Open m e h = absurd cc
+  referred_open at i false Nothing m e h = absurd cc
+  referred_open at i false (Of t) m e h = absurd cc
 
   refined_open : (at : ℕ) (s : Scope) (o : Option ℕ) (m : Meant) → o ≡ Some n → c.refined k at s o ≡ gives m → ⊥
   refined_open at s o m e h =
-      referred_open at (leads_back k n s.refinement) (delivery_at k n) m untold (subst (λ (q : Option ℕ). c.refined k at s q ≡ gives m) e h)
+      referred_open at (s.bodies_before + n) (leads_back k n s.refinement) (delivery_at k n) m untold (subst (λ (q : Option ℕ). c.refined k at s q ≡ gives m) e h)
 
   denoted_open : (at : ℕ) (s : Scope) (x : List ℕ) (home : Home) (i : ℕ) (d : Denotes) (o : Option ℕ) (m : Meant)
       → (if scope.is_refinement d then o else None) ≡ Some n → scope.refinement_named s x ≡ Some n → c.denoted k Expression at s x home i d ≡ gives m → ⊥

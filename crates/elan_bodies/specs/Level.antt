@@ -23,6 +23,7 @@ use Rattle.elan_levels.specs.Bodies as bodies
 use Rattle.elan_levels.specs.Bodies.{parameters, result, frame, body_within, routine_scope, level_names, headings, numbered, bodies_of_units}
 use Rattle.type_names.specs.Types.{level_types}
 use Rattle.elan_unbuilt.specs.Operators.{operator_text}
+use Rattle.elan_scope.specs.declared.scope.Home.TheVariants.{Level as of_level}
 use Rattle.elan_scope.specs.Phrase as form
 use Rattle.elan_scope.specs.Known.{delivered}
 use Rattle.elan_scope.specs.declared.delivery.Delivery.TheVariants.{Open, Nothing}
@@ -31,13 +32,33 @@ use Rattle.elan_judge.specs.Shape.{written, role, unit, units, all_empty}
 
 -- ---- scopes
 
--- in the units of a level
+-- in the units of a level of a program, which has no packets
 abbrev pub level_scope : Level → Scope
-level_scope l = record { headings = headings l; level = level_names l; types = level_types l; routine = None; refinement = None }
+level_scope l = record {
+  packets = [];
+  bodies_before = 0;
+  types_before = 0;
+  home = of_level;
+  headings = headings l;
+  level = level_names l;
+  types = level_types l;
+  routine = None;
+  refinement = None;
+}
 
 -- in the refinement with this number
 abbrev pub refinement_scope : Scope → ℕ → Scope
-refinement_scope s k = record { headings = s.headings; level = s.level; types = s.types; routine = s.routine; refinement = Some k }
+refinement_scope s k = record {
+  packets = s.packets;
+  bodies_before = s.bodies_before;
+  types_before = s.types_before;
+  home = s.home;
+  headings = s.headings;
+  level = s.level;
+  types = s.types;
+  routine = s.routine;
+  refinement = Some k;
+}
 
 abbrev pub owner_of : Option Within → Owner
 owner_of routine = option_map_or (λ w. owner.Of w.number) routine owner.Level

@@ -1,6 +1,6 @@
 -- Where no name and no heading has a type without meaning, nothing hangs on one.
 use Rattle.std.proofs.Common.{◌≡◌, ℕ, zero, suc, ◌+◌, Bool, true, false, ◌||◌, ◌&&◌, if◌then◌else◌, List, [], ◌∷◌, ◌++◌, Option, Some, None, refl, sym, ap, subst, ◌∙◌}
-use Rattle.std.specs.Prelude.{nat_eq, option_map, slice_get}
+use Rattle.std.specs.Prelude.{nat_eq, option_map, option_and_then, option_to_list, slice_get, map}
 use Rattle.elan_types.specs.declared.core_phrase.Exit.{Exit}
 use Rattle.std.specs.Option.{option_or, option_map_or}
 use Rattle.std.specs.Str.{bytes_eq}
@@ -10,7 +10,7 @@ use Rattle.elan_names.specs.declared.entry.Entry.{Entry}
 use Rattle.elan_scope.specs.declared.scope.Scope.{Scope}
 use Rattle.elan_scope.specs.declared.scope.Within.{Within}
 use Rattle.elan_scope.specs.declared.scope.Home.{Home}
-use Rattle.elan_scope.specs.declared.scope.Home.TheVariants.{Level as of_level, Routine as of_routine}
+use Rattle.elan_scope.specs.declared.scope.Home.TheVariants.{Routine as of_routine, Packet as of_packet}
 use Rattle.elan_names.specs.declared.type_name.TypeName.{TypeName}
 use Rattle.elan_names.specs.declared.type_name.Named.{Named}
 use Rattle.elan_names.specs.declared.type_name.Named.TheVariants.{Of, Size, Other}
@@ -22,6 +22,10 @@ use Rattle.elan_names.specs.declared.heading.What.{What}
 use Rattle.elan_names.specs.declared.heading.What.TheVariants.{Routine, Refinement}
 use Rattle.elan_names.specs.declared.heading.Heading.{Heading}
 use Rattle.elan_names.specs.Names.{first_from, cells_held}
+use Rattle.elan_names.specs.declared.interface.Inserted.{Inserted}
+use Rattle.elan_names.specs.Interfaces.{exports}
+use Rattle.elan_scope.specs.walks.Seen.{found_in_packets, found_around, found_within}
+use Rattle.elan_scope.proofs.Layers.{found_as}
 use Rattle.elan_scope.specs.Scope as scope
 use Rattle.elan_scope.specs.Scope.{Found, Callable, first, found_in, first_named, from_inside, is_refinement, own_callable, own_callables, has_open, is_open_result, is_open_callable}
 use Rattle.elan_scope.specs.Phrase as form
@@ -50,8 +54,13 @@ HeadingsClosed (h ∷ hs) = HeadingClosed h.what × HeadingsClosed hs
 abbrev pub own_types : Scope → List TypeName
 own_types z = option_map_or (λ (w : Within). w.types) z.routine z.types
 
+abbrev pub PacketsClosed : List Inserted → Type 0
+PacketsClosed [] = Unit {0}
+PacketsClosed (p ∷ ps) = Closed p.interface.names × PacketsClosed ps
+
 -- what stands around a phrase has types with meaning
 pub record ScopeClosed (z : Scope) : Type 0 where
+  pub packets : PacketsClosed z.packets
   pub level : Closed z.level
   pub routine : Closed (option_map_or (λ (w : Within). w.names) z.routine [])
   pub headings : HeadingsClosed z.headings
@@ -94,8 +103,8 @@ or_closed (Some d) q h k = h
 
 pub nothing_unclear : (z : Scope) → HeadingsClosed z.headings → (sort : Sort) (x : List ℕ) (ms : List Meant) → is_unclear z sort x ms ≡ false
 nothing_unclear z h sort x ms =
-    let ds = own_callables 0 z.headings in
-    let k = all_own_closed 0 z.headings h in
+    let ds = own_callables z.bodies_before z.headings in
+    let k = all_own_closed z.bodies_before z.headings h in
     or_closed (first (takes sort x ms) ds) (first (may_take sort x ms) ds) (first_closed (takes sort x ms) ds k (first (takes sort x ms) ds) refl)
     (first_closed (may_take sort x ms) ds k (first (may_take sort x ms) ds) refl)
 
@@ -134,30 +143,44 @@ or_found : (o q : Option Found) → FoundClosed o → FoundClosed q → FoundClo
 or_found None q h k = k
 or_found (Some f) q h k = h
 
--- a scope with this PROC or OP around it
-abbrev with_routine : Scope → Option Within → Scope
-with_routine z u = record { headings = z.headings; level = z.level; types = z.types; routine = u; refinement = z.refinement }
+-- what is seen of it
+seen_closed : (b : Bool) (o : Option Found) → FoundClosed o → FoundClosed (if b then o else None)
+seen_closed true o h = h
+seen_closed false o h = tt
+
+packets_closed : (x : List ℕ) (ps : List Inserted) → PacketsClosed ps → FoundClosed (found_in_packets x ps)
+packets_closed x [] h = tt
+packets_closed x (p ∷ ps) h =
+    let home = of_packet p.cells_before in
+    let o = found_in home (first_named p.interface.names x) in
+    let shown = if exports p.interface x then o else None in
+    or_found (from_inside shown) (found_in_packets x ps)
+    (inside_closed shown (seen_closed (exports p.interface x) o (in_closed home p.interface.names x h.0)))
+    (packets_closed x ps h.1)
 
 abbrev within_names : Option Within → List Entry
 within_names u = option_map_or (λ (w : Within). w.names) u []
 
-found_closed : (z : Scope) (v : Option Within) → z.routine ≡ v → ScopeClosed z → (x : List ℕ) → FoundClosed (scope.find z x)
-found_closed z v e h x = subst FoundClosed (ap (λ (u : Option Within). scope.find (with_routine z u) x) (sym e)) (by_routine v (sym (ap within_names e)))
-  where
-    by_routine : (u : Option Within) → within_names u ≡ within_names z.routine → FoundClosed (scope.find (with_routine z u) x)
-    by_routine None i = or_found (found_in of_level (first_named z.level x)) None (in_closed of_level z.level x h.level) tt
-    by_routine (Some w) i =
-        or_found (found_in of_routine (first_named w.names x)) (option_or (from_inside (found_in of_level (first_named z.level x))) None)
-        (in_closed of_routine w.names x (subst Closed (sym i) h.routine))
-        (or_found (from_inside (found_in of_level (first_named z.level x))) None
-        (inside_closed (found_in of_level (first_named z.level x)) (in_closed of_level z.level x h.level)) tt)
+around_closed : (z : Scope) (u : Option Within) → Closed z.level → Closed (within_names u) → (x : List ℕ) → FoundClosed (found_around x u z)
+around_closed z None h k x = in_closed z.home z.level x h
+around_closed z (Some w) h k x =
+    or_found (found_in of_routine (first_named w.names x)) (from_inside (found_in z.home (first_named z.level x)))
+    (in_closed of_routine w.names x k)
+    (inside_closed (found_in z.home (first_named z.level x)) (in_closed z.home z.level x h))
 
-own_found : (z : Scope) (v : Option Within) → z.routine ≡ v → ScopeClosed z → (x : List ℕ) → FoundClosed (scope.find_own z x)
-own_found z v e h x = subst FoundClosed (ap (λ (u : Option Within). scope.find_own (with_routine z u) x) (sym e)) (by_routine v (sym (ap within_names e)))
+found_closed : (z : Scope) → ScopeClosed z → (x : List ℕ) → FoundClosed (scope.find z x)
+found_closed z h x =
+    subst FoundClosed (sym (found_as x z))
+    (or_found (found_within x z) (found_in_packets x z.packets) (around_closed z z.routine h.level h.routine x) (packets_closed x z.packets h.packets))
+
+own_found : (z : Scope) → ScopeClosed z → (x : List ℕ) → FoundClosed (scope.find_own z x)
+own_found z h x = by_routine z.routine h.routine
   where
-    by_routine : (u : Option Within) → within_names u ≡ within_names z.routine → FoundClosed (scope.find_own (with_routine z u) x)
-    by_routine None i = in_closed of_level z.level x h.level
-    by_routine (Some w) i = in_closed of_routine w.names x (subst Closed (sym i) h.routine)
+    by_routine : (u : Option Within) → Closed (within_names u)
+        → FoundClosed (option_and_then (scope.found x)
+        (slice_get (option_to_list (option_map scope.routine_layer u) ++ scope.level_layer z ∷ (map scope.packet_layer z.packets ++ scope.predefined_layer ∷ [])) 0))
+    by_routine None i = in_closed z.home z.level x h.level
+    by_routine (Some w) i = in_closed of_routine w.names x i
 
 denotes_closed : (z : Scope) → ScopeClosed z → (x : List ℕ) (d : Denotes) → holds_open d ≡ false → denotes_open z x d ≡ false
 denotes_closed z h x denotes.Procedure e = nothing_unclear z h.headings Procedure x []
@@ -168,7 +191,7 @@ denotes_closed z h x denotes.Refinement e = e
 denotes_closed z h x (denotes.Denoter d) e = e
 
 pub name_closed : (z : Scope) → ScopeClosed z → (x : List ℕ) → is_open_name z x (scope.find z x) ≡ false
-name_closed z h x = by_found (scope.find z x) (found_closed z z.routine refl h x)
+name_closed z h x = by_found (scope.find z x) (found_closed z h x)
   where
     by_found : (o : Option Found) → FoundClosed o → is_open_name z x o ≡ false
     by_found None k = nothing_unclear z h.headings Procedure x []
@@ -179,7 +202,7 @@ and_false true q e = e
 and_false false q e = refl
 
 declares_closed : (z : Scope) → ScopeClosed z → (at : ℕ) (x : List ℕ) → declares_open at (scope.find_own z x) ≡ false
-declares_closed z h at x = by_found (scope.find_own z x) (own_found z z.routine refl h x)
+declares_closed z h at x = by_found (scope.find_own z x) (own_found z h x)
   where
     by_found : (o : Option Found) → FoundClosed o → declares_open at o ≡ false
     by_found None k = refl
@@ -225,7 +248,7 @@ nothing_hangs z h at (form.number n) i ms = refl
 nothing_hangs z h at (form.truth b) i ms = refl
 nothing_hangs z h at (form.text x) i ms = refl
 nothing_hangs z h at form.bracket i ms = refl
-nothing_hangs z h at form.concr i ms = refl
+nothing_hangs z h at (form.concr s) i ms = refl
 nothing_hangs z h at form.index i ms = refl
 nothing_hangs z h at (form.field x) i ms = refl
 nothing_hangs z h at form.cand i ms = refl

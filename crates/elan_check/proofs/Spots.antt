@@ -105,7 +105,7 @@ module _ (kn : Known) (s : Scope) where
   -- ---- refinements
 
   refined_closed : (z : Scope) (k : ℕ) → ScopeClosed z → ScopeClosed (l.refinement_scope z k)
-  refined_closed z k c = record { level = c.level; routine = c.routine; headings = c.headings; types = c.types }
+  refined_closed z k c = record { packets = c.packets; level = c.level; routine = c.routine; headings = c.headings; types = c.types }
 
   refinement_spots : (z : Scope) → ScopeClosed z → (k : ℕ) (home : Option ℕ) (rs : List Refined) → z.headings ≡ s.headings
       → Faultless (judged_all kn (all_of (l.refinements z k rs))) → Spots k (b.refinement_headings home rs) (l.all_refined_units z k rs)
@@ -411,6 +411,7 @@ module _ (w : Level) where
 
     level_is_closed : ScopeClosed s
     level_is_closed = record {
+      packets = tt;
       level = clean.level_closed w faultless;
       routine = tt;
       headings = all_closed;
@@ -423,6 +424,7 @@ module _ (w : Level) where
       clean.parameters_closed w faultless r fs v c,
       clean.delivers_closed w faultless r fs v c,
       record {
+        packets = tt;
         level = clean.level_closed w faultless;
         routine = clean.body_closed w faultless r fs v c;
         headings = all_closed;

@@ -13,7 +13,7 @@ use Rattle.elan_types.specs.declared.core_phrase.Scope.TheVariants as owner
 use Rattle.elan_types.specs.declared.core_phrase.Body.{Body}
 use Rattle.elan_types.specs.declared.core_phrase.Core.{Core}
 use Rattle.elan_types.specs.Typing.{Home, frame_of, frame_at, frame_in, scope_of, owner_at, owner as owner_in, result_of_content, is_content_typed, IsScope}
-use Rattle.elan_types.specs.Typing.{Outside, IsWellTyped}
+use Rattle.elan_types.specs.Typing.{Outside, IsWellTyped, Held, OfKind}
 use Rattle.elan_check.proofs.SameCore.{core_with, core_made}
 use Rattle.elan_tree.specs.declared.tree.Refinement.{Refinement as Refined}
 use Rattle.elan_tree.specs.declared.tree.Level.{Level as Written}
@@ -58,13 +58,17 @@ use Rattle.elan_judge.proofs.InScope.{statement_in}
 use Rattle.elan_rules.proofs.TypeEquations.{Stand}
 use Rattle.elan_rules.proofs.Typed as ty
 use Rattle.elan_rules.proofs.TypedUnits.{content_as_good, content_of_good}
-use Rattle.elan_rules.proofs.TypedPerformed.{owner_with, Headed, Delivering, BodyFits}
-use Rattle.elan_rules.proofs.TypedCalls.{held_cells, AllSized, AllConst, FrameIs, WithinSized, Fits}
+use Rattle.elan_rules.proofs.TypedPerformed.{owner_with, behind, Headed, Delivering, BodyFits}
+use Rattle.elan_rules.proofs.TypedCalls.{held_cells, AllSized, AllConst, FrameIs, WithinSized, HeldThere, AllFit, Fits}
+use Rattle.elan_rules.proofs.HeldCells.{level_cells}
+use Rattle.elan_names.specs.declared.interface.Inserted.{Inserted}
+use Rattle.elan_scope.specs.declared.scope.Home.{Home as HeldIn}
+use Rattle.std.proofs.lemmas.List.{append-nil}
 use Rattle.elan_check.proofs.HeldTypes.{BodiesSized, level_const, level_sized, level_types_sized, bodies_sized}
 use Rattle.elan_judge.proofs.TypedRules.{good}
 use Rattle.elan_bodies.proofs.Counts.{all_headings_count}
 use Rattle.elan_bodies.proofs.Settled.{told_found, refinement_found}
-use Rattle.elan_check.proofs.Aligned.{Made, Inside, Frames, within, Stands, Row, Rows, rows_append, refinement_rows, split, bodies_append}
+use Rattle.elan_check.proofs.Aligned.{Made, around, Inside, Frames, within, Stands, Row, Rows, rows_append, refinement_rows, split, bodies_append}
 use Rattle.elan_check.proofs.LevelRows.{units_rows, rows_count, inside_first, row_of_heading, heading_of_body}
 use Rattle.elan_levels.specs.walks.Headings.{all_headings}
 use Rattle.elan_bodies.specs.walks.Units.{all_unit_bodies, level_units}
@@ -75,9 +79,16 @@ content_result : (o : Option ElanType) (m : Meant) (c : Content) → c ≡ u.con
 content_result None m c e = ap result_of_content e
 content_result (Some t) m c e = ap result_of_content e
 
-headed_of : (w : What) (m : Meant) (c : Body) → Made w m c → Headed w c
+none_behind : (n : ℕ) → 0 + n ≡ n
+none_behind n = omega arith
+
+behind_none : (o : Option ℕ) → behind 0 o ≡ o
+behind_none None = refl
+behind_none (Some n) = ap (λ (m : ℕ). Some m) (none_behind n)
+
+headed_of : (w : What) (m : Meant) (c : Body) → Made w m c → Headed 0 w c
 headed_of (Routine sort ps r) m c h = (h.0, h.1, content_result r m c.content h.2)
-headed_of (Refinement home) m c h = h.0
+headed_of (Refinement home) m c h = h.0 ∙ ap owner_with (sym (behind_none home))
 
 told_delivers : (o : Option ElanType) (c : Body) → result_of_content c.content ≡ option_map shape_in o → Delivering (stated (Routine Procedure [] o)) c
 told_delivers None c e = e
@@ -204,12 +215,12 @@ module _ (w : Written) (us : List Action) (all : List Body) where
       (sym (refinement_found hs ps n h q i j list m (ap stated e) (is ∙ ap (λ (d : Delivery). shape.units d list) (ap stated e)) g))
       (content_delivers m c made.1)
 
-  bodies_fit : Rows kn s all 0 hs ps all → (n : ℕ) (h : Heading) → slice_get hs n ≡ Some h → BodyFits (slice_get all n) h (delivery_at kn n)
+  bodies_fit : Rows kn s all 0 hs ps all → (n : ℕ) (h : Heading) → slice_get hs n ≡ Some h → BodyFits 0 (slice_get all (0 + n)) h (delivery_at kn n)
   bodies_fit rs n h e =
       let r = row_at rs n h e in
       record {
         body = r.1;
-        is = r.3;
+        is = ap (slice_get all) (none_behind n) ∙ r.3;
         headed = headed_of h.what r.4.meant r.1 r.4.made;
         delivers = delivers_as n h r.0 r.1 r.4.meant r.4.list h.what refl e r.2 r.4.means r.4.is_list r.4.made;
       }
@@ -222,11 +233,27 @@ module _ (w : Written) (us : List Action) (all : List Body) where
   abbrev stand : ℕ → Stand
   stand n = record { outside = outside; bodies = all; home = Some n }
 
+  level_held : (es : List Entry) → AllConst (all_held es) → (rest : List Held) × (map OfKind (variables_of es) ≡ held_cells es ++ rest)
+  level_held es c = ([], level_cells (all_held es) c ∙ sym (append-nil (held_cells es)))
+
+  -- The same is told in the scope of each body.
+  held_there : (z : Scope) (n : ℕ) → around z ≡ around s → HeldThere (stand n) z.home z.level
+  held_there z n e = subst (λ (a : List Entry × List Inserted × ℕ × HeldIn). HeldThere (stand n) a.3 a.0) (sym e) (level_held s.level (level_const w))
+
+  packets_there : (z : Scope) (n : ℕ) → around z ≡ around s → AllFit (stand n) z.packets
+  packets_there z n e = subst (λ (a : List Entry × List Inserted × ℕ × HeldIn). AllFit (stand n) a.1) (sym e) tt
+
+  none_before : (z : Scope) → around z ≡ around s → z.bodies_before ≡ 0
+  none_before z e = ap (λ (a : List Entry × List Inserted × ℕ × HeldIn). a.2) e
+
+  behind_in : (z : Scope) → around z ≡ around s → (o : Option ℕ) → o ≡ behind z.bodies_before o
+  behind_in z e o = sym (ap (λ (b : ℕ). behind b o) (none_before z e) ∙ behind_none o)
+
   level_fits : Rows kn s all 0 hs ps all → Fits level_stand s kn
   level_fits rs =
       record {
-        level = refl;
-        constant = level_const w;
+        packets = tt;
+        level = level_held s.level (level_const w);
         sized = sized_level;
         frame_sized = tt;
         frame = tt;
@@ -236,11 +263,14 @@ module _ (w : Written) (us : List Action) (all : List Body) where
         bodies = bodies_fit rs;
       }
 
-  constant_at : (z : Scope) → z.level ≡ s.level → AllConst (all_held z.level)
-  constant_at z e = subst (λ (es : List Entry). AllConst (all_held es)) (sym e) (level_const w)
+  sized_at : (z : Scope) → around z ≡ around s → AllSized (all_held z.level)
+  sized_at z e = subst (λ (a : List Entry × List Inserted × ℕ × HeldIn). AllSized (all_held a.0)) (sym e) sized_level
 
-  sized_at : (z : Scope) → z.level ≡ s.level → AllSized (all_held z.level)
-  sized_at z e = subst (λ (es : List Entry). AllSized (all_held es)) (sym e) sized_level
+  bodies_at : Rows kn s all 0 hs ps all → (z : Scope) → z.headings ≡ s.headings → around z ≡ around s → (n : ℕ) (h : Heading)
+      → slice_get z.headings n ≡ Some h → BodyFits z.bodies_before (slice_get all (z.bodies_before + n)) h (delivery_at kn n)
+  bodies_at rs z zh zl n h e =
+      subst (λ (b : ℕ). BodyFits b (slice_get all (b + n)) h (delivery_at kn n)) (sym (none_before z zl))
+      (bodies_fit rs n h (ap (λ (g : List Heading). slice_get g n) (sym zh) ∙ e))
 
   sized_frame : (v : Option Within) → Frames all v → WithinSized v
   sized_frame None f = tt
@@ -253,20 +283,22 @@ module _ (w : Written) (us : List Action) (all : List Body) where
   frame_here n c e = ap (λ (o : Option Body). frame_at (scope_of o)) e
 
   routine_fits : Rows kn s all 0 hs ps all → (n : ℕ) (c : Body) (z : Scope) (fs : List Formal) (ks : List Kind) (names : List Entry) (types : List TypeName)
-      → slice_get all n ≡ Some c → z.headings ≡ s.headings → z.level ≡ s.level → c.scope ≡ owner.Own fs ks → z.routine ≡ within n names types
+      → slice_get all n ≡ Some c → z.headings ≡ s.headings → around z ≡ around s → c.scope ≡ owner.Own fs ks → z.routine ≡ within n names types
       → z.refinement ≡ None → frame_of c.scope ≡ held_cells names → AllSized (all_held names) → Fits (stand n) z kn
   routine_fits rs n c z fs ks names types i zh zl own rt rf fr si =
       let owned : owner_in all (Some n) ≡ Some n = owner_here n c i ∙ ap (λ (o : Owner). owner_at n (Some o)) own in
       record {
-        level = ap variables_of (sym zl);
-        constant = constant_at z zl;
+        packets = packets_there z n zl;
+        level = held_there z n zl;
         sized = sized_at z zl;
         frame_sized = subst WithinSized (sym rt) si;
         frame = subst (λ (v : Option Within). FrameIs (frame_in all (owner_in all (Some n))) v) (sym rt) (ap (frame_in all) owned ∙ frame_here n c i ∙ fr);
-        owner_is = owned ∙ sym (ap number_of rt);
-        home_is = sym (ap (λ (o : Option ℕ). option_or o (number_of z.routine)) rf ∙ ap number_of rt);
+        owner_is = owned ∙ sym (ap number_of rt) ∙ behind_in z zl (number_of z.routine);
+        home_is =
+            sym (ap (λ (o : Option ℕ). option_or o (number_of z.routine)) rf ∙ ap number_of rt)
+            ∙ behind_in z zl (option_or z.refinement (number_of z.routine));
         part_of = λ r q e f. absurd (none_some r (sym rf ∙ e));
-        bodies = λ m h e. bodies_fit rs m h (ap (λ (g : List Heading). slice_get g m) (sym zh) ∙ e);
+        bodies = bodies_at rs z zh zl;
       }
     where
       none_some : (r : ℕ) → None ≡ Some r → ⊥
@@ -284,28 +316,31 @@ module _ (w : Written) (us : List Action) (all : List Body) where
   refined_owner n (Some q) = refl
 
   refinement_fits : Rows kn s all 0 hs ps all → (n : ℕ) (c : Body) (z : Scope) (home : Option ℕ) → slice_get all n ≡ Some c → z.headings ≡ s.headings
-      → z.level ≡ s.level → c.scope ≡ owner_with home → z.refinement ≡ Some n → number_of z.routine ≡ home → Frames all z.routine → Fits (stand n) z kn
+      → around z ≡ around s → c.scope ≡ owner_with home → z.refinement ≡ Some n → number_of z.routine ≡ home → Frames all z.routine → Fits (stand n) z kn
   refinement_fits rs n c z home i zh zl own rf rt fr =
       let owned : owner_in all (Some n) ≡ owner_at n (Some (owner_with home)) = owner_here n c i ∙ ap (λ (o : Owner). owner_at n (Some o)) own in
       record {
-        level = ap variables_of (sym zl);
-        constant = constant_at z zl;
+        packets = packets_there z n zl;
+        level = held_there z n zl;
         sized = sized_at z zl;
         frame_sized = sized_frame z.routine fr;
         frame = subst (λ (o : Home). FrameIs (frame_in all o) z.routine) (sym owned) (refined_frame n home z.routine rt fr);
-        owner_is = owned ∙ refined_owner n home ∙ sym rt;
-        home_is = sym (ap (λ (o : Option ℕ). option_or o (number_of z.routine)) rf);
+        owner_is = owned ∙ refined_owner n home ∙ sym rt ∙ behind_in z zl (number_of z.routine);
+        home_is =
+            sym (ap (λ (o : Option ℕ). option_or o (number_of z.routine)) rf) ∙ behind_in z zl (option_or z.refinement (number_of z.routine));
         part_of =
-            λ r q e f. ap (λ (m : ℕ). scope_of (slice_get all m)) (same r (sym e ∙ rf)) ∙ ap scope_of i
-            ∙ ap (λ (o : Owner). Some o) (own ∙ ap owner_with (sym rt ∙ f));
-        bodies = λ m h e. bodies_fit rs m h (ap (λ (g : List Heading). slice_get g m) (sym zh) ∙ e);
+            λ r q e f.
+            subst (λ (b : ℕ). scope_of (slice_get all (b + r)) ≡ Some (owner.Of (b + q))) (sym (none_before z zl))
+            (ap (λ (m : ℕ). scope_of (slice_get all m)) (none_behind r ∙ same r (sym e ∙ rf)) ∙ ap scope_of i
+            ∙ ap (λ (o : Owner). Some o) (own ∙ ap owner_with (sym rt ∙ f)) ∙ ap (λ (m : ℕ). Some (owner.Of m)) (sym (none_behind q)));
+        bodies = bodies_at rs z zh zl;
       }
     where
       same : (r : ℕ) → Some r ≡ Some n → r ≡ n
       same r e = cc
 
   row_fits : Rows kn s all 0 hs ps all → (n : ℕ) (what : What) (m : Meant) (c : Body) (z : Scope) → slice_get all n ≡ Some c → z.headings ≡ s.headings
-      → z.level ≡ s.level → Made what m c → Stands all n what z c → Fits (stand n) z kn
+      → around z ≡ around s → Made what m c → Stands all n what z c → Fits (stand n) z kn
   row_fits rs n (Routine sort params r) m c z i zh zl made st = routine_fits rs n c z (map formal_of params) made.0 st.0 st.1 i zh zl made.1 st.2 st.3 st.4 st.5
   row_fits rs n (Refinement home) m c z i zh zl made st = refinement_fits rs n c z home i zh zl made.0 st.0 st.1 st.2
 

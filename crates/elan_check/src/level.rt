@@ -30,7 +30,7 @@ use elan_meant::row::{Judged, Row};
 use elan_meant::together::{let_go, none, one, with};
 use elan_names::heading::Sort;
 use elan_scope::known::Known;
-use elan_scope::scope::Scope;
+use elan_scope::scope::{Home, Scope};
 use elan_scope::trouble::Trouble;
 use elan_tree::{Formal, Level, LevelUnit, Name};
 use elan_types::{Core, Why};
@@ -151,6 +151,10 @@ fn level_scope(alloc: Global, level: &Level) -> Result<Scope, NoMemory>
 {
     let types = level_types(alloc, level)?;
     Ok(Scope {
+        packets: List::new(alloc),
+        bodies_before: 0,
+        types_before: 0,
+        home: Home::Level,
         headings: headings(alloc, &types, level)?,
         level: level_names(alloc, &types, level)?,
         types,

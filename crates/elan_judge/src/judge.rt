@@ -19,11 +19,11 @@ use choice_rules::selection::selected;
 use elan_meant::meant::Meant;
 use elan_meant::row::{Judged, Row};
 use elan_meant::together::{Three, before, let_go, none, one, pair, three, with};
+use elan_names::heading::Sort;
 use elan_rules::whole::{
     assignment_phrase, cand_phrase, cor_phrase, count_phrase, index_phrase, initial_phrase,
     loop_phrase,
 };
-use elan_names::heading::Sort;
 use elan_scope::known::Known;
 use elan_scope::scope::{Scope, Usage};
 use elan_scope::trouble::Trouble;

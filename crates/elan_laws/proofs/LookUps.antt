@@ -3,7 +3,7 @@ use Rattle.std.proofs.Common.{◌≡◌, ℕ, ◌+◌, Bool, true, false, ◌&&�
 use Rattle.elan_names.specs.declared.entry.Denotes.TheVariants as denotes
 use Rattle.std.specs.Prelude.{flat_map}
 use Rattle.std.proofs.Common.{None, refl, sym, ap, subst, ◌∙◌, ◌⊎◌, inl, inr}
-use Rattle.std.specs.Prelude.{option_and_then, slice_get}
+use Rattle.std.specs.Prelude.{option_and_then, option_map, option_to_list, slice_get, map}
 use Rattle.std.specs.Option.{is_some}
 use Rattle.std.specs.Str.{bytes_eq}
 use Rattle.std.proofs.lemmas.Slice.Eq.{bytes_eq-Decides}
@@ -22,12 +22,14 @@ use Rattle.elan_scope.specs.declared.scope.Home.{Home}
 use Rattle.elan_names.specs.declared.heading.Heading.{Heading}
 use Rattle.std.specs.Option.{option_or}
 use Rattle.elan_names.specs.Names.{cells_held}
-use Rattle.elan_scope.specs.Scope.{first_from, find, find_in, found, found_in, from_inside}
-use Rattle.elan_scope.proofs.Layers.{layers_in, outer_layers}
+use Rattle.elan_scope.specs.Scope.{first_from, find, found, found_in, from_inside, routine_layer, level_layer, packet_layer, predefined_layer}
+use Rattle.elan_names.specs.declared.interface.Inserted.{Inserted}
+use Rattle.elan_scope.specs.walks.Seen.{found_in_packets, found_around, found_within}
+use Rattle.elan_scope.proofs.Layers.{found_as}
 use Rattle.elan_names.proofs.Named.{first_heading_from}
 use Rattle.elan_scope.specs.Scope.{first_heading, is_refinement, is_refined, number_in, number_of, refinement_in}
 use Rattle.elan_scope.specs.Scope.{Found}
-use Rattle.elan_scope.specs.declared.scope.Home.TheVariants.{Level as of_level, Routine as of_routine}
+use Rattle.elan_scope.specs.declared.scope.Home.TheVariants.{Routine as of_routine}
 use Rattle.elan_names.specs.declared.heading.What.TheVariants as what
 use Rattle.elan_walk.specs.declared.node.Held.TheVariants.{Variable, Constant}
 use Rattle.std.proofs.lemmas.Bool.Decides.{Decides-eqb}
@@ -129,13 +131,14 @@ names_in (Some w) es = w.names
 abbrev pub own : Scope → List Entry
 own z = names_in z.routine z.level
 
-named_by : (w : Option Within) (es : List Entry) (hs : List Heading) (x : List ℕ) → Has (names_in w es) x
-    → is_some (option_and_then (found x) (slice_get (layers_in w (outer_layers es hs)) 0)) ≡ true
-named_by None es hs x h = found_is _ (first_from 0 es x) (first_is 0 es x h)
-named_by (Some w) es hs x h = found_is _ (first_from 0 w.names x) (first_is 0 w.names x h)
+named_by : (z : Scope) (w : Option Within) (x : List ℕ) → Has (names_in w z.level) x
+    → is_some (option_and_then (found x) (slice_get (option_to_list (option_map routine_layer w)
+    ++ level_layer z ∷ (map packet_layer z.packets ++ predefined_layer ∷ [])) 0)) ≡ true
+named_by z None x h = found_is z.home (first_from 0 z.level x) (first_is 0 z.level x h)
+named_by z (Some w) x h = found_is of_routine (first_from 0 w.names x) (first_is 0 w.names x h)
 
 pub named : (z : Scope) (x : List ℕ) → Has (own z) x → Named z x
-named z x h = named_by z.routine z.level z.headings x h
+named z x h = named_by z z.routine x h
 
 -- ---- names of types
 
@@ -256,13 +259,22 @@ found_leads z x home k (e ∷ es) h = by_test (bytes_eq e.name x) refl (found_le
     by_test true i g = λ r. subst (IsBody z) ((bytes_eq-Decides e.name x).0 i) (h.0 r)
     by_test false i g = g
 
-find_leads : (z : Scope) (x : List ℕ) (w : Option Within) (es : List Entry) (hs : List Heading) → AllLead z (names_in w es)
-    → Leads z x (find_in x (layers_in w (outer_layers es hs)))
-find_leads z x None es hs h = or_leads z x (found_in of_level (first_from 0 es x)) None (found_leads z x of_level 0 es h) tt
-find_leads z x (Some w) es hs h =
-    or_leads z x (found_in of_routine (first_from 0 w.names x)) (option_or (from_inside (found_in of_level (first_from 0 es x))) None)
-    (found_leads z x of_routine 0 w.names h)
-    (or_leads z x (from_inside (found_in of_level (first_from 0 es x))) None (inside_leads z x (found_in of_level (first_from 0 es x))) tt)
+-- No refinement of a packet is seen.
+packets_lead : (z : Scope) (x : List ℕ) (ps : List Inserted) → Leads z x (found_in_packets x ps)
+packets_lead z x [] = tt
+packets_lead z x (p ∷ ps) =
+    or_leads z x (from_inside (found x (packet_layer p))) (found_in_packets x ps) (inside_leads z x (found x (packet_layer p))) (packets_lead z x ps)
+
+around_leads : (z : Scope) (x : List ℕ) (w : Option Within) → AllLead z (names_in w z.level) → Leads z x (found_around x w z)
+around_leads z x None h = found_leads z x z.home 0 z.level h
+around_leads z x (Some w) h =
+    or_leads z x (found_in of_routine (first_from 0 w.names x)) (from_inside (found_in z.home (first_from 0 z.level x)))
+    (found_leads z x of_routine 0 w.names h) (inside_leads z x (found_in z.home (first_from 0 z.level x)))
+
+find_leads : (z : Scope) (x : List ℕ) → AllLead z (own z) → Leads z x (find z x)
+find_leads z x h =
+    subst (Leads z x) (sym (found_as x z))
+    (or_leads z x (found_within x z) (found_in_packets x z.packets) (around_leads z x z.routine h) (packets_lead z x z.packets))
 
 abbrev pub Bodies : Scope → Type 0
 Bodies z = (x : List ℕ) → HasBody z x (find z x)
@@ -272,7 +284,7 @@ has_body z x None h = tt
 has_body z x (Some f) h = h
 
 pub bodies_of : (z : Scope) → AllLead z (own z) → Bodies z
-bodies_of z h = λ x. has_body z x (find z x) (leads_found z x (find z x) (find_leads z x z.routine z.level z.headings h))
+bodies_of z h = λ x. has_body z x (find z x) (leads_found z x (find z x) (find_leads z x h))
 
 -- ---- declarations that are refinements
 

@@ -3,7 +3,7 @@ use Rattle.eu_base.specs.declared.operation.Way.{Way}
 use Rattle.std.proofs.Common.{ℕ, ℤ, Bool, true, false, ◌&&◌, if◌then◌else◌, nat_le, List, [], ◌∷◌, length, drop, Option, Some, None, nat_eq, zero, suc}
 use Rattle.elan_types.specs.declared.elan_type.ElanType.{ElanType}
 use Rattle.elan_types.specs.declared.elan_type.ElanType.TheVariants as type
-use Rattle.elan_types.specs.Types.{concrete, shape_in, has_own, items, field}
+use Rattle.elan_types.specs.Types.{concrete, is_own_from, shape_in, has_own, items, field}
 use Rattle.std.specs.Option.{option_map_or}
 use Rattle.elan_types.specs.declared.core_phrase.PlacePhrase.TheVariants as place
 use Rattle.elan_types.specs.declared.core_phrase.ValuePhrase.TheVariants as value
@@ -148,14 +148,15 @@ module _ (ns : List ℕ) where
     bracketed_placed (Value q t x) = here
     bracketed_placed _ = tt
 
-    concr_as_placed : (o : Option ElanType) (go : ElanType → Meant) → ((u : ElanType) → Placed (go u)) → Tells Placed (v.concr_as at o go)
-    concr_as_placed (Some u) go h = h u
-    concr_as_placed None go h = here
+    concr_as_placed : (own : Bool) (o : Option ElanType) (go : ElanType → Meant) → ((u : ElanType) → Placed (go u)) → Tells Placed (v.concr_as at own o go)
+    concr_as_placed true (Some u) go h = h u
+    concr_as_placed false (Some u) go h = here
+    concr_as_placed own None go h = here
 
-    concr_placed : (m : Meant) → Tells Placed (v.concr at m)
-    concr_placed (Variable q t x) = concr_as_placed (concrete t) (λ z. Variable at z x) (λ z. here)
-    concr_placed (Value q t x) = concr_as_placed (concrete t) (λ z. Value at z x) (λ z. here)
-    concr_placed _ = here
+    concr_placed : (s : Scope) (m : Meant) → Tells Placed (v.concr at s m)
+    concr_placed s (Variable q t x) = concr_as_placed (is_own_from s.types_before t) (concrete t) (λ z. Variable at z x) (λ z. here)
+    concr_placed s (Value q t x) = concr_as_placed (is_own_from s.types_before t) (concrete t) (λ z. Value at z x) (λ z. here)
+    concr_placed s _ = here
 
     item_as_placed : (o : Option (ℕ × ElanType)) (go : ℕ × ElanType → Meant) → ((q : ℕ × ElanType) → Placed (go q)) → Tells Placed (v.item_as at o go)
     item_as_placed (Some q) go h = h q
@@ -381,7 +382,7 @@ module _ (ns : List ℕ) where
   rule_placed at (form.text x) ms h g = text_placed at h x
   rule_placed at (form.applied s sort x) ms h g = applied_placed at h s sort x ms g
   rule_placed at form.bracket ms h g = bracketed_placed at h (p.nth ms 0)
-  rule_placed at form.concr ms h g = concr_placed at h (p.nth ms 0)
+  rule_placed at (form.concr s) ms h g = concr_placed at h s (p.nth ms 0)
   rule_placed at form.index ms h g = indexed_placed at h (p.nth ms 0) (p.nth ms 1)
   rule_placed at (form.field x) ms h g = field_part_placed at h x (p.nth ms 0)
   rule_placed at form.cand ms h g =

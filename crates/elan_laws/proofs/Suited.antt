@@ -19,10 +19,13 @@ use Rattle.elan_names.specs.Callees.{Predefined}
 use Rattle.elan_names.specs.declared.predefined.Predefined.{Predefined as Name}
 use Rattle.elan_names.specs.declared.predefined.Predefined.TheVariants.{Operation, Change, Request, ErrorStop}
 use Rattle.elan_names.specs.Predefined.{Row, predefined, parameters, result}
+use Rattle.std.specs.Prelude.{option_map, option_to_list}
+use Rattle.elan_names.specs.declared.interface.Inserted.{Inserted}
+use Rattle.elan_scope.specs.walks.Seen.{called_in}
+use Rattle.elan_scope.specs.Scope.{layers, routine_layer, level_layer, packet_layer, predefined_layer}
 use Rattle.elan_scope.specs.Scope.{Callable, Layer, own_callable, own_callables, predefined_callable}
 use Rattle.std.specs.Option.{option_or}
 use Rattle.elan_scope.specs.Scope.{first, first_in, called_by, is_called}
-use Rattle.elan_scope.proofs.Layers.{layers_in, outer_layers}
 use Rattle.elan_meant.specs.declared.meant.Meant.{Meant}
 use Rattle.elan_meant.specs.declared.meant.Meant.TheVariants.{Variable, Value, Done}
 use Rattle.elan_meant.specs.Verdict.{gives}
@@ -103,12 +106,16 @@ module _ (at : ℕ) (ms : List Meant) where
   Chosen (Some c) = Suits c × (fit c.parameters ms ≡ true)
 
   module _ (sort : Sort) (x : List ℕ) where
-    first_suits : (cs : List Callable) → AllSuit cs → Chosen (first (takes sort x ms) cs)
-    first_suits [] h = tt
-    first_suits (c ∷ cs) h = by_test (takes sort x ms c) refl (first_suits cs h.1)
+    -- what of them is seen
+    first_suits : (sees : List ℕ → Bool) (cs : List Callable) → AllSuit cs → Chosen (first (λ c. sees c.name && takes sort x ms c) cs)
+    first_suits sees [] h = tt
+    first_suits sees (c ∷ cs) h = by_test (sees c.name && takes sort x ms c) refl (first_suits sees cs h.1)
       where
-        by_test : (b : Bool) → takes sort x ms c ≡ b → Chosen (first (takes sort x ms) cs) → Chosen (if b then Some c else first (takes sort x ms) cs)
-        by_test true e g = (h.0, both (is_called sort x c) (fit c.parameters ms) e)
+        rest : Option Callable
+        rest = first (λ d. sees d.name && takes sort x ms d) cs
+
+        by_test : (b : Bool) → (sees c.name && takes sort x ms c) ≡ b → Chosen rest → Chosen (if b then Some c else rest)
+        by_test true e g = (h.0, both (is_called sort x c) (fit c.parameters ms) (both (sees c.name) (takes sort x ms c) e))
         by_test false e g = g
 
     or_suits : (o p : Option Callable) → Chosen o → Chosen p → Chosen (option_or o p)
@@ -119,19 +126,24 @@ module _ (at : ℕ) (ms : List Meant) where
     LayersSuit [] = Unit {0}
     LayersSuit (l ∷ ls) = AllSuit l.callables × LayersSuit ls
 
-    layers_suit : (ls : List Layer) → LayersSuit ls → Chosen (first_in (λ l. first (takes sort x ms) l.callables) ls)
+    layers_suit : (ls : List Layer) → LayersSuit ls → Chosen (first_in (called_in (takes sort x ms)) ls)
     layers_suit [] h = tt
     layers_suit (l ∷ ls) h =
-        or_suits (first (takes sort x ms) l.callables) (first_in (λ l. first (takes sort x ms) l.callables) ls) (first_suits l.callables h.0)
+        or_suits (called_in (takes sort x ms) l) (first_in (called_in (takes sort x ms)) ls) (first_suits l.sees l.callables h.0)
         (layers_suit ls h.1)
 
-    around_suit : (w : Option Within) (s : Scope) → LayersSuit (layers_in w (outer_layers s.level s.headings))
-    around_suit None s = (owns_suit 0 s.headings, (rows_suit predefined, tt))
-    around_suit (Some w) s = (tt, (owns_suit 0 s.headings, (rows_suit predefined, tt)))
+    packets_suit : (ps : List Inserted) → LayersSuit (map packet_layer ps ++ predefined_layer ∷ [])
+    packets_suit [] = (rows_suit predefined, tt)
+    packets_suit (p ∷ ps) = (owns_suit p.bodies_before p.interface.headings, packets_suit ps)
+
+    around_suit : (w : Option Within) (s : Scope)
+        → LayersSuit (option_to_list (option_map routine_layer w) ++ level_layer s ∷ (map packet_layer s.packets ++ predefined_layer ∷ []))
+    around_suit None s = (owns_suit s.bodies_before s.headings, packets_suit s.packets)
+    around_suit (Some w) s = (tt, (owns_suit s.bodies_before s.headings, packets_suit s.packets))
 
     chosen_suits : (s : Scope) → Chosen (chosen s sort x ms)
     unfolding called_by
-    chosen_suits s = layers_suit (layers_in s.routine (outer_layers s.level s.headings)) (around_suit s.routine s)
+    chosen_suits s = layers_suit (layers s) (around_suit s.routine s)
 
     pub suited : (s : Scope) (c : Callable) (as' : List Actual) → chosen s sort x ms ≡ Some c → given at c.parameters ms ≡ gives as' → Does c as'
     suited s c as' e g = let h = subst Chosen e (chosen_suits s) in h.0 as' h.1 g

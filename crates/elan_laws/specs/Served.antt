@@ -31,7 +31,7 @@ abbrev pub IsServed : Form → Parts → Type 0
 IsServed (form.named u s x) ps = HasBody s x (find s x)
 IsServed (form.leave s x) ps = Has 1 ps
 IsServed (plain form.bracket) ps = Has 1 ps
-IsServed (plain form.concr) ps = Has 1 ps
+IsServed (plain (form.concr s)) ps = Has 1 ps
 IsServed (plain form.index) ps = Has 2 ps
 IsServed (plain (form.field x)) ps = Has 1 ps
 IsServed (plain form.cand) ps = Has 2 ps

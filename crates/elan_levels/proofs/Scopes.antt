@@ -5,7 +5,17 @@ use Rattle.elan_scope.specs.declared.scope.Scope.{Scope}
 use Rattle.elan_levels.specs.Bodies.{routine_scope}
 
 abbrev pub scope_with : Scope → Option Within → Option ℕ → Scope
-scope_with s o r = record { headings = s.headings; level = s.level; types = s.types; routine = o; refinement = r }
+scope_with s o r = record {
+  packets = s.packets;
+  bodies_before = s.bodies_before;
+  types_before = s.types_before;
+  home = s.home;
+  headings = s.headings;
+  level = s.level;
+  types = s.types;
+  routine = o;
+  refinement = r;
+}
 
 pub left_routine : (s : Scope) → s.routine ≡ None → s.refinement ≡ None → scope_with s None None ≡ s
 left_routine s e h = ap (λ (o : Option Within). scope_with s o None) (sym e) ∙ ap (λ (o : Option ℕ). scope_with s s.routine o) (sym h)

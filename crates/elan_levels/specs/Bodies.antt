@@ -86,7 +86,17 @@ body_within ts k fs b = record { number = k; names = body_names ts fs b; types =
 
 -- in this PROC or OP
 abbrev pub routine_scope : Scope → Within → Scope
-routine_scope s w = record { headings = s.headings; level = s.level; types = s.types; routine = Some w; refinement = None }
+routine_scope s w = record {
+  packets = s.packets;
+  bodies_before = s.bodies_before;
+  types_before = s.types_before;
+  home = s.home;
+  headings = s.headings;
+  level = s.level;
+  types = s.types;
+  routine = Some w;
+  refinement = None;
+}
 
 abbrev pub unit_names : List TypeName → LevelUnit → List Entry
 unit_names ts (level.Plain u) = in_unit ts u

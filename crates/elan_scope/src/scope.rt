@@ -68,7 +68,6 @@ pub struct Scope {
     pub refinement: Option<usize>,
 }
 
-
 /// A declaration that was found, with the number of cells of what is held before it in its home.
 #[derive(Clone, Copy)]
 pub struct Found<'a> {
