@@ -126,8 +126,8 @@ Frames all (Some v) =
     × (frame_of (owner.Own fs vs) ≡ held_cells v.names) × AllSized (all_held v.names)
 
 -- what a scope tells that is the same in all of its bodies: the names of the level, and what stands around it
-abbrev pub around : Scope → List Entry × List Inserted × ℕ × Home
-around z = (z.level, z.packets, z.bodies_before, z.home)
+abbrev pub surroundings : Scope → List Entry × List Inserted × ℕ × Home
+surroundings z = (z.level, z.packets, z.bodies_before, z.home)
 
 abbrev pub within : ℕ → List Entry → List TypeName → Option Within
 within n names types = Some (record { number = n; names = names; types = types })
@@ -148,7 +148,7 @@ module _ (kn : Known) (s : Scope) (all : List Body) where
     pub scope : Scope
     pub in_scope : InScope scope p
     pub headings : scope.headings ≡ s.headings
-    pub level : around scope ≡ around s
+    pub level : surroundings scope ≡ surroundings s
     pub stands : Stands all n h.what scope b
 
   abbrev pub Rows : ℕ → List Heading → List Phrase → List Body → Type 0
@@ -179,7 +179,7 @@ module _ (kn : Known) (s : Scope) (all : List Body) where
       → m ≡ u.body_with o (u.content_of v)
   two_bodies o ms m n v e h = sym (gives_is (u.body_with o (u.content_of v)) m (ap (ruled kn 0 (plain (form.refinement o))) (sym e) ∙ h))
 
-  pub refinement_rows : (z : Scope) (k : ℕ) (rs : List Refined) (ms : List Meant) → z.headings ≡ s.headings → around z ≡ around s → Frames all z.routine →
+  pub refinement_rows : (z : Scope) (k : ℕ) (rs : List Refined) (ms : List Meant) → z.headings ≡ s.headings → surroundings z ≡ surroundings s → Frames all z.routine →
       judged_all kn (all_of (l.refinements z k rs)) ≡ gives ms
       → Rows k (refinement_headings (number_of z.routine) rs) (l.all_refined_units z k rs) (u.bodies_of ms)
   refinement_rows z k [] ms hh hl fr e = subst (λ (ns : List Meant). Rows k [] [] (u.bodies_of ns)) (gives_is [] ms e) tt

@@ -68,7 +68,7 @@ use Rattle.elan_check.proofs.HeldTypes.{BodiesSized, level_const, level_sized, l
 use Rattle.elan_judge.proofs.TypedRules.{good}
 use Rattle.elan_bodies.proofs.Counts.{all_headings_count}
 use Rattle.elan_bodies.proofs.Settled.{told_found, refinement_found}
-use Rattle.elan_check.proofs.Aligned.{Made, around, Inside, Frames, within, Stands, Row, Rows, rows_append, refinement_rows, split, bodies_append}
+use Rattle.elan_check.proofs.Aligned.{Made, surroundings, Inside, Frames, within, Stands, Row, Rows, rows_append, refinement_rows, split, bodies_append}
 use Rattle.elan_check.proofs.LevelRows.{units_rows, rows_count, inside_first, row_of_heading, heading_of_body}
 use Rattle.elan_levels.specs.walks.Headings.{all_headings}
 use Rattle.elan_bodies.specs.walks.Units.{all_unit_bodies, level_units}
@@ -237,16 +237,16 @@ module _ (w : Written) (us : List Action) (all : List Body) where
   level_held es c = ([], level_cells (all_held es) c ∙ sym (append-nil (held_cells es)))
 
   -- The same is told in the scope of each body.
-  held_there : (z : Scope) (n : ℕ) → around z ≡ around s → HeldThere (stand n) z.home z.level
+  held_there : (z : Scope) (n : ℕ) → surroundings z ≡ surroundings s → HeldThere (stand n) z.home z.level
   held_there z n e = subst (λ (a : List Entry × List Inserted × ℕ × HeldIn). HeldThere (stand n) a.3 a.0) (sym e) (level_held s.level (level_const w))
 
-  packets_there : (z : Scope) (n : ℕ) → around z ≡ around s → AllFit (stand n) z.packets
+  packets_there : (z : Scope) (n : ℕ) → surroundings z ≡ surroundings s → AllFit (stand n) z.packets
   packets_there z n e = subst (λ (a : List Entry × List Inserted × ℕ × HeldIn). AllFit (stand n) a.1) (sym e) tt
 
-  none_before : (z : Scope) → around z ≡ around s → z.bodies_before ≡ 0
+  none_before : (z : Scope) → surroundings z ≡ surroundings s → z.bodies_before ≡ 0
   none_before z e = ap (λ (a : List Entry × List Inserted × ℕ × HeldIn). a.2) e
 
-  behind_in : (z : Scope) → around z ≡ around s → (o : Option ℕ) → o ≡ behind z.bodies_before o
+  behind_in : (z : Scope) → surroundings z ≡ surroundings s → (o : Option ℕ) → o ≡ behind z.bodies_before o
   behind_in z e o = sym (ap (λ (b : ℕ). behind b o) (none_before z e) ∙ behind_none o)
 
   level_fits : Rows kn s all 0 hs ps all → Fits level_stand s kn
@@ -263,10 +263,10 @@ module _ (w : Written) (us : List Action) (all : List Body) where
         bodies = bodies_fit rs;
       }
 
-  sized_at : (z : Scope) → around z ≡ around s → AllSized (all_held z.level)
+  sized_at : (z : Scope) → surroundings z ≡ surroundings s → AllSized (all_held z.level)
   sized_at z e = subst (λ (a : List Entry × List Inserted × ℕ × HeldIn). AllSized (all_held a.0)) (sym e) sized_level
 
-  bodies_at : Rows kn s all 0 hs ps all → (z : Scope) → z.headings ≡ s.headings → around z ≡ around s → (n : ℕ) (h : Heading)
+  bodies_at : Rows kn s all 0 hs ps all → (z : Scope) → z.headings ≡ s.headings → surroundings z ≡ surroundings s → (n : ℕ) (h : Heading)
       → slice_get z.headings n ≡ Some h → BodyFits z.bodies_before (slice_get all (z.bodies_before + n)) h (delivery_at kn n)
   bodies_at rs z zh zl n h e =
       subst (λ (b : ℕ). BodyFits b (slice_get all (b + n)) h (delivery_at kn n)) (sym (none_before z zl))
@@ -283,7 +283,7 @@ module _ (w : Written) (us : List Action) (all : List Body) where
   frame_here n c e = ap (λ (o : Option Body). frame_at (scope_of o)) e
 
   routine_fits : Rows kn s all 0 hs ps all → (n : ℕ) (c : Body) (z : Scope) (fs : List Formal) (ks : List Kind) (names : List Entry) (types : List TypeName)
-      → slice_get all n ≡ Some c → z.headings ≡ s.headings → around z ≡ around s → c.scope ≡ owner.Own fs ks → z.routine ≡ within n names types
+      → slice_get all n ≡ Some c → z.headings ≡ s.headings → surroundings z ≡ surroundings s → c.scope ≡ owner.Own fs ks → z.routine ≡ within n names types
       → z.refinement ≡ None → frame_of c.scope ≡ held_cells names → AllSized (all_held names) → Fits (stand n) z kn
   routine_fits rs n c z fs ks names types i zh zl own rt rf fr si =
       let owned : owner_in all (Some n) ≡ Some n = owner_here n c i ∙ ap (λ (o : Owner). owner_at n (Some o)) own in
@@ -316,7 +316,7 @@ module _ (w : Written) (us : List Action) (all : List Body) where
   refined_owner n (Some q) = refl
 
   refinement_fits : Rows kn s all 0 hs ps all → (n : ℕ) (c : Body) (z : Scope) (home : Option ℕ) → slice_get all n ≡ Some c → z.headings ≡ s.headings
-      → around z ≡ around s → c.scope ≡ owner_with home → z.refinement ≡ Some n → number_of z.routine ≡ home → Frames all z.routine → Fits (stand n) z kn
+      → surroundings z ≡ surroundings s → c.scope ≡ owner_with home → z.refinement ≡ Some n → number_of z.routine ≡ home → Frames all z.routine → Fits (stand n) z kn
   refinement_fits rs n c z home i zh zl own rf rt fr =
       let owned : owner_in all (Some n) ≡ owner_at n (Some (owner_with home)) = owner_here n c i ∙ ap (λ (o : Owner). owner_at n (Some o)) own in
       record {
@@ -340,7 +340,7 @@ module _ (w : Written) (us : List Action) (all : List Body) where
       same r e = cc
 
   row_fits : Rows kn s all 0 hs ps all → (n : ℕ) (what : What) (m : Meant) (c : Body) (z : Scope) → slice_get all n ≡ Some c → z.headings ≡ s.headings
-      → around z ≡ around s → Made what m c → Stands all n what z c → Fits (stand n) z kn
+      → surroundings z ≡ surroundings s → Made what m c → Stands all n what z c → Fits (stand n) z kn
   row_fits rs n (Routine sort params r) m c z i zh zl made st = routine_fits rs n c z (map formal_of params) made.0 st.0 st.1 i zh zl made.1 st.2 st.3 st.4 st.5
   row_fits rs n (Refinement home) m c z i zh zl made st = refinement_fits rs n c z home i zh zl made.0 st.0 st.1 st.2
 

@@ -1,6 +1,6 @@
 -- Rules break at the place of their phrase or of a part, and what phrases mean keeps such a place.
 use Rattle.eu_base.specs.declared.operation.Way.{Way}
-use Rattle.std.proofs.Common.{ℕ, ℤ, Bool, true, false, ◌&&◌, if◌then◌else◌, nat_le, List, [], ◌∷◌, length, drop, Option, Some, None, nat_eq, zero, suc}
+use Rattle.std.proofs.Common.{ℕ, ◌+◌, ℤ, Bool, true, false, ◌&&◌, if◌then◌else◌, nat_le, List, [], ◌∷◌, length, drop, Option, Some, None, nat_eq, zero, suc}
 use Rattle.elan_types.specs.declared.elan_type.ElanType.{ElanType}
 use Rattle.elan_types.specs.declared.elan_type.ElanType.TheVariants as type
 use Rattle.elan_types.specs.Types.{concrete, is_own_from, shape_in, has_own, items, field}
@@ -230,7 +230,7 @@ module _ (ns : List ℕ) where
 
     refined_placed : (k : Known) (s : Scope) (q : Option ℕ) → MayTell Placed (r.refined k at s q)
     refined_placed k s None = here
-    refined_placed k s (Some n) = on_either Placed (leads_back k n s.refinement) _ _ here (referred_placed n (delivery_at k n))
+    refined_placed k s (Some n) = on_either Placed (leads_back k n s.refinement) _ _ here (referred_placed (s.bodies_before + n) (delivery_at k n))
 
     refined_as_placed : (k : Known) (w : Usage) (s : Scope) (q : Option ℕ) → MayTell Placed (r.refined_as k w at s q)
     refined_as_placed k Expression s q = refined_placed k s q
