@@ -55,8 +55,9 @@ fn has<M: Memory>(alloc: Global, memory: &mut M, at: Addr, told: &[u8]) -> bool
     }
 }
 
-/// Does a step, and tells whether it went as it says. In cell 7 of the command `r7=5` puts 5, and `r7?5` finds it there; `r7<a3` puts
-/// the text that begins with `a` and has 3 bytes, `r7>a3` finds it there, and `r7/a3` finds no room for it; and `r7#5` finds 5 blocks free.
+/// Does a step, and tells whether it went as it says. It begins with `r` for the cells of the command or `p` for those of the packets, and the
+/// cell. Behind that `=5` puts 5, and `?5` finds it there; `<a3` puts the text that begins with `a` and has 3 bytes, `>a3` finds it
+/// there, and `/a3` finds no room for it; and `#5` finds 5 blocks free.
 pub fn go<M: Memory>(alloc: Global, out: &mut Bytes, memory: &mut M, step: &[u8])
     ensures { M.follows memory.old memory.new }
 {

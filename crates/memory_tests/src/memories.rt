@@ -8,9 +8,10 @@ use task_numbers::SpaceNo;
 
 /// Steps, and what they tell: the answers of the steps; the directory; the live spaces, with `k` where they have a type and with the
 /// kinds of their cells; how many live, and the last number; `r` and `p` where the command and the packets have pages; and how many
-/// pages are left at the end. `m` makes a space. Of number 1 `y1` makes a copy, `k1` sets the type, `b1` fills it, `f1` forgets it, `na1`
-/// names it `a`, and `t1` takes it and gives it a new number. `ua` takes the name out, `c` clears the command's cells, `i` lets a son
-/// inherit, and `x` goes over to the other of the two. What begins with `r` or `p` is a step over cells.
+/// pages are left at the end. `m` makes a space. The steps on one space end with its number: `y` makes a copy, `k` sets the type, `b` fills
+/// it, `f` forgets it, `t` takes it and gives it a new number, and `n` with a letter behind it names it so. `ua` takes the name `a` out, `c`
+/// clears the command's cells, `i` lets a son inherit, and `x` goes over to the other of the two. What begins with `r` or `p` is a step
+/// over cells.
 pub const STEPS: &str = "\
 m m na1 nb2 nc1 f1 => 12 b2 : 2 1 of 2 left 0
 m na1 ua => 1 : 1 1 of 1 left 0
