@@ -6,17 +6,18 @@ ghost use Rattle.code_gen.specs.Program.{body_lines, entries, entry_of};
 
 use code_form::{Entry, Layout, OperandKind};
 use elan_types::{Access, Body, Content, Formal, Scope};
-use eu_base::{List, NoMemory, Shape};
+use eu_base::{List, NoMemory, Shape, Shared};
 use place_gen::{Draft, emit_content};
 use std::alloc::Global;
 
 /// Adds the code of bodies, one behind another, and gives their entries.
-pub fn emit_bodies(out: &mut Draft, bodies: &[Body]) -> Result<List<Entry>, NoMemory>
+pub fn emit_bodies(out: &mut Draft, bodies: &[Shared<Body>]) -> Result<List<Entry>, NoMemory>
     ensures entries { IfOk result (λ made. made ≡ entries bodies.now (length out.old.lines)) }
     ensures lines { IfOk result (λ _. out.new.lines ≡ out.old.lines ++ body_lines bodies.now 0 (length out.old.lines)) }
 {
     let mut entries = List::new(out.alloc);
     for (index, body) in bodies.iter().enumerate() {
+        let body = body.get();
         entries.push(entry_of(out.alloc, body, out.lines.len())?)?;
         out.begin_body(index);
         emit_content(out, &body.content)?;

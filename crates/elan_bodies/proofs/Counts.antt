@@ -47,9 +47,8 @@ all_headings_count ts k (v ∷ vs) =
     ∙ ap (λ (n : ℕ). b.bodies_in v + n) (all_headings_count ts (k + b.bodies_in v) vs)
 
 -- Each body has a heading.
-pub level_count : (w : Level) → length (b.headings w) ≡ length (l.level_bodies w)
-level_count w =
-    let s = l.level_scope w in
+pub level_count : (s : Scope) (w : Level) → length (b.headings_in s.types w) ≡ length (l.level_bodies s w)
+level_count s w =
     let m = b.bodies_of_units w.units in
     length-append (all_headings s.types 0 w.units) (b.refinement_headings None w.refinements)
     ∙ ap (λ (n : ℕ). n + length (b.refinement_headings None w.refinements)) (all_headings_count s.types 0 w.units)

@@ -5,7 +5,6 @@ use Rattle.std.proofs.Common.{if◌then◌else◌, refl, sym, ap, subst, ◌∙�
 use Rattle.std.specs.Prelude.{slice_get, slice_index_or, slice_set}
 use Rattle.elan_types.specs.declared.core_phrase.Exit.{Exit}
 use Rattle.elan_types.specs.declared.core_phrase.Exit.TheVariants as exits
-use Rattle.elan_tree.specs.declared.tree.Level.{Level}
 use Rattle.elan_scope.specs.declared.delivery.Delivery.{Delivery}
 use Rattle.elan_scope.specs.declared.delivery.Delivery.TheVariants.{Open, Nothing, Of}
 use Rattle.elan_names.specs.declared.heading.Heading.{Heading}
@@ -15,19 +14,17 @@ use Rattle.elan_scope.specs.Known.{delivery_at}
 use Rattle.std.specs.Option.{option_or}
 use Rattle.elan_scope.specs.Scope.{number_of, left, left_by, exit_from, body_named, is_named}
 use Rattle.elan_scope.specs.Phrase.{Phrase, phrase, Parts, none, part}
-use Rattle.elan_levels.specs.Bodies.{headings}
 use Rattle.elan_judge.proofs.InScope.{InScope, AllIn, MayIn}
-use Rattle.elan_bodies.specs.Level.{level_bodies}
 use Rattle.elan_bodies.specs.Refinements.{stated, last_part, last_unit, outcome, unit_delivery, next_all, known_after}
 use Rattle.elan_bodies.specs.walks.Rounds.{called_if, is_open, any_open}
-use Rattle.elan_bodies.specs.walks.OnTheWay.{AtMost, IsOnTheWay}
+use Rattle.elan_bodies.specs.walks.OnTheWay.{AtMost, LevelAt, bodies_at, IsOnTheWay}
 use Rattle.call_graph.proofs.Walks.{In}
 use Rattle.elan_bodies.proofs.Inferred.{Below}
 use Rattle.elan_bodies.proofs.Settled.{next_below, next_at, told_at, told_length, at_index, below_trans, step_below, from, From, open_last, calls_are}
 use Rattle.elan_bodies.proofs.Opened.{waiting}
 use Rattle.elan_bodies.proofs.Counts.{level_count}
 use Rattle.elan_bodies.proofs.Steps.{known_with}
-use Rattle.elan_bodies.proofs.Places.{same_length, IsStated, place_at, level_places}
+use Rattle.elan_bodies.proofs.Places.{same_length, IsStated, Places, place_at, level_places}
 use Rattle.elan_bodies.proofs.Alike.{AllSame, LeftSame, phrase_alike}
 
 -- ---- what a LEAVE leaves
@@ -146,12 +143,18 @@ stated_cases (h ∷ hs) (suc i) = stated_cases hs i
 
 -- ---- a level
 
-module _ (w : Level) where
+module _ (w : LevelAt) where
   abbrev hs : List Heading
-  hs = headings w
+  hs = w.scope.headings
 
   abbrev us : List Phrase
-  us = level_bodies w
+  us = bodies_at w
+
+  count_is : length hs ≡ length us
+  count_is = ap length w.has ∙ level_count w.scope w.level
+
+  places_are : Places hs 0 hs us
+  places_are = subst (λ (gs : List Heading). Places gs 0 gs us) (sym w.has) (level_places w.scope w.level w.outside)
 
   abbrev N : ℕ
   N = length hs
@@ -164,7 +167,7 @@ module _ (w : Level) where
   Tells k = (i : ℕ) (h : Heading) → slice_get hs i ≡ Some h → (stated h.what ≡ Open → ⊥) → delivery_at k i ≡ stated h.what
 
   heading_of : (i : ℕ) (u : Phrase) → slice_get us i ≡ Some u → (h : Heading) × (slice_get hs i ≡ Some h)
-  heading_of i u e = same_length us hs i u e (level_count w)
+  heading_of i u e = same_length us hs i u e count_is
 
   stated_open : (k : Known) → Tells k → (i : ℕ) (h : Heading) → slice_get hs i ≡ Some h → delivery_at k i ≡ Open → stated h.what ≡ Open
   stated_open k t i h e o =
@@ -180,7 +183,7 @@ module _ (w : Level) where
   alike j k calls tj tk i u e oj ok same =
       let h = heading_of i u e in
       let z : i ≡ 0 + i = omega arith in
-      let p = place_at hs 0 hs us i i h.0 u z (level_places w) h.1 e in
+      let p = place_at hs 0 hs us i i h.0 u z places_are h.1 e in
       last_alike j k p.scope calls
       (λ x q l. leaves p.scope (p.stands (stated_open j tj i h.0 h.1 oj)) p.around x q (left_is p.scope x q l))
       (last_unit u) (last_in p.scope u p.in_scope) same
@@ -345,7 +348,7 @@ module _ (w : Level) where
   pub start : IsOnTheWay w (K 0)
   start = record {
     calls = refl;
-    count = told_length hs ∙ level_count w;
+    count = told_length hs ∙ count_is;
     tells = steps_tell 0;
     most = λ i. (subst (λ (n : ℕ). Below (K 0) (K n)) (let z : N + 0 ≡ N = omega arith in z) (below_end 0 N)).1 i;
   }

@@ -159,13 +159,12 @@ module _ (all : List Heading) where
       (units_places s m vs (holds_rest all k m (b.unit_headings s.types k v) (all_headings s.types m vs) e h))
 
 -- All bodies of a level stand so.
-pub level_places : (w : Level) → Places (b.headings w) 0 (b.headings w) (l.level_bodies w)
-level_places w =
-    let s = l.level_scope w in
-    let all = b.headings w in
+pub level_places : (s : Scope) (w : Level) → s.routine ≡ None → Places (b.headings_in s.types w) 0 (b.headings_in s.types w) (l.level_bodies s w)
+level_places s w e =
+    let all = b.headings_in s.types w in
     let m = b.bodies_of_units w.units in
     let z : 0 + length (all_headings s.types 0 w.units) ≡ length (all_headings s.types 0 w.units) = omega arith in
     places_append all 0 m (all_headings s.types 0 w.units) (b.refinement_headings None w.refinements) (all_unit_bodies s 0 w.units)
     (l.all_refined_units s m w.refinements) (sym (all_headings_count s.types 0 w.units) ∙ sym z)
     (units_places all s 0 w.units (holds_first all 0 (all_headings s.types 0 w.units) (b.refinement_headings None w.refinements) (holds_all all)))
-    (refinement_places all s m None w.refinements (λ r e. absurd (let f : None ≡ Some r = e in cc)))
+    (refinement_places all s m None w.refinements (λ r f. absurd (let g : None ≡ Some r = sym (ap number_of e) ∙ f in cc)))

@@ -3,13 +3,12 @@ use Rattle.std.proofs.Common.{◌≡◌, ℕ, zero, suc, ◌+◌, ◌-◌, ◌�
 use Rattle.std.proofs.Common.{refl, sym, ap, subst, ◌∙◌, arith}
 use Rattle.std.specs.Prelude.{slice_get}
 use Rattle.elan_tree.specs.declared.tree.Refinement.{Refinement}
-use Rattle.elan_tree.specs.declared.tree.Level.{Level}
 use Rattle.elan_tree.specs.declared.tree.LevelUnit.{LevelUnit}
 use Rattle.elan_scope.specs.declared.scope.Scope.{Scope}
 use Rattle.elan_scope.specs.Phrase.{Phrase}
 use Rattle.elan_levels.specs.Bodies.{bodies_in, bodies_of_units}
-use Rattle.elan_bodies.specs.Level.{level_scope, refined_units, all_refined_units, unit_bodies, level_bodies}
-use Rattle.elan_bodies.specs.walks.OnTheWay.{Holds}
+use Rattle.elan_bodies.specs.Level.{refined_units, all_refined_units, unit_bodies}
+use Rattle.elan_bodies.specs.walks.OnTheWay.{Holds, LevelAt, bodies_at}
 use Rattle.elan_bodies.proofs.Counts.{unit_count, units_count}
 use Rattle.elan_bodies.proofs.Places.{holds_first, holds_rest, holds_tail, holds_all}
 use Rattle.elan_bodies.specs.walks.Units.{all_unit_bodies}
@@ -59,27 +58,28 @@ module _ (all : List Phrase) (s z : Scope) (n m : ℕ) (vs : List LevelUnit) (i 
       (holds_rest all n m (unit_bodies s n v) (all_unit_bodies s (n + bodies_in v) (drop (suc i) vs))
       (em ∙ ap (λ (x : ℕ). n + x) (sym (unit_count s n v))) open_units))
 
-module _ (w : Level) where
+module _ (w : LevelAt) where
   abbrev bodies : List Phrase
-  bodies = level_bodies w
+  bodies = bodies_at w
 
   abbrev unit_part : List Phrase
-  unit_part = all_unit_bodies (level_scope w) 0 w.units
+  unit_part = all_unit_bodies w.scope 0 w.level.units
 
   abbrev refined_part : List Phrase
-  refined_part = all_refined_units (level_scope w) (bodies_of_units w.units) w.refinements
+  refined_part = all_refined_units w.scope (bodies_of_units w.level.units) w.level.refinements
 
-  pub all_units_here : (s : Scope) → s ≡ level_scope w → Holds bodies 0 (all_unit_bodies s 0 w.units)
+  pub all_units_here : (s : Scope) → s ≡ w.scope → Holds bodies 0 (all_unit_bodies s 0 w.level.units)
   all_units_here s e =
-      subst (λ (y : Scope). Holds bodies 0 (all_unit_bodies y 0 w.units)) (sym e) (holds_first bodies 0 unit_part refined_part (holds_all bodies))
+      subst (λ (y : Scope). Holds bodies 0 (all_unit_bodies y 0 w.level.units)) (sym e) (holds_first bodies 0 unit_part refined_part (holds_all bodies))
 
-  pub refinements_here : (s : Scope) (m : ℕ) → s ≡ level_scope w → m ≡ bodies_of_units w.units → Holds bodies m (all_refined_units s m w.refinements)
+  pub refinements_here : (s : Scope) (m : ℕ) → s ≡ w.scope → m ≡ bodies_of_units w.level.units
+      → Holds bodies m (all_refined_units s m w.level.refinements)
   refinements_here s m e em =
-      let behind : bodies_of_units w.units ≡ 0 + length unit_part =
-      (let c = units_count (level_scope w) 0 w.units in omega (arith, c)) in
-      subst (λ (x : ℕ). Holds bodies x (all_refined_units s x w.refinements)) (sym em)
-      (subst (λ (y : Scope). Holds bodies (bodies_of_units w.units) (all_refined_units y (bodies_of_units w.units) w.refinements)) (sym e)
-      (holds_rest bodies 0 (bodies_of_units w.units) unit_part refined_part behind (holds_all bodies)))
+      let count = bodies_of_units w.level.units in
+      let behind : count ≡ 0 + length unit_part = (let c = units_count w.scope 0 w.level.units in omega (arith, c)) in
+      subst (λ (x : ℕ). Holds bodies x (all_refined_units s x w.level.refinements)) (sym em)
+      (subst (λ (y : Scope). Holds bodies count (all_refined_units y count w.level.refinements)) (sym e)
+      (holds_rest bodies 0 count unit_part refined_part behind (holds_all bodies)))
 
 -- ---- in the scope of a PROC or OP
 

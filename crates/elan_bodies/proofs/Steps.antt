@@ -194,17 +194,15 @@ module _ {S : Type 0} (after : S → ℕ → Phrase → S) where
       ∙ ap (λ (y : Scope). all (after out n (units (delivered (b.result s.types r)) (map (unit y) w.units))) (suc n)
       (l.all_refined_units y (suc n) w.refinements)) ez
 
-  pub level_found : (w : Level) (s z : Scope) (m : ℕ) (start first new : S) → s ≡ l.level_scope w → z ≡ s → m ≡ b.bodies_of_units w.units →
+  pub level_found : (w : Level) (s z : Scope) (m : ℕ) (start first new : S) → z ≡ s → m ≡ b.bodies_of_units w.units →
       first ≡ all start 0 (all_unit_bodies s 0 w.units) → new ≡ all first m (l.all_refined_units z m w.refinements)
-      → new ≡ all start 0 (l.level_bodies w)
-  level_found w s z m start first new es ez em ef en =
-      let here = l.level_scope w in
-      let before = all_unit_bodies here 0 w.units in
+      → new ≡ all start 0 (l.level_bodies s w)
+  level_found w s z m start first new ez em ef en =
+      let before = all_unit_bodies s 0 w.units in
       let count = b.bodies_of_units w.units in
-      let length_is : 0 + length before ≡ count = (let c = units_count here 0 w.units in omega (arith, c)) in
+      let length_is : 0 + length before ≡ count = (let c = units_count s 0 w.units in omega (arith, c)) in
       en ∙ ap (λ (j : ℕ). all first j (l.all_refined_units z j w.refinements)) em
-      ∙ ap (λ (y : Scope). all first count (l.all_refined_units y count w.refinements)) (ez ∙ es)
-      ∙ ap (λ (o : S). all o count (l.all_refined_units here count w.refinements))
-      (ef ∙ ap (λ (y : Scope). all start 0 (all_unit_bodies y 0 w.units)) es)
-      ∙ ap (λ (j : ℕ). all (all start 0 before) j (l.all_refined_units here count w.refinements)) (sym length_is)
-      ∙ sym (all_append after start 0 before (l.all_refined_units here count w.refinements))
+      ∙ ap (λ (y : Scope). all first count (l.all_refined_units y count w.refinements)) ez
+      ∙ ap (λ (o : S). all o count (l.all_refined_units s count w.refinements)) ef
+      ∙ ap (λ (j : ℕ). all (all start 0 before) j (l.all_refined_units s count w.refinements)) (sym length_is)
+      ∙ sym (all_append after start 0 before (l.all_refined_units s count w.refinements))

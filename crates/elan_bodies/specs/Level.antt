@@ -1,6 +1,11 @@
 -- The phrases of a text: of its units, PROCs, OPs and refinements.
-use Rattle.std.specs.Prelude.{ℕ, suc, Bool, false, ◌&&◌, not, List, [], ◌∷◌, ◌++◌, map, flat_map, Option, Some, None}
-use Rattle.std.specs.Option.{option_map_or}
+use Rattle.std.specs.Prelude.{ℕ, suc, ◌+◌, Bool, true, false, ◌&&◌, not, List, [], ◌∷◌, ◌++◌, length, map, flat_map, Option, Some, None}
+use Rattle.std.specs.Prelude.{option_and_then, if◌then◌else◌}
+use Rattle.std.specs.List.{list_any}
+use Rattle.std.specs.Option.{option_or, option_map_or}
+use Rattle.std.specs.Str.{bytes_eq}
+use Rattle.eu_base.specs.declared.value.Kind.{Kind}
+use Rattle.cell_kinds.specs.Kinds.{packet_kinds}
 use Rattle.elan_types.specs.Types.{is_open}
 use Rattle.elan_types.specs.declared.elan_type.ElanType.{ElanType}
 use Rattle.elan_types.specs.declared.core_phrase.Scope.{Scope as Owner}
@@ -9,21 +14,32 @@ use Rattle.elan_tree.specs.declared.written_type.Name.{Name}
 use Rattle.elan_tree.specs.declared.written_type.TypePhrase.{TypePhrase}
 use Rattle.elan_tree.specs.declared.written_type.Formal.{Formal}
 use Rattle.elan_tree.specs.declared.tree.Body.{Body}
+use Rattle.elan_tree.specs.declared.tree.Export.{Export}
+use Rattle.elan_tree.specs.declared.tree.Export.TheVariants as export
 use Rattle.elan_tree.specs.declared.tree.Refinement.{Refinement}
 use Rattle.elan_tree.specs.declared.tree.Level.{Level}
 use Rattle.elan_tree.specs.declared.tree.LevelUnit.{LevelUnit}
 use Rattle.elan_tree.specs.declared.tree.LevelUnit.TheVariants as level
 use Rattle.elan_tree.specs.declared.tree.Tree.{Tree}
 use Rattle.elan_tree.specs.declared.tree.Tree.TheVariants as tree
+use Rattle.elan_names.specs.declared.entry.Denotes.{Denotes}
+use Rattle.elan_names.specs.declared.entry.Denotes.TheVariants as denotes
 use Rattle.elan_names.specs.declared.heading.Sort.{Sort}
 use Rattle.elan_names.specs.declared.heading.Sort.TheVariants.{Procedure, Operator}
+use Rattle.elan_names.specs.declared.heading.Heading.{Heading}
+use Rattle.elan_names.specs.declared.heading.What.{What}
+use Rattle.elan_names.specs.declared.heading.What.TheVariants as what
+use Rattle.elan_scope.specs.declared.env.Env.{Env}
 use Rattle.elan_scope.specs.declared.scope.Scope.{Scope}
-use Rattle.elan_scope.specs.declared.scope.Within.{Within}
+use Rattle.elan_scope.specs.declared.scope.Home.{Home}
+use Rattle.elan_scope.specs.declared.scope.Home.TheVariants.{Level as of_level, Packet as of_packet}
+use Rattle.elan_scope.specs.Scope.{placed, first_named}
+use Rattle.type_definitions.specs.declared.definition.Defined.{Defined}
+use Rattle.type_definitions.specs.declared.definition.Defined.TheVariants as defined
+use Rattle.type_definitions.specs.Definitions.{level_definitions, first_from}
 use Rattle.elan_levels.specs.Bodies as bodies
-use Rattle.elan_levels.specs.Bodies.{parameters, result, frame, body_within, routine_scope, level_names, headings, numbered, bodies_of_units}
-use Rattle.type_names.specs.Types.{level_types}
-use Rattle.elan_unbuilt.specs.Operators.{operator_text}
-use Rattle.elan_scope.specs.declared.scope.Home.TheVariants.{Level as of_level}
+use Rattle.elan_levels.specs.Bodies.{parameters, result, frame, body_within, routine_scope, seen_types, level_names, headings, numbered, bodies_of_units}
+use Rattle.elan_unbuilt.specs.Operators.{operator_text, sign_text}
 use Rattle.elan_scope.specs.Phrase as form
 use Rattle.elan_scope.specs.Known.{delivered}
 use Rattle.elan_scope.specs.declared.delivery.Delivery.TheVariants.{Open, Nothing}
@@ -32,36 +48,36 @@ use Rattle.elan_judge.specs.Shape.{written, role, unit, units, all_empty}
 
 -- ---- scopes
 
--- in the units of a level of a program, which has no packets
-abbrev pub level_scope : Level → Scope
-level_scope l = record {
-  packets = [];
-  bodies_before = 0;
-  types_before = 0;
-  home = of_level;
-  headings = headings l;
-  level = level_names l;
-  types = level_types l;
+-- the cells of the variables and constants of all packets
+abbrev pub packet_cells : Env → List Kind
+packet_cells env = packet_kinds env.packets
+
+-- Where a level holds its variables and constants: a program its own, a packet behind those of the packets before it.
+abbrev pub home_of : Env → Tree → Home
+home_of env (tree.Program l) = of_level
+home_of env (tree.Packet at n exports l) = of_packet (length (packet_cells env))
+
+-- in the units of a level after these packets
+abbrev pub level_scope : Env → Home → Level → Scope
+level_scope env home l = record {
+  packets = env.inserted;
+  bodies_before = length env.bodies;
+  types_before = env.types;
+  home = home;
+  headings = headings env l;
+  level = level_names env l;
+  types = seen_types env l;
   routine = None;
   refinement = None;
 }
 
 -- in the refinement with this number
 abbrev pub refinement_scope : Scope → ℕ → Scope
-refinement_scope s k = record {
-  packets = s.packets;
-  bodies_before = s.bodies_before;
-  types_before = s.types_before;
-  home = s.home;
-  headings = s.headings;
-  level = s.level;
-  types = s.types;
-  routine = s.routine;
-  refinement = Some k;
-}
+refinement_scope s k = placed s s.routine (Some k)
 
-abbrev pub owner_of : Option Within → Owner
-owner_of routine = option_map_or (λ w. owner.Of w.number) routine owner.Level
+-- a PROC or OP by its number among the bodies of all packets and the level
+abbrev pub owner_of : Scope → Owner
+owner_of s = option_map_or (λ w. owner.Of (s.bodies_before + w.number)) s.routine owner.Level
 
 -- ---- refinements
 
@@ -78,7 +94,7 @@ module _ (s : Scope) where
   refined_units k r = units Open (map (unit (refinement_scope s k)) r.units)
 
   abbrev pub refinement : ℕ → Refinement → Phrase
-  refinement k r = pair 0 (form.refinement (owner_of s.routine)) (declares r.name) (refined_units k r)
+  refinement k r = pair 0 (form.refinement (owner_of s)) (declares r.name) (refined_units k r)
 
   abbrev pub refinements : ℕ → List Refinement → List Phrase
   refinements k [] = []
@@ -164,25 +180,81 @@ module _ (s : Scope) where
   unit_bodies k (level.Op at r n fs b) = routine_units s k n.at (operator_text n.operator) r fs b
   unit_bodies k _ = []
 
--- The units of a text deliver nothing. Its refinements are numbered behind its PROCs and OPs.
-abbrev pub level_phrase : Level → Phrase
-level_phrase l =
-    row 0 form.level
-    (map (λ u. level_unit (level_scope l) u.0 u.1) (numbered 0 l.units) ++ refinements (level_scope l) (bodies_of_units l.units) l.refinements)
+  -- The units of a level, and its refinements, which are numbered behind its PROCs and OPs.
+  abbrev pub level_parts : Level → List Phrase
+  level_parts l = map (λ u. level_unit u.0 u.1) (numbered 0 l.units) ++ refinements s (bodies_of_units l.units) l.refinements
 
--- the same as they are gone over, and the bodies; no definition of meaning needs these
-abbrev pub level_parts : Level → List Phrase
-level_parts l =
-    map (λ u. level_unit (level_scope l) u.0 u.1) (numbered 0 l.units) ++ refinements (level_scope l) (bodies_of_units l.units) l.refinements
+  -- the units of its bodies as they are gone over; no definition of meaning needs this
+  abbrev pub level_bodies : Level → List Phrase
+  level_bodies l = flat_map (λ u. unit_bodies u.0 u.1) (numbered 0 l.units) ++ all_refined_units s (bodies_of_units l.units) l.refinements
 
-abbrev pub level_bodies : Level → List Phrase
-level_bodies l =
-    flat_map (λ u. unit_bodies (level_scope l) u.0 u.1) (numbered 0 l.units) ++ all_refined_units (level_scope l) (bodies_of_units l.units) l.refinements
+-- ---- what a packet shows
 
--- the level of a program; packets are not built
+abbrev pub export_name : Export → List ℕ
+export_name (export.Ident n) = n.text
+export_name (export.Bold n) = n.text
+export_name (export.Sign at s) = sign_text s
+
+abbrev pub export_place : Export → ℕ
+export_place (export.Ident n) = n.at
+export_place (export.Bold n) = n.at
+export_place (export.Sign at s) = at
+
+-- Constants, PROCs and OPs may be shown, and what TYPE makes. Variables and what LET declares may not. Refinements are no such things.
+abbrev pub may_show_name : Denotes → Option Bool
+may_show_name (denotes.Variable t) = Some false
+may_show_name (denotes.Constant t) = Some true
+may_show_name (denotes.Parameter p) = Some false
+may_show_name denotes.Procedure = Some true
+may_show_name denotes.Refinement = None
+may_show_name (denotes.Denoter d) = Some false
+
+abbrev pub may_show_type : Defined → Option Bool
+may_show_type (defined.New of) = Some true
+may_show_type (defined.Abbreviation of) = Some false
+may_show_type _ = None
+
+abbrev pub is_routine : What → Bool
+is_routine (what.Routine sort ps r) = true
+is_routine (what.Refinement home) = false
+
+abbrev pub is_routine_named : List ℕ → Heading → Bool
+is_routine_named x h = bytes_eq h.name x && is_routine h.what
+
+module _ (s : Scope) (l : Level) where
+  -- whether what the level declares under a name may be shown, where it declares that: a name, a type, or PROCs and OPs
+  abbrev pub may_show : List ℕ → Option Bool
+  may_show x =
+      option_or (option_and_then (λ f. may_show_name f.1.denotes) (first_named s.level x))
+      (option_or (option_and_then (λ f. may_show_type f.1.what) (first_from 0 (level_definitions l) x))
+      (if list_any (is_routine_named x) s.headings then Some true else None))
+
+  abbrev pub exports : List (List ℕ) → List Export → List Phrase
+  exports earlier [] = []
+  exports earlier (e ∷ es) =
+      leaf (export_place e) (form.exported (list_any (λ y. bytes_eq y (export_name e)) earlier) (may_show (export_name e)))
+      ∷ exports (earlier ++ export_name e ∷ []) es
+
+-- ---- texts
+
 abbrev pub level_in : Tree → Level
 level_in (tree.Program l) = l
-level_in (tree.Packet at n exports l) = record { units = []; refinements = [] }
+level_in (tree.Packet at n exports l) = l
 
-abbrev pub text : Tree → Phrase
-text t = level_phrase (level_in t)
+-- the names that a text shows
+abbrev pub exports_in : Tree → List Export
+exports_in (tree.Program l) = []
+exports_in (tree.Packet at n exports l) = exports
+
+-- after these packets
+module _ (env : Env) (t : Tree) where
+  -- in the units of its level
+  abbrev pub text_scope : Scope
+  text_scope = level_scope env (home_of env t) (level_in t)
+
+  -- The units of a text deliver nothing.
+  abbrev pub text_parts : List Phrase
+  text_parts = exports text_scope (level_in t) [] (exports_in t) ++ level_parts text_scope (level_in t)
+
+  abbrev pub text : Phrase
+  text = row 0 form.level text_parts

@@ -146,9 +146,10 @@ impl EachBody for Calls {
 }
 
 fn calls_of(alloc: Global, scope: &mut Scope, level: &Level) -> Result<Calls, NoMemory>
-    requires { scope.old ≡ level_spec.level_scope level.now }
-    ensures all { IfOk result (λ calls. calls.all ≡ map spec.called_in (level_spec.level_bodies level.now)) }
-    ensures last { IfOk result (λ calls. calls.last ≡ map walks.called_last (level_spec.level_bodies level.now)) }
+    requires level { scope.old.routine ≡ None }
+    requires unit { scope.old.refinement ≡ None }
+    ensures all { IfOk result (λ calls. calls.all ≡ map spec.called_in (level_spec.level_bodies scope.old level.now)) }
+    ensures last { IfOk result (λ calls. calls.last ≡ map walks.called_last (level_spec.level_bodies scope.old level.now)) }
     ensures kept { IfOk result (λ calls. scope.new ≡ scope.old) }
 {
     let mut calls = Calls {
@@ -260,9 +261,10 @@ fn next_deliveries(
     scope: &mut Scope,
     level: &Level,
 ) -> Result<List<Delivery>, NoMemory>
-    requires scope { scope.old ≡ level_spec.level_scope level.now }
-    requires count { length known.now.deliveries ≡ length (level_spec.level_bodies level.now) }
-    ensures found { IfOk result (λ next. next ≡ walks.found_from known.now last.now 0 (level_spec.level_bodies level.now)) }
+    requires level { scope.old.routine ≡ None }
+    requires unit { scope.old.refinement ≡ None }
+    requires count { length known.now.deliveries ≡ length (level_spec.level_bodies scope.old level.now) }
+    ensures found { IfOk result (λ next. next ≡ walks.found_from known.now last.now 0 (level_spec.level_bodies scope.old level.now)) }
     ensures kept { IfOk result (λ next. scope.new ≡ scope.old) }
 {
     let deliveries = clone_all(alloc, known.deliveries.as_slice())?;
@@ -305,8 +307,10 @@ fn are_same(deliveries: &[Delivery], others: &[Delivery]) -> bool
 
 /// What is known of the bodies of a level: what is found in the order of calls, and what rounds find until one finds no more.
 pub fn known_of(alloc: Global, scope: &mut Scope, level: &Level) -> Result<Known, NoMemory>
-    requires { scope.old ≡ level_spec.level_scope level.now }
-    ensures found { IfOk result (λ known. known ≡ spec.known_of (bodies.headings level.now) (level_spec.level_bodies level.now)) }
+    requires headings { scope.old.headings ≡ bodies.headings_in scope.old.types level.now }
+    requires level { scope.old.routine ≡ None }
+    requires unit { scope.old.refinement ≡ None }
+    ensures found { IfOk result (λ known. known ≡ spec.known_of scope.old.headings (level_spec.level_bodies scope.old level.now)) }
     ensures kept { IfOk result (λ known. scope.new ≡ scope.old) }
 {
     let Calls { all, last } = calls_of(alloc, scope, level)?;

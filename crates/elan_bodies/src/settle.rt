@@ -1,7 +1,6 @@
 //! What refinements deliver, found out in the order of their calls, so that each is looked at when all that it calls is known.
 
 ghost use Rattle.std.specs.Prelude.{◌≡◌, ◌≤◌, ◌+◌, ◌-◌, None, Some, IfOk, IfSome, OnOk, map, slice_get};
-ghost use Rattle.elan_tree.specs.declared.tree.Level.{Level as Written};
 ghost use Rattle.elan_levels.specs.Bodies as bodies;
 ghost use Rattle.elan_bodies.specs.Level as spec;
 ghost use Rattle.elan_bodies.specs.walks.Units as of_units;
@@ -51,8 +50,8 @@ impl Settling<'_> {
         refinement: &Refinement,
     ) -> Result<(), NoMemory>
         requires { scope.old.refinement ≡ None }
-        ensures found { (w : Written) → walks.IsOnTheWay w self.old.known
-            → slice_get (spec.level_bodies w) number ≡ Some (spec.refined_units scope.old number refinement.now)
+        ensures found { (w : walks.LevelAt) → walks.IsOnTheWay w self.old.known
+            → slice_get (walks.bodies_at w) number ≡ Some (spec.refined_units scope.old number refinement.now)
             → OnOk result (walks.IsOnTheWay w self.new.known) }
         ensures kept { OnOk result (scope.new ≡ scope.old) }
     {
@@ -77,8 +76,8 @@ impl Settling<'_> {
         refinements: &[Refinement],
     ) -> Result<(), NoMemory>
         requires { scope.old.refinement ≡ None }
-        ensures found { (w : Written) → walks.IsOnTheWay w self.old.known
-            → walks.Holds (spec.level_bodies w) first (spec.all_refined_units scope.old first refinements.now)
+        ensures found { (w : walks.LevelAt) → walks.IsOnTheWay w self.old.known
+            → walks.Holds (walks.bodies_at w) first (spec.all_refined_units scope.old first refinements.now)
             → OnOk result (walks.IsOnTheWay w self.new.known) }
         ensures kept { OnOk result (scope.new ≡ scope.old) }
     {
@@ -102,8 +101,8 @@ impl Settling<'_> {
     ) -> Result<(), NoMemory>
         requires level { scope.old.routine ≡ None }
         requires unit { scope.old.refinement ≡ None }
-        ensures found { (w : Written) → walks.IsOnTheWay w self.old.known
-            → walks.Holds (spec.level_bodies w) (number + 1) (spec.all_refined_units
+        ensures found { (w : walks.LevelAt) → walks.IsOnTheWay w self.old.known
+            → walks.Holds (walks.bodies_at w) (number + 1) (spec.all_refined_units
             (bodies.routine_scope scope.old (bodies.body_within scope.old.types number formals.now body.now)) (number + 1) body.now.refinements)
             → OnOk result (walks.IsOnTheWay w self.new.known) }
         ensures kept { OnOk result (scope.new ≡ scope.old) }
@@ -124,8 +123,8 @@ impl Settling<'_> {
     ) -> Result<(), NoMemory>
         requires level { scope.old.routine ≡ None }
         requires unit { scope.old.refinement ≡ None }
-        ensures found { (w : Written) → walks.IsOnTheWay w self.old.known
-            → walks.Holds (spec.level_bodies w) number (spec.unit_bodies scope.old number unit.now)
+        ensures found { (w : walks.LevelAt) → walks.IsOnTheWay w self.old.known
+            → walks.Holds (walks.bodies_at w) number (spec.unit_bodies scope.old number unit.now)
             → OnOk result (walks.IsOnTheWay w self.new.known) }
         ensures kept { OnOk result (scope.new ≡ scope.old) }
     {
@@ -149,8 +148,8 @@ impl Settling<'_> {
     ) -> Result<(), NoMemory>
         requires level { scope.old.routine ≡ None }
         requires unit { scope.old.refinement ≡ None }
-        ensures found { (w : Written) → walks.IsOnTheWay w self.old.known
-            → walks.Holds (spec.level_bodies w) 0 (of_units.all_unit_bodies scope.old 0 units.now)
+        ensures found { (w : walks.LevelAt) → walks.IsOnTheWay w self.old.known
+            → walks.Holds (walks.bodies_at w) 0 (of_units.all_unit_bodies scope.old 0 units.now)
             → OnOk result (walks.IsOnTheWay w self.new.known) }
         ensures kept { OnOk result (scope.new ≡ scope.old) }
     {
@@ -163,8 +162,10 @@ impl Settling<'_> {
     }
 
     fn level(&mut self, alloc: Global, scope: &mut Scope, level: &Level) -> Result<(), NoMemory>
-        requires { scope.old ≡ spec.level_scope level.now }
-        ensures found { walks.IsOnTheWay level.now self.old.known → OnOk result (walks.IsOnTheWay level.now self.new.known) }
+        requires level { scope.old.routine ≡ None }
+        requires unit { scope.old.refinement ≡ None }
+        ensures found { (w : walks.LevelAt) → w.scope ≡ scope.old → w.level ≡ level.now → walks.IsOnTheWay w self.old.known
+            → OnOk result (walks.IsOnTheWay w self.new.known) }
         ensures kept { OnOk result (scope.new ≡ scope.old) }
     {
         let units = level.units.as_slice();
@@ -183,9 +184,10 @@ pub fn settled(
     scope: &mut Scope,
     level: &Level,
 ) -> Result<Known, NoMemory>
-    requires scope { scope.old ≡ spec.level_scope level.now }
-    requires known { known ≡ refinements.known_after 0 (bodies.headings level.now) (spec.level_bodies level.now) }
-    ensures found { IfOk result (λ known. walks.IsOnTheWay level.now known) }
+    requires level { scope.old.routine ≡ None }
+    requires unit { scope.old.refinement ≡ None }
+    requires known { known ≡ refinements.known_after 0 scope.old.headings (spec.level_bodies scope.old level.now) }
+    ensures found { IfOk result (λ known. (w : walks.LevelAt) → w.scope ≡ scope.old → w.level ≡ level.now → walks.IsOnTheWay w known) }
     ensures kept { IfOk result (λ known. scope.new ≡ scope.old) }
 {
     let mut settling = Settling { known, last };

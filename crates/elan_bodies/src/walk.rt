@@ -169,8 +169,9 @@ pub fn each_body<B: EachBody>(
     scope: &mut Scope,
     level: &Level,
 ) -> Result<(), NoMemory>
-    requires scope { scope.old ≡ spec.level_scope level.now }
-    ensures found { OnOk result (looks.new ≡ all_seen B.after looks.old 0 (spec.level_bodies level.now)) }
+    requires level { scope.old.routine ≡ None }
+    requires unit { scope.old.refinement ≡ None }
+    ensures found { OnOk result (looks.new ≡ all_seen B.after looks.old 0 (spec.level_bodies scope.old level.now)) }
     ensures kept { OnOk result (scope.new ≡ scope.old) }
 {
     let units = level.units.as_slice();

@@ -4,6 +4,11 @@ use Rattle.elan_scope.specs.Scope.{types_of, variables_of}
 use Rattle.std.proofs.Common.{◌∙◌, arith, append_assoc}
 use Rattle.std.specs.Prelude.{slice_get, nat_eq, flat_map}
 use Rattle.std.proofs.lemmas.List.{map-append}
+use Rattle.std.specs.List.{list_any}
+use Rattle.std.specs.Str.{bytes_eq}
+use Rattle.elan_tree.specs.declared.tree.Export.{Export}
+use Rattle.elan_tree.specs.declared.tree.Level.{Level}
+use Rattle.elan_meant.specs.Parts as p
 use Rattle.elan_types.specs.declared.elan_type.ElanType.{ElanType}
 use Rattle.elan_types.specs.declared.elan_type.Parameter.{Parameter}
 use Rattle.elan_types.specs.declared.core_phrase.Scope.{Scope as Owner}
@@ -60,7 +65,8 @@ use Rattle.elan_judge.proofs.InScope.{InScope, body_units_in}
 use Rattle.elan_bodies.proofs.Inferred.{unless_gives}
 use Rattle.elan_levels.proofs.Held.{held_append}
 use Rattle.elan_levels.proofs.OwnNames.{own_held}
-use Rattle.elan_rules.proofs.TypedPerformed.{owner_with}
+use Rattle.std.specs.Option.{option_map_or}
+use Rattle.elan_rules.proofs.TypedPerformed.{owner_with, behind}
 use Rattle.elan_rules.proofs.TypedCalls.{held_cells, AllSized}
 use Rattle.elan_check.proofs.HeldTypes.{BodiesSized}
 
@@ -111,18 +117,18 @@ frame_held ts fs w =
 -- ---- rows
 
 -- what the units of a body mean is its content
-abbrev pub Made : What → Meant → Body → Type 0
-Made (Routine sort ps r) m b = (vs : List Kind) × (b.scope ≡ owner.Own (map formal_of ps) vs) × (b.content ≡ u.content_as r m)
-Made (Refinement home) m b = (b.scope ≡ owner_with home) × (b.content ≡ u.content_of m)
+abbrev pub Made : ℕ → What → Meant → Body → Type 0
+Made before (Routine sort ps r) m b = (vs : List Kind) × (b.scope ≡ owner.Own (map formal_of ps) vs) × (b.content ≡ u.content_as r m)
+Made before (Refinement home) m b = (b.scope ≡ owner_with (behind before home)) × (b.content ≡ u.content_of m)
 
 abbrev pub Inside : ℕ → List Body → List Body → Type 0
 Inside k bs all = (i : ℕ) (b : Body) → slice_get bs i ≡ Some b → slice_get all (k + i) ≡ Some b
 
--- the PROC or OP has what its names hold, and each part of that has a cell
-abbrev pub Frames : List Body → Option Within → Type 0
-Frames all None = Unit {0}
-Frames all (Some v) =
-    (fs : List core.Formal) × (vs : List Kind) × (scope_of (slice_get all v.number) ≡ Some (owner.Own fs vs))
+-- the PROC or OP, before whose level there are so many bodies, has what its names hold, and each part of that has a cell
+abbrev pub Frames : ℕ → List Body → Option Within → Type 0
+Frames before all None = Unit {0}
+Frames before all (Some v) =
+    (fs : List core.Formal) × (vs : List Kind) × (scope_of (slice_get all (before + v.number)) ≡ Some (owner.Own fs vs))
     × (frame_of (owner.Own fs vs) ≡ held_cells v.names) × AllSized (all_held v.names)
 
 -- what a scope tells that is the same in all of its bodies: the names of the level, and what stands around it
@@ -132,11 +138,11 @@ surroundings z = (z.level, z.packets, z.bodies_before, z.home)
 abbrev pub within : ℕ → List Entry → List TypeName → Option Within
 within n names types = Some (record { number = n; names = names; types = types })
 
-abbrev pub Stands : List Body → ℕ → What → Scope → Body → Type 0
-Stands all n (Routine sort ps r) z b =
+abbrev pub Stands : ℕ → List Body → ℕ → What → Scope → Body → Type 0
+Stands before all n (Routine sort ps r) z b =
     (names : List Entry) × (types : List TypeName) × (z.routine ≡ within n names types) × (z.refinement ≡ None) × (frame_of b.scope ≡ held_cells names)
     × AllSized (all_held names)
-Stands all n (Refinement home) z b = (z.refinement ≡ Some n) × (number_of z.routine ≡ home) × Frames all z.routine
+Stands before all n (Refinement home) z b = (z.refinement ≡ Some n) × (number_of z.routine ≡ home) × Frames before all z.routine
 
 module _ (kn : Known) (s : Scope) (all : List Body) where
   pub record Row (n : ℕ) (h : Heading) (p : Phrase) (b : Body) : Type 0 where
@@ -144,12 +150,12 @@ module _ (kn : Known) (s : Scope) (all : List Body) where
     pub means : judged kn p ≡ gives meant
     pub list : List (Option Phrase)
     pub is_list : p ≡ shape.units (stated h.what) list
-    pub made : Made h.what meant b
+    pub made : Made s.bodies_before h.what meant b
     pub scope : Scope
     pub in_scope : InScope scope p
     pub headings : scope.headings ≡ s.headings
     pub level : surroundings scope ≡ surroundings s
-    pub stands : Stands all n h.what scope b
+    pub stands : Stands s.bodies_before all n h.what scope b
 
   abbrev pub Rows : ℕ → List Heading → List Phrase → List Body → Type 0
   Rows n [] [] [] = Unit {0}
@@ -171,15 +177,21 @@ module _ (kn : Known) (s : Scope) (all : List Body) where
 
   -- ---- refinements
 
-  owner_is : (o : Option Within) → l.owner_of o ≡ owner_with (number_of o)
-  owner_is None = refl
-  owner_is (Some v) = refl
+  owner_is : (z : Scope) → surroundings z ≡ surroundings s → l.owner_of z ≡ owner_with (behind s.bodies_before (number_of z.routine))
+  owner_is z e =
+      ap (λ (n : ℕ). option_map_or (λ (v : Within). owner.Of (n + v.number)) z.routine owner.Level)
+      (ap (λ (a : List Entry × List Inserted × ℕ × Home). a.2) e) ∙ by_routine z.routine
+    where
+      by_routine : (o : Option Within) → option_map_or (λ (v : Within). owner.Of (s.bodies_before + v.number)) o owner.Level
+          ≡ owner_with (behind s.bodies_before (number_of o))
+      by_routine None = refl
+      by_routine (Some v) = refl
 
   two_bodies : (o : Owner) (ms : List Meant) (m n v : Meant) → ms ≡ n ∷ v ∷ [] → ruled kn 0 (plain (form.refinement o)) ms ≡ gives m
       → m ≡ u.body_with o (u.content_of v)
   two_bodies o ms m n v e h = sym (gives_is (u.body_with o (u.content_of v)) m (ap (ruled kn 0 (plain (form.refinement o))) (sym e) ∙ h))
 
-  pub refinement_rows : (z : Scope) (k : ℕ) (rs : List Refined) (ms : List Meant) → z.headings ≡ s.headings → surroundings z ≡ surroundings s → Frames all z.routine →
+  pub refinement_rows : (z : Scope) (k : ℕ) (rs : List Refined) (ms : List Meant) → z.headings ≡ s.headings → surroundings z ≡ surroundings s → Frames s.bodies_before all z.routine →
       judged_all kn (all_of (l.refinements z k rs)) ≡ gives ms
       → Rows k (refinement_headings (number_of z.routine) rs) (l.all_refined_units z k rs) (u.bodies_of ms)
   refinement_rows z k [] ms hh hl fr e = subst (λ (ns : List Meant). Rows k [] [] (u.bodies_of ns)) (gives_is [] ms e) tt
@@ -187,12 +199,12 @@ module _ (kn : Known) (s : Scope) (all : List Body) where
       let q = before_gives (judged kn (l.refinement z k r)) (judged_all kn (all_of (l.refinements z (suc k) rs))) ms e in
       let a =
       bind_gives (judged_all kn (part (l.declares z r.name) (part (l.refined_units z k r) none)))
-      (ruled kn 0 (plain (form.refinement (l.owner_of z.routine)))) q.0 q.2
+      (ruled kn 0 (plain (form.refinement (l.owner_of z)))) q.0 q.2
       in
       let c = before_gives (judged kn (l.declares z r.name)) (judged_all kn (part (l.refined_units z k r) none)) a.0 a.1 in
       let d = before_gives (judged kn (l.refined_units z k r)) (gives []) c.1 c.3 in
       let two : a.0 ≡ c.0 ∷ d.0 ∷ [] = c.4 ∙ ap (λ (ns : List Meant). c.0 ∷ ns) (d.4 ∙ ap (λ (ns : List Meant). d.0 ∷ ns) (sym (gives_is [] d.1 d.3))) in
-      let made : q.0 ≡ u.body_with (l.owner_of z.routine) (u.content_of d.0) = two_bodies (l.owner_of z.routine) a.0 q.0 c.0 d.0 two a.2 in
+      let made : q.0 ≡ u.body_with (l.owner_of z) (u.content_of d.0) = two_bodies (l.owner_of z) a.0 q.0 c.0 d.0 two a.2 in
       subst (λ (ns : List Meant). Rows k (refinement_headings (number_of z.routine) (r ∷ rs)) (l.all_refined_units z k (r ∷ rs)) (u.bodies_of ns)) (sym q.4)
       (subst (λ (m : Meant). Rows k (refinement_headings (number_of z.routine) (r ∷ rs)) (l.all_refined_units z k (r ∷ rs)) (u.bodies_in m ++ u.bodies_of q.1))
       (sym made) (
@@ -201,7 +213,7 @@ module _ (kn : Known) (s : Scope) (all : List Body) where
           means = d.2;
           list = map (shape.unit (l.refinement_scope z k)) r.units;
           is_list = refl;
-          made = (owner_is z.routine, refl);
+          made = (owner_is z hl, refl);
           scope = l.refinement_scope z k;
           in_scope = body_units_in (l.refinement_scope z k) Open r.units;
           headings = hh;
@@ -295,6 +307,29 @@ module _ (kn : Known) (s : Scope) (all : List Body) where
       type_named_quiet n.at (scope.find_own_type s n.text) m
       (unless_gives (calls.is_open_type n.at (scope.find_own_type s n.text)) (verdict.told (calls.type_declared n.at (scope.find_own_type s n.text))) m e)
 
+  -- ---- what a packet shows
+
+  -- A name that it shows does nothing.
+  exported_done : (at : ℕ) (doubled : Bool) (may : Option Bool) (m : Meant) → verdict.told (calls.exported at doubled may) ≡ gives m → m ≡ Done []
+  exported_done at true may m e = absurd cc
+  exported_done at false None m e = absurd cc
+  exported_done at false (Some false) m e = absurd cc
+  exported_done at false (Some true) m e = sym (gives_is (Done []) m e)
+
+  pub exports_quiet : (w : Level) (earlier : List (List ℕ)) (es : List Export) (ms : List Meant) → judged_all kn (all_of (l.exports s w earlier es)) ≡ gives ms
+      → (p.actions_of ms ≡ []) × (u.bodies_of ms ≡ [])
+  exports_quiet w earlier [] ms e = (ap p.actions_of (sym (gives_is [] ms e)), ap u.bodies_of (sym (gives_is [] ms e)))
+  exports_quiet w earlier (x ∷ es) ms e =
+      let doubled = list_any (λ y. bytes_eq y (l.export_name x)) earlier in
+      let may = l.may_show s w (l.export_name x) in
+      let rest = l.exports s w (earlier ++ l.export_name x ∷ []) es in
+      let q = before_gives (judged kn (leaf (l.export_place x) (form.exported doubled may))) (judged_all kn (all_of rest)) ms e in
+      let r = exports_quiet w (earlier ++ l.export_name x ∷ []) es q.1 q.3 in
+      let done = exported_done (l.export_place x) doubled may q.0 q.2 in (
+        ap p.actions_of q.4 ∙ ap (λ (m : Meant). p.actions m ++ p.actions_of q.1) done ∙ r.0,
+        ap u.bodies_of q.4 ∙ ap (λ (m : Meant). u.bodies_in m ++ u.bodies_of q.1) done ∙ r.1,
+      )
+
   pub procedure_quiet : (n : Name) (fs : List Formal) → AllQuiet (l.procedure_name s n fs)
   procedure_quiet n [] = (declares_quiet s n, tt)
   procedure_quiet n (f ∷ fs) = tt
@@ -313,7 +348,7 @@ module _ (kn : Known) (s : Scope) (all : List Body) where
     one_body r ms m v e h = sym (gives_is (u.body_with own (u.content_as r v)) m (ap (ruled kn 0 (plain (form.body own r))) (sym e) ∙ h))
 
     pub routine_rows : BodiesSized s.types → (sort : Sort) (names : List Phrase) (m : Meant) → AllQuiet names → judged kn (l.routine s k at x t fs w sort names) ≡ gives m
-        → Inside k (u.bodies_in m) all →
+        → Inside (s.bodies_before + k) (u.bodies_in m) all →
         Rows k (b.routine_heading s.types sort at x fs t ∷ refinement_headings (Some k) w.refinements) (l.routine_units s k at x t fs w) (u.bodies_in m)
     routine_rows sized sort names m quiet e inside =
         let q =
@@ -337,8 +372,8 @@ module _ (kn : Known) (s : Scope) (all : List Body) where
         let is : u.bodies_in m ≡ body ∷ u.bodies_of a.1 =
         ap u.bodies_in (sym (gives_is (Bodies (u.bodies_of q.0)) m q.2)) ∙ ap u.bodies_of p.4 ∙ bodies_append p.0 p.1
         ∙ ap (λ (bs : List Body). bs ++ u.bodies_of p.1) silent ∙ ap u.bodies_of a.4 ∙ ap (λ (n : Meant). u.bodies_in n ++ u.bodies_of a.1) made in
-        let here : slice_get all k ≡ Some body =
-        (let z : k + 0 ≡ k = omega arith in ap (slice_get all) (sym z) ∙ inside 0 body (ap (λ (bs : List Body). slice_get bs 0) is)) in
+        let here : slice_get all (s.bodies_before + k) ≡ Some body =
+        (let z : s.bodies_before + k + 0 ≡ s.bodies_before + k = omega arith in ap (slice_get all) (sym z) ∙ inside 0 body (ap (λ (bs : List Body). slice_get bs 0) is)) in
         subst (λ (bs : List Body). Rows k (b.routine_heading s.types sort at x fs t ∷ refinement_headings (Some k) w.refinements) (l.routine_units s k at x t fs w) bs)
         (sym is) (
           record {

@@ -1,5 +1,7 @@
 -- The bodies that stand in the phrases of a text are those that are gone over, in the same order.
 use Rattle.std.specs.Prelude.{map, flat_map}
+use Rattle.std.specs.List.{list_any}
+use Rattle.std.specs.Str.{bytes_eq}
 use Rattle.std.proofs.Common.{◌≡◌, ℕ, suc, ◌+◌, List, [], ◌∷◌, ◌++◌, Option, refl, sym, ap, ◌∙◌, append_assoc}
 use Rattle.std.proofs.lemmas.List.{append-nil}
 use Rattle.elan_tree.specs.declared.written_type.Name.{Name}
@@ -10,14 +12,16 @@ use Rattle.elan_tree.specs.declared.tree.Refinement.{Refinement}
 use Rattle.elan_tree.specs.declared.tree.Level.{Level}
 use Rattle.elan_tree.specs.declared.tree.LevelUnit.{LevelUnit}
 use Rattle.elan_tree.specs.declared.tree.LevelUnit.TheVariants as level
+use Rattle.elan_tree.specs.declared.tree.Export.{Export}
 use Rattle.elan_tree.specs.declared.tree.Tree.{Tree}
 use Rattle.elan_scope.specs.declared.delivery.Delivery.TheVariants.{Open, Nothing}
 use Rattle.elan_names.specs.declared.heading.Sort.{Sort}
 use Rattle.elan_names.specs.declared.heading.Sort.TheVariants.{Procedure, Operator}
 use Rattle.elan_scope.specs.declared.scope.Scope.{Scope}
+use Rattle.elan_scope.specs.declared.env.Env.{Env}
 use Rattle.elan_scope.specs.Known.{delivered}
 use Rattle.elan_scope.specs.Phrase as form
-use Rattle.elan_scope.specs.Phrase.{Form, plain, Phrase, phrase, Parts, none, part, all_of}
+use Rattle.elan_scope.specs.Phrase.{Form, plain, Phrase, phrase, Parts, none, part, all_of, leaf}
 use Rattle.elan_unbuilt.specs.Operators.{operator_text}
 use Rattle.elan_rules.specs.Meaning.{phrases, phrases_of}
 use Rattle.elan_judge.specs.Shape as shape
@@ -155,15 +159,31 @@ units s k (u ∷ us) =
     first_of (l.level_unit s k u) (level_units s (k + b.bodies_in u) us) (l.unit_bodies s k u) (all_unit_bodies s (k + b.bodies_in u) us) (unit s k u)
     (units s (k + b.bodies_in u) us)
 
-pub bodies_are : (w : Level) → bodies_within (l.level_phrase w) ≡ l.level_bodies w
-bodies_are w =
-    let s = l.level_scope w in
+-- What a packet shows has no bodies.
+exports_none : (s : Scope) (w : Level) (earlier : List (List ℕ)) (es : List Export) → parts_units (l.exports s w earlier es) ≡ []
+exports_none s w earlier [] = refl
+exports_none s w earlier (e ∷ es) =
+    let doubled = list_any (λ y. bytes_eq y (l.export_name e)) earlier in
+    first_of (leaf (l.export_place e) (form.exported doubled (l.may_show s w (l.export_name e)))) (l.exports s w (earlier ++ l.export_name e ∷ []) es) [] []
+    refl (exports_none s w (earlier ++ l.export_name e ∷ []) es)
+
+level_are : (s : Scope) (w : Level) → parts_units (l.level_parts s w) ≡ l.level_bodies s w
+level_are s w =
     let n = b.bodies_of_units w.units in
     let first = level_units s 0 w.units in
     let rest = l.refinements s n w.refinements in
-    around_parts 0 (plain form.level) (all_of (first ++ rest)) refl ∙ parts_append first rest
+    parts_append first rest
     ∙ ap (λ (x : List Phrase). x ++ parts_units rest) (units s 0 w.units)
     ∙ ap (λ (x : List Phrase). all_unit_bodies s 0 w.units ++ x) (refinements s n w.refinements)
 
-pub known_is : (t : Tree) → known t ≡ known_of (b.headings (l.level_in t)) (l.level_bodies (l.level_in t))
-known_is t = ap (known_of (b.headings (l.level_in t))) (bodies_are (l.level_in t))
+pub bodies_are : (env : Env) (t : Tree) → bodies_within (l.text env t) ≡ l.level_bodies (l.text_scope env t) (l.level_in t)
+bodies_are env t =
+    let s = l.text_scope env t in
+    let w = l.level_in t in
+    let shown = l.exports s w [] (l.exports_in t) in
+    let rest = l.level_parts s w in
+    around_parts 0 (plain form.level) (all_of (shown ++ rest)) refl ∙ parts_append shown rest
+    ∙ ap (λ (x : List Phrase). x ++ parts_units rest) (exports_none s w [] (l.exports_in t)) ∙ level_are s w
+
+pub known_is : (env : Env) (t : Tree) → known env t ≡ known_of (l.text_scope env t).headings (l.level_bodies (l.text_scope env t) (l.level_in t))
+known_is env t = ap (known_of (l.text_scope env t).headings) (bodies_are env t)

@@ -1,12 +1,10 @@
--- The answer of a level, as it is promised of a text.
-use Rattle.std.proofs.Common.{◌≡◌, Result, Ok, Err, Bool, true, false, Some, sym, subst}
+-- The answer that is found, as it is promised of a text.
+use Rattle.std.proofs.Common.{ap, ◌≡◌, Result, Ok, Err, Bool, true, false, Some, sym, subst}
 use Rattle.std.specs.Prelude.{IfOk, ◌↔◌}
-use Rattle.elan_types.specs.declared.env.Env.{Env}
+use Rattle.elan_scope.specs.declared.env.Env.{Env}
 use Rattle.elan_types.specs.declared.core_phrase.Core.{Core}
 use Rattle.elan_types.specs.Typing.{IsWellTyped}
-use Rattle.elan_tree.specs.declared.tree.Level.{Level}
 use Rattle.elan_tree.specs.declared.tree.Tree.{Tree}
-use Rattle.elan_tree.specs.declared.tree.Tree.TheVariants as tree
 use Rattle.elan_meant.specs.declared.meant.Meant.TheVariants as means
 use Rattle.elan_scope.specs.Ruled.{Fault, gives}
 use Rattle.elan_scope.specs.declared.known.Known.{Known}
@@ -15,9 +13,12 @@ use Rattle.elan_check.specs.declared.error.CheckError.{CheckError}
 use Rattle.elan_check.specs.declared.error.CheckError.TheVariants.{NoMemory, NoMeaning, NotBuilt}
 use Rattle.elan_unbuilt.specs.NotBuilt.{not_built}
 use Rattle.elan_bodies.specs.Level.{text}
-use Rattle.elan_check.specs.Text.{Means, Refused, IsNotBuilt, IsCore, IsRefusal, Answers, earliest, known}
-use Rattle.type_names.specs.Faults.{first_fault, level_faults}
+use Rattle.elan_check.specs.Text.{Means, Refused, IsNotBuilt, IsCore, IsRefusal, Answers, earliest, known, faults}
+use Rattle.elan_check.specs.Packets.{AreCompiled}
+use Rattle.type_names.specs.Faults.{first_fault}
 use Rattle.elan_check.proofs.Bodies.{known_is}
+use Rattle.elan_check.proofs.Inserted.{is_sound}
+use Rattle.elan_check.proofs.WellTyped.{well_typed}
 use Rattle.elan_check.proofs.OneAnswer.{one_core, meant_is_not_refused, is_earliest}
 
 pub record Checked (env : Env) (t : Tree) (q : Result Core CheckError) : Type 0 where
@@ -30,50 +31,46 @@ pub record Checked (env : Env) (t : Tree) (q : Result Core CheckError) : Type 0 
 both_ways : (b : Bool) → b ≡ false → b ≡ true → ⊥
 both_ways b h k = cc
 
-module _ (env : Env) (w : Level) where
-  abbrev t : Tree
-  t = tree.Program w
-
-  core_means : (core : Core) → not_built t ≡ false → Answers w (Ok core) → Means env t core
+module _ (env : Env) (compiled : AreCompiled env) (t : Tree) where
+  core_means : (core : Core) → not_built t ≡ false → Answers env t (Ok core) → Means env t core
   core_means core h a = record {
     is_built = h;
     types = a.0;
-    packets = a.1;
-    inserted = a.2;
-    variables = a.3;
-    phrases = subst (λ (k : Known). judged k (text t) ≡ gives (means.Level core.units core.bodies)) (sym (known_is t)) a.4;
+    packets = ap (λ (c : Core). c.packets) a.2;
+    inserted = ap (λ (c : Core). c.inserted) a.2;
+    variables = ap (λ (c : Core). c.variables) a.2;
+    own = a.1;
+    bodies = ap (λ (c : Core). c.bodies) a.2;
+    phrases = subst (λ (k : Known). judged k (text env t) ≡ gives (means.Level core.units a.1)) (sym (known_is env t)) a.3;
   }
 
-  is_refused : (fault : Fault) → not_built t ≡ false → Answers w (Err (NoMeaning fault.0 fault.1)) → Refused env t fault
+  is_refused : (fault : Fault) → not_built t ≡ false → Answers env t (Err (NoMeaning fault.0 fault.1)) → Refused env t fault
   is_refused fault h a = record {
     is_built = h;
-    first = is_earliest (known t) (text t) (first_fault (level_faults w)) fault
-        (subst (λ (k : Known). earliest (first_fault (level_faults w)) (judged k (text t)) ≡ Some fault) (sym (known_is t)) a);
+    first = is_earliest (known env t) (text env t) (first_fault (faults env t)) fault
+        (subst (λ (k : Known). earliest (first_fault (faults env t)) (judged k (text env t)) ≡ Some fault) (sym (known_is env t)) a);
   }
 
-  level_checked : (q : Result Core CheckError) → not_built t ≡ false → Answers w q → Checked env t q
-  level_checked (Ok core) h a = record {
+  pub text_checked : (q : Result Core CheckError) → not_built t ≡ false → Answers env t q → Checked env t q
+  text_checked (Ok core) h a = record {
     meaning = core_means core h a;
     only = λ other m. one_core env t core other (core_means core h a) m;
     refused = tt;
     not_built = (λ e. absurd cc, λ i. absurd (both_ways (not_built t) h i));
-    typed = a.5;
+    typed = well_typed env (is_sound env compiled) t core (core_means core h a);
   }
-  level_checked (Err NoMemory) h a = record {
+  text_checked (Err NoMemory) h a = record {
     meaning = tt;
     only = λ other m. tt;
     refused = tt;
     not_built = (λ e. absurd cc, λ i. absurd (both_ways (not_built t) h i));
     typed = tt;
   }
-  level_checked (Err (NoMeaning at why)) h a = record {
+  text_checked (Err (NoMeaning at why)) h a = record {
     meaning = tt;
     only = λ other m. absurd (meant_is_not_refused env t other (at, why) m (is_refused (at, why) h a));
     refused = is_refused (at, why) h a;
     not_built = (λ e. absurd cc, λ i. absurd (both_ways (not_built t) h i));
     typed = tt;
   }
-  level_checked (Err NotBuilt) h a = absurd a
-
-pub program_checked : (env : Env) (t : Tree) (w : Level) (q : Result Core CheckError) → t ≡ tree.Program w → not_built t ≡ false → Answers w q → Checked env t q
-program_checked env t w q e h a = subst (λ (z : Tree). Checked env z q) (sym e) (level_checked env w q (subst (λ (z : Tree). not_built z ≡ false) e h) a)
+  text_checked (Err NotBuilt) h a = absurd a

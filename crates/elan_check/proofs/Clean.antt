@@ -1,6 +1,5 @@
 -- Where no type breaks a rule, no name and no heading has a type without meaning.
-use Rattle.std.proofs.Common.{◌≡◌, ℕ, zero, suc, Bool, true, false, ◌||◌, List, [], ◌∷◌, ◌++◌, Option, Some, None, refl, sym, ap, subst}
-use Rattle.std.proofs.lemmas.List.{append-nil}
+use Rattle.std.proofs.Common.{◌≡◌, ℕ, zero, suc, Bool, true, false, ◌||◌, List, [], ◌∷◌, ◌++◌, Option, Some, None, refl, subst}
 use Rattle.std.specs.Prelude.{flat_map, map, slice_get}
 use Rattle.elan_types.specs.declared.elan_type.Parameter.{Parameter}
 use Rattle.elan_types.specs.Types.{is_open}
@@ -27,7 +26,7 @@ use Rattle.type_definitions.specs.Definitions as definitions
 use Rattle.type_names.specs.Types as names
 use Rattle.type_names.specs.Types.{type_in, defined_by, first_from, names_of, body_definitions, parameter_definitions, refinement_definitions, in_refinements}
 use Rattle.type_names.specs.Types.{unit_definitions, level_definitions, level_types, body_types}
-use Rattle.type_names.specs.Faults.{Here, here, calls, node_faults, nodes_faults, named_faults, or_named, written_faults, unit_faults, routine_faults, level_faults}
+use Rattle.type_names.specs.Faults.{Here, here, node_faults, nodes_faults, named_faults, or_named, written_faults, unit_faults, routine_faults, level_faults}
 use Rattle.type_names.proofs.Sound.{Mean, Sound, written_means, names_mean, seen_mean}
 use Rattle.elan_levels.specs.Declarations as d
 use Rattle.elan_levels.specs.Bodies as b
@@ -186,37 +185,35 @@ module _ (h : Here) (m : Mean h.seen) where
 
 -- ---- a level
 
-mean_none : Mean []
+pub mean_none : Mean []
 mean_none x t e = absurd cc
 
 procedure_closed : (n : Name) (fs : List Formal) → Closed (b.procedure_name n fs)
 procedure_closed n [] = (refl, tt)
 procedure_closed n (f ∷ fs) = tt
 
-module _ (w : Level) (faultless : level_faults w ≡ []) where
+-- where own types are numbered from this number on, and these are declared around
+module _ (first : ℕ) (around : List TypeName) (around_means : Mean around) (w : Level) (faultless : level_faults first around w ≡ []) where
   abbrev ds : List Definition
   ds = level_definitions w
 
   abbrev pub ts : List TypeName
-  ts = level_types w
+  ts = level_types first around w
 
   abbrev rs : List Refinement
   rs = w.refinements
 
-  -- what is known in the level: there is nothing around
+  -- what is known in the level
   abbrev outer : Here
-  outer = record { seen = ts; definitions = ds; calls = calls ds; refinements = rs }
+  outer = here first around ds rs
 
-  outer_is : here [] ds rs ≡ outer
-  outer_is = ap (λ (us : List TypeName). record { seen = us; definitions = ds; calls = calls ds; refinements = rs }) (append-nil ts)
-
-  outer_clean : (ns : List Node) → nodes_faults (here [] ds rs) ns ≡ [] → Clean outer ns
-  outer_clean ns e = clean_of outer ns (subst (λ (h : Here). nodes_faults h ns ≡ []) outer_is e)
+  outer_clean : (ns : List Node) → nodes_faults outer ns ≡ [] → Clean outer ns
+  outer_clean ns e = clean_of outer ns e
 
   abbrev pub RoutineClean : Option TypePhrase → List Formal → Body → Type 0
   RoutineClean r fs v =
       Clean outer (nodes.result r ++ nodes.formals fs)
-      × Clean (here ts (body_definitions fs v) []) (nodes.in_units v.units ++ nodes.refinements v.refinements)
+      × Clean (here 0 ts (body_definitions fs v) []) (nodes.in_units v.units ++ nodes.refinements v.refinements)
 
   -- a unit of a level breaks no rule of types
   abbrev pub UnitClean : LevelUnit → Type 0
@@ -229,27 +226,27 @@ module _ (w : Level) (faultless : level_faults w ≡ []) where
   AllUnits [] = Unit {0}
   AllUnits (v ∷ vs) = UnitClean v × AllUnits vs
 
-  routine_clean : (r : Option TypePhrase) (fs : List Formal) (v : Body) → routine_faults ds rs r fs v ≡ [] → RoutineClean r fs v
+  routine_clean : (r : Option TypePhrase) (fs : List Formal) (v : Body) → routine_faults first around ds rs r fs v ≡ [] → RoutineClean r fs v
   routine_clean r fs v e =
       let p =
-      none_both (nodes_faults (here [] ds rs) (nodes.result r ++ nodes.formals fs))
-      (nodes_faults (here (names_of [] ds) (body_definitions fs v) []) (nodes.in_units v.units ++ nodes.refinements v.refinements)) e in (
+      none_both (nodes_faults (here first around ds rs) (nodes.result r ++ nodes.formals fs))
+      (nodes_faults (here 0 ts (body_definitions fs v) []) (nodes.in_units v.units ++ nodes.refinements v.refinements)) e in (
         outer_clean (nodes.result r ++ nodes.formals fs) p.0,
-        clean_of (here ts (body_definitions fs v) []) (nodes.in_units v.units ++ nodes.refinements v.refinements) p.1,
+        clean_of (here 0 ts (body_definitions fs v) []) (nodes.in_units v.units ++ nodes.refinements v.refinements) p.1,
       )
 
-  unit_clean : (v : LevelUnit) → unit_faults ds rs v ≡ [] → UnitClean v
+  unit_clean : (v : LevelUnit) → unit_faults first around ds rs v ≡ [] → UnitClean v
   unit_clean (level.Plain u) e = outer_clean (nodes.in_unit u) e
   unit_clean (level.NewType at n of) e = outer_clean (new_type at n of ∷ []) e
   unit_clean (level.Proc at r n fs v) e = routine_clean r fs v e
   unit_clean (level.Op at r n fs v) e = routine_clean r fs v e
 
-  units_clean : (vs : List LevelUnit) → flat_map (unit_faults ds rs) vs ≡ [] → AllUnits vs
+  units_clean : (vs : List LevelUnit) → flat_map (unit_faults first around ds rs) vs ≡ [] → AllUnits vs
   units_clean [] e = tt
-  units_clean (v ∷ vs) e = let p = none_both (unit_faults ds rs v) (flat_map (unit_faults ds rs) vs) e in (unit_clean v p.0, units_clean vs p.1)
+  units_clean (v ∷ vs) e = let p = none_both (unit_faults first around ds rs v) (flat_map (unit_faults first around ds rs) vs) e in (unit_clean v p.0, units_clean vs p.1)
 
-  both_parts : (flat_map (unit_faults ds rs) w.units ≡ []) × (nodes_faults (here [] ds rs) (nodes.refinements w.refinements) ≡ [])
-  both_parts = none_both (flat_map (unit_faults ds rs) w.units) (nodes_faults (here [] ds rs) (nodes.refinements w.refinements)) faultless
+  both_parts : (flat_map (unit_faults first around ds rs) w.units ≡ []) × (nodes_faults (here first around ds rs) (nodes.refinements w.refinements) ≡ [])
+  both_parts = none_both (flat_map (unit_faults first around ds rs) w.units) (nodes_faults (here first around ds rs) (nodes.refinements w.refinements)) faultless
 
   pub all_clean : AllUnits w.units
   all_clean = units_clean w.units both_parts.0
@@ -274,11 +271,14 @@ module _ (w : Level) (faultless : level_faults w ≡ []) where
   level_sound =
       sound_append outer (flat_map unit_definitions w.units) (in_refinements rs) (units_sound w.units all_clean) (inside_sound outer rs refinements_clean)
 
-  sound_here : (i : ℕ) (e : Definition) → slice_get ds i ≡ Some e → Sound (here [] ds rs) e
-  sound_here i e g = subst (λ (h : Here). Sound h e) (sym outer_is) (sound_at outer ds i e level_sound g)
+  sound_here : (i : ℕ) (e : Definition) → slice_get ds i ≡ Some e → Sound (here first around ds rs) e
+  sound_here i e g = sound_at outer ds i e level_sound g
+
+  pub own_mean : Mean (names_of first around ds)
+  own_mean = names_mean first around ds rs around_means sound_here
 
   pub level_means : Mean ts
-  level_means = names_mean [] ds rs mean_none sound_here
+  level_means = seen_mean first around ds rs around_means sound_here
 
   -- ---- its names have types with meaning
 
@@ -292,7 +292,7 @@ module _ (w : Level) (faultless : level_faults w ≡ []) where
   units_closed [] c = tt
   units_closed (v ∷ vs) c = closed_append (b.unit_names ts v) (flat_map (b.unit_names ts) vs) (unit_closed v c.0) (units_closed vs c.1)
 
-  pub level_closed : Closed (b.level_names w)
+  pub level_closed : Closed (b.names_in ts w)
   level_closed =
       closed_append (flat_map (b.unit_names ts) w.units) (b.refinement_names ts w.refinements) (units_closed w.units all_clean)
       (refinements_closed outer level_means w.refinements refinements_clean)
@@ -301,7 +301,7 @@ module _ (w : Level) (faultless : level_faults w ≡ []) where
 
   module _ (r : Option TypePhrase) (fs : List Formal) (v : Body) (c : RoutineClean r fs v) where
     abbrev inner : Here
-    inner = here ts (body_definitions fs v) []
+    inner = here 0 ts (body_definitions fs v) []
 
     heading_clean : Clean outer (nodes.result r) × Clean outer (nodes.formals fs)
     heading_clean = clean_both outer (nodes.result r) (nodes.formals fs) c.0
@@ -319,10 +319,10 @@ module _ (w : Level) (faultless : level_faults w ≡ []) where
     sound_inside i e g = sound_at inner (body_definitions fs v) i e body_sound g
 
     pub body_means : Mean (body_types ts fs v)
-    body_means = names_mean ts (body_definitions fs v) [] level_means sound_inside
+    body_means = names_mean 0 ts (body_definitions fs v) [] level_means sound_inside
 
     inner_means : Mean inner.seen
-    inner_means = seen_mean ts (body_definitions fs v) [] level_means sound_inside
+    inner_means = seen_mean 0 ts (body_definitions fs v) [] level_means sound_inside
 
     pub parameters_closed : has_open (b.parameters ts fs) ≡ false
     parameters_closed = held_closed (b.parameter_names ts fs) (formals_closed outer level_means fs heading_clean.1)

@@ -267,6 +267,7 @@ nothing_hangs z h at (form.count v) i ms = refl
 nothing_hangs z h at form.without_value i ms = refl
 nothing_hangs z h at (form.must_deliver t) i ms = refl
 nothing_hangs z h at form.units i ms = refl
+nothing_hangs z h at (form.exported d q) i ms = refl
 nothing_hangs z h at (form.body o r) i ms = absurd i
 nothing_hangs z h at form.routine i ms = absurd i
 nothing_hangs z h at (form.refinement o) i ms = absurd i

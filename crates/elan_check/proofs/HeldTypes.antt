@@ -19,8 +19,8 @@ use Rattle.elan_names.specs.declared.entry.Denotes.TheVariants as denotes
 use Rattle.elan_names.specs.declared.entry.Entry.{Entry}
 use Rattle.elan_names.specs.declared.type_name.TypeName.{TypeName}
 use Rattle.elan_scope.specs.Scope.{all_held}
-use Rattle.type_names.specs.Types.{type_in, level_definitions, level_types, body_definitions, body_types}
-use Rattle.type_names.proofs.Sized.{SizedNames, type_sized, none_sized, names_sized, seen_sized}
+use Rattle.type_names.specs.Types.{type_in, body_definitions, body_types}
+use Rattle.type_names.proofs.Sized.{SizedNames, type_sized, seen_sized}
 use Rattle.elan_levels.specs.Declarations as d
 use Rattle.elan_levels.specs.Bodies as b
 use Rattle.elan_levels.proofs.Held.{held_append}
@@ -75,8 +75,8 @@ const_append : (ps qs : List Parameter) → AllConst ps → AllConst qs → AllC
 const_append [] qs h k = k
 const_append (p ∷ ps) qs h k = (h.0, const_append ps qs h.1 k)
 
-pub level_const : (w : Level) → AllConst (all_held (b.level_names w))
-level_const w = level_held AllConst tt const_append (level_types w) (λ of. (refl, tt)) w
+pub level_const : (ts : List TypeName) (w : Level) → AllConst (all_held (b.names_in ts w))
+level_const ts w = level_held AllConst tt const_append ts (λ of. (refl, tt)) w
 
 -- ---- types of which each part has a cell
 
@@ -84,11 +84,8 @@ sized_append : (ps qs : List Parameter) → AllSized ps → AllSized qs → AllS
 sized_append [] qs h k = k
 sized_append (p ∷ ps) qs h k = (h.0, sized_append ps qs h.1 k)
 
-pub level_types_sized : (w : Level) → SizedNames (level_types w)
-level_types_sized w = names_sized [] (level_definitions w) none_sized
-
-pub level_sized : (w : Level) → AllSized (all_held (b.level_names w))
-level_sized w = level_held AllSized tt sized_append (level_types w) (λ of. (type_sized (level_types w) (level_types_sized w) of, tt)) w
+pub level_sized : (ts : List TypeName) → SizedNames ts → (w : Level) → AllSized (all_held (b.names_in ts w))
+level_sized ts z w = level_held AllSized tt sized_append ts (λ of. (type_sized ts z of, tt)) w
 
 named_sized : (ns : List Name) (q : Parameter) → is_sized_type q.of ≡ true → AllSized (all_held (b.named_as ns (denotes.Parameter q)))
 named_sized [] q z = tt
@@ -108,7 +105,7 @@ BodiesSized ts = (fs : List Formal) (v : Body) → AllSized (all_held (b.body_na
 pub bodies_sized : (ts : List TypeName) → SizedNames ts → BodiesSized ts
 bodies_sized ts z fs v =
     let here = body_types ts fs v ++ ts in
-    let inside = seen_sized ts (body_definitions fs v) z in
+    let inside = seen_sized 0 ts (body_definitions fs v) z in
     subst AllSized (sym (held_append (b.parameter_names ts fs) (b.own_names here v)))
     (sized_append (all_held (b.parameter_names ts fs)) (all_held (b.own_names here v)) (parameters_sized ts z fs)
     (own_held AllSized tt sized_append here (λ of. (type_sized here inside of, tt)) v))

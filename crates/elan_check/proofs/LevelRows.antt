@@ -32,11 +32,11 @@ use Rattle.elan_bodies.specs.walks.Units.{all_unit_bodies, level_units}
 
 -- ---- the rows of a level
 
-behind : {A : Type 0} (ys xs : List A) (i : ℕ) → slice_get (ys ++ xs) (length ys + i) ≡ slice_get xs i
-behind {A = A} [] xs i = let z : 0 + i ≡ i = omega arith in ap (λ (n : ℕ). slice_get xs n) z
-behind {A = A} (y ∷ ys) xs i = let z : suc (length ys) + i ≡ suc (length ys + i) = omega arith in ap (λ (n : ℕ). slice_get (y ∷ ys ++ xs) n) z ∙ behind ys xs i
+pub at_behind : {A : Type 0} (ys xs : List A) (i : ℕ) → slice_get (ys ++ xs) (length ys + i) ≡ slice_get xs i
+at_behind {A = A} [] xs i = let z : 0 + i ≡ i = omega arith in ap (λ (n : ℕ). slice_get xs n) z
+at_behind {A = A} (y ∷ ys) xs i = let z : suc (length ys) + i ≡ suc (length ys + i) = omega arith in ap (λ (n : ℕ). slice_get (y ∷ ys ++ xs) n) z ∙ at_behind ys xs i
 
-before_rest : {A : Type 0} (ys xs : List A) (i : ℕ) (y : A) → slice_get ys i ≡ Some y → slice_get (ys ++ xs) i ≡ Some y
+pub before_rest : {A : Type 0} (ys xs : List A) (i : ℕ) (y : A) → slice_get ys i ≡ Some y → slice_get (ys ++ xs) i ≡ Some y
 before_rest [] xs i y e = absurd cc
 before_rest (z ∷ ys) xs zero y e = e
 before_rest (z ∷ ys) xs (suc i) y e = before_rest ys xs i y e
@@ -47,7 +47,7 @@ inside_first k bs cs all h i b e = h i b (before_rest bs cs i b e)
 pub inside_rest : (k : ℕ) (bs cs all : List Body) → Inside k (bs ++ cs) all → Inside (k + length bs) cs all
 inside_rest k bs cs all h i b e =
     let z : k + length bs + i ≡ k + (length bs + i) = omega arith in
-    ap (slice_get all) z ∙ h (length bs + i) b (behind bs cs i ∙ e)
+    ap (slice_get all) z ∙ h (length bs + i) b (at_behind bs cs i ∙ e)
 
 module _ (kn : Known) (s : Scope) (all : List Body) where
   pub rows_count : (n : ℕ) (hs : List Heading) (ps : List Phrase) (bs : List Body) → Rows kn s all n hs ps bs → length bs ≡ length hs
@@ -74,7 +74,7 @@ module _ (kn : Known) (s : Scope) (all : List Body) where
   plain_quiet : (q : Phrase) (m : Meant) → judged kn (around (form.place q) form.without_value q) ≡ gives m → u.bodies_in m ≡ []
   plain_quiet q m e = let r = bind_gives (judged_all kn (part q none)) (ruled kn (form.place q) (plain form.without_value)) m e in no_bodies_in (form.place q) r.0 m r.2
 
-  unit_rows : BodiesSized s.types → (k : ℕ) (v : LevelUnit) (m : Meant) → judged kn (l.level_unit s k v) ≡ gives m → Inside k (u.bodies_in m) all
+  unit_rows : BodiesSized s.types → (k : ℕ) (v : LevelUnit) (m : Meant) → judged kn (l.level_unit s k v) ≡ gives m → Inside (s.bodies_before + k) (u.bodies_in m) all
       → Rows kn s all k (b.unit_headings s.types k v) (l.unit_bodies s k v) (u.bodies_in m)
   unit_rows sized k (level.Plain v) m e h = subst (λ (bs : List Body). Rows kn s all k [] [] bs) (sym (plain_quiet (shape.written (shape.unit s v)) m e)) tt
   unit_rows sized k (level.Proc at r n fs w) m e h =
@@ -84,17 +84,19 @@ module _ (kn : Known) (s : Scope) (all : List Body) where
       subst (λ (bs : List Body). Rows kn s all k [] [] bs) (sym (type_quiet kn s all n m e)) tt
 
   pub units_rows : BodiesSized s.types → (k : ℕ) (vs : List LevelUnit) (ms : List Meant) → judged_all kn (all_of (level_units s k vs)) ≡ gives ms
-      → Inside k (u.bodies_of ms) all → Rows kn s all k (all_headings s.types k vs) (all_unit_bodies s k vs) (u.bodies_of ms)
+      → Inside (s.bodies_before + k) (u.bodies_of ms) all → Rows kn s all k (all_headings s.types k vs) (all_unit_bodies s k vs) (u.bodies_of ms)
   units_rows sized k [] ms e h = subst (λ (ns : List Meant). Rows kn s all k [] [] (u.bodies_of ns)) (gives_is [] ms e) tt
   units_rows sized k (v ∷ vs) ms e h =
       let q = before_gives (judged kn (l.level_unit s k v)) (judged_all kn (all_of (level_units s (k + b.bodies_in v) vs))) ms e in
-      let h' : Inside k (u.bodies_in q.0 ++ u.bodies_of q.1) all = subst (λ (ns : List Meant). Inside k (u.bodies_of ns) all) q.4 h in
-      let first = unit_rows sized k v q.0 q.2 (inside_first k (u.bodies_in q.0) (u.bodies_of q.1) all h') in
+      let at = s.bodies_before + k in
+      let h' : Inside at (u.bodies_in q.0 ++ u.bodies_of q.1) all = subst (λ (ns : List Meant). Inside at (u.bodies_of ns) all) q.4 h in
+      let first = unit_rows sized k v q.0 q.2 (inside_first at (u.bodies_in q.0) (u.bodies_of q.1) all h') in
       let count : length (u.bodies_in q.0) ≡ b.bodies_in v =
       rows_count k (b.unit_headings s.types k v) (l.unit_bodies s k v) (u.bodies_in q.0) first ∙ unit_headings_count s.types k v in
       let rest =
       units_rows sized (k + b.bodies_in v) vs q.1 q.3
-      (subst (λ (n : ℕ). Inside (k + n) (u.bodies_of q.1) all) count (inside_rest k (u.bodies_in q.0) (u.bodies_of q.1) all h')) in
+      (subst (λ (n : ℕ). Inside n (u.bodies_of q.1) all) (let z : at + length (u.bodies_in q.0) ≡ s.bodies_before + (k + b.bodies_in v) = omega (arith, count) in z)
+      (inside_rest at (u.bodies_in q.0) (u.bodies_of q.1) all h')) in
       subst (λ (ns : List Meant). Rows kn s all k (all_headings s.types k (v ∷ vs)) (all_unit_bodies s k (v ∷ vs)) (u.bodies_of ns)) (sym q.4)
       (rows_append kn s all k (k + b.bodies_in v) (b.unit_headings s.types k v) (all_headings s.types (k + b.bodies_in v) vs) (l.unit_bodies s k v)
       (all_unit_bodies s (k + b.bodies_in v) vs) (u.bodies_in q.0) (u.bodies_of q.1) (ap (λ (n : ℕ). k + n) (sym count)) first rest)

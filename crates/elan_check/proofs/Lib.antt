@@ -13,3 +13,7 @@ pub mod Clean
 pub mod Closed
 pub mod HeldTypes
 pub mod SameCore
+pub mod Sound
+pub mod Weakening
+pub mod Inserted
+pub mod Scopes

@@ -1,7 +1,6 @@
 -- A text has one answer: a core, or a refusal, or it has what is not built yet.
 use Rattle.std.proofs.Common.{◌≡◌, ℕ, ◌<◌, ◌≤◌, Bool, List, [], ◌∷◌, true, false, if◌then◌else◌, Option, Some, None, refl, sym, ap, ◌∙◌, subst, arith, inl, inr}
-use Rattle.eu_base.specs.declared.value.Kind.{Kind}
-use Rattle.elan_types.specs.declared.env.Env.{Env}
+use Rattle.elan_scope.specs.declared.env.Env.{Env}
 use Rattle.elan_types.specs.declared.core_phrase.Core.{Core}
 use Rattle.elan_types.specs.declared.core_phrase.Body.{Body}
 use Rattle.elan_types.specs.declared.core_phrase.Action.{Action}
@@ -9,8 +8,6 @@ use Rattle.elan_tree.specs.declared.tree.Tree.{Tree}
 use Rattle.elan_meant.specs.declared.meant.Meant.{Meant}
 use Rattle.elan_meant.specs.declared.meant.Meant.TheVariants.{Level}
 use Rattle.elan_scope.specs.Ruled.{Fault, Ruled, gives, breaks, hangs}
-use Rattle.elan_scope.specs.Scope.{variables_of}
-use Rattle.elan_levels.specs.Bodies.{level_names}
 use Rattle.elan_scope.specs.Phrase as form
 use Rattle.elan_scope.specs.Phrase.{plain, Phrase, phrase, all_of}
 use Rattle.elan_scope.specs.declared.known.Known.{Known}
@@ -21,14 +18,16 @@ use Rattle.elan_rules.specs.Meaning.{judged, judged_all}
 use Rattle.elan_check.proofs.Bodies.{known_is}
 use Rattle.elan_check.proofs.Spots.{never_hangs}
 use Rattle.elan_unbuilt.specs.NotBuilt.{not_built}
-use Rattle.elan_bodies.specs.Level.{text, level_in, level_parts}
+use Rattle.elan_bodies.specs.Level.{text, text_parts}
 use Rattle.elan_rules.specs.Meaning as phrase
-use Rattle.elan_check.specs.Text.{Means, Refused, IsEarliest, earliest, known, HasAnswer, meaning, refusal, not_yet, HasOneAnswer}
-use Rattle.type_names.specs.Faults.{first_fault, level_faults}
+use Rattle.elan_check.specs.Text.{Means, Refused, IsEarliest, earliest, known, faults, core_of, HasAnswer, meaning, refusal, not_yet, HasOneAnswer}
+use Rattle.type_names.specs.Faults.{first_fault}
+use Rattle.elan_check.specs.Packets.{AreCompiled}
+use Rattle.elan_check.proofs.Inserted.{is_sound}
 use Rattle.std.proofs.lemmas.Bool.{ltb-true, ltb-false}
 use Rattle.std.specs.Prelude.{nat_lt}
 use Rattle.elan_rules.proofs.First as first
-use Rattle.elan_check.proofs.SameCore.{core_with, core_made}
+use Rattle.elan_check.proofs.SameCore.{core_made}
 
 units_are : (as' bs : List Action) (ps qs : List Body) → Level as' ps ≡ Level bs qs → as' ≡ bs
 units_are as' bs ps qs e = cc
@@ -38,10 +37,11 @@ bodies_are as' bs ps qs e = cc
 
 pub one_core : (env : Env) (t : Tree) (c d : Core) → Means env t c → Means env t d → c ≡ d
 one_core env t c d h k =
-    let e = first.one_meaning (known t) (text t) (Level c.units c.bodies) (Level d.units d.bodies) h.phrases k.phrases in
-    let vs = variables_of (level_names (level_in t)) in
-    sym (core_made c vs h.packets h.inserted h.variables) ∙ ap (λ (b : List Body). core_with vs b c.units) (bodies_are c.units d.units c.bodies d.bodies e)
-    ∙ ap (λ (u : List Action). core_with vs d.bodies u) (units_are c.units d.units c.bodies d.bodies e) ∙ core_made d vs k.packets k.inserted k.variables
+    let e = first.one_meaning (known env t) (text env t) (Level c.units h.own) (Level d.units k.own) h.phrases k.phrases in
+    sym (core_made env t c h.own h.packets h.inserted h.variables h.bodies)
+    ∙ ap (λ (b : List Body). core_of env t c.units b) (bodies_are c.units d.units h.own k.own e)
+    ∙ ap (λ (u : List Action). core_of env t u k.own) (units_are c.units d.units h.own k.own e)
+    ∙ core_made env t d k.own k.packets k.inserted k.variables k.bodies
 
 -- a place is not before itself, nor before one that is before it
 not_both : (m n : ℕ) → m ≤ n → n < m → ⊥
@@ -64,13 +64,13 @@ one_earliest (Some e) First one f g h k =
 
 pub one_refusal : (env : Env) (t : Tree) (f g : Fault) → Refused env t f → Refused env t g → f ≡ g
 one_refusal env t f g h k =
-    one_earliest (first_fault (level_faults (level_in t))) (phrase.IsFirst (known t) (phrase.phrases (text t)))
-    (first.one_first (known t) (phrase.phrases (text t))) f g h.first k.first
+    one_earliest (first_fault (faults env t)) (phrase.IsFirst (known env t) (phrase.phrases (text env t)))
+    (first.one_first (known env t) (phrase.phrases (text env t))) f g h.first k.first
 
 pub meant_is_not_refused : (env : Env) (t : Tree) (c : Core) (f : Fault) → Means env t c → Refused env t f → ⊥
 meant_is_not_refused env t c f h r =
-    first.meant_is_not_refused (known t) (text t) (Level c.units c.bodies) f h.phrases
-    (subst (λ (fs : List Fault). IsEarliest (first_fault fs) (phrase.IsFirst (known t) (phrase.phrases (text t))) f) h.types r.first)
+    first.meant_is_not_refused (known env t) (text env t) (Level c.units h.own) f h.phrases
+    (subst (λ (fs : List Fault). IsEarliest (first_fault fs) (phrase.IsFirst (known env t) (phrase.phrases (text env t))) f) h.types r.first)
 
 -- ---- there is an answer
 
@@ -126,22 +126,28 @@ pub is_earliest : (k : Known) (p : Phrase) (o : Option Fault) (f : Fault) → ea
 is_earliest k p o f e =
     earliest_is o (judged k p) (phrase.IsFirst k (phrase.phrases p)) (λ g h. judged_first k p g h) (λ g h. first.refused_of k p g h) f e
 
-module _ (env : Env) (t : Tree) where
-  abbrev faults : List Fault
-  faults = level_faults (level_in t)
-
-  meant_answer : not_built t ≡ false → faults ≡ [] → (q : Ruled Meant) → judged (known t) (text t) ≡ q → HasAnswer env t
+module _ (env : Env) (compiled : AreCompiled env) (t : Tree) where
+  meant_answer : not_built t ≡ false → faults env t ≡ [] → (q : Ruled Meant) → judged (known env t) (text env t) ≡ q → HasAnswer env t
   meant_answer h n (gives m) e =
-      let d = level_gives (known t) (level_parts (level_in t)) m e in
-      meaning (core_with (variables_of (level_names (level_in t))) d.1 d.0)
-      (record { is_built = h; types = n; packets = refl; inserted = refl; variables = refl; phrases = e ∙ ap (λ (k : Meant). gives k) d.2 })
+      let d = level_gives (known env t) (text_parts env t) m e in
+      meaning (core_of env t d.0 d.1) (record {
+        is_built = h;
+        types = n;
+        packets = refl;
+        inserted = refl;
+        variables = refl;
+        own = d.1;
+        bodies = refl;
+        phrases = e ∙ ap (λ (k : Meant). gives k) d.2;
+      })
   meant_answer h n (breaks f) e =
       refusal f (record {
         is_built = h;
-        first = subst (λ (fs : List Fault). IsEarliest (first_fault fs) (phrase.IsFirst (known t) (phrase.phrases (text t))) f) (sym n)
-            (first.refused_of (known t) (text t) f e);
+        first = subst (λ (fs : List Fault). IsEarliest (first_fault fs) (phrase.IsFirst (known env t) (phrase.phrases (text env t))) f) (sym n)
+            (first.refused_of (known env t) (text env t) f e);
       })
-  meant_answer h n hangs e = absurd (never_hangs (level_in t) n (subst (λ (k : Known). judged k (text t) ≡ hangs) (known_is t) e))
+  meant_answer h n hangs e = let s = is_sound env compiled in
+      absurd (never_hangs env t s.closed s.means n (subst (λ (k : Known). judged k (text env t) ≡ hangs) (known_is env t) e))
 
   some_fault : (d : Fault) (q : Ruled Meant) → (f : Fault) × (earliest (Some d) q ≡ Some f)
   some_fault d (gives m) = (d, refl)
@@ -152,19 +158,19 @@ module _ (env : Env) (t : Tree) where
       by_test true = (g, refl)
       by_test false = (d, refl)
 
-  judged_answer : not_built t ≡ false → (fs : List Fault) → faults ≡ fs → HasAnswer env t
-  judged_answer h [] n = meant_answer h n (judged (known t) (text t)) refl
+  judged_answer : not_built t ≡ false → (fs : List Fault) → faults env t ≡ fs → HasAnswer env t
+  judged_answer h [] n = meant_answer h n (judged (known env t) (text env t)) refl
   judged_answer h (d ∷ fs) n =
-      let f = some_fault d (judged (known t) (text t)) in
+      let f = some_fault d (judged (known env t) (text env t)) in
       refusal f.0 (record {
         is_built = h;
-        first = subst (λ (gs : List Fault). IsEarliest (first_fault gs) (phrase.IsFirst (known t) (phrase.phrases (text t))) f.0) (sym n)
-            (is_earliest (known t) (text t) (Some d) f.0 f.1);
+        first = subst (λ (gs : List Fault). IsEarliest (first_fault gs) (phrase.IsFirst (known env t) (phrase.phrases (text env t))) f.0) (sym n)
+            (is_earliest (known env t) (text env t) (Some d) f.0 f.1);
       })
 
   answer_by : (b : Bool) → not_built t ≡ b → HasAnswer env t
   answer_by true e = not_yet e
-  answer_by false e = judged_answer e faults refl
+  answer_by false e = judged_answer e (faults env t) refl
 
   both_ways : not_built t ≡ false → not_built t ≡ true → ⊥
   both_ways h k = cc

@@ -10,9 +10,13 @@ use Rattle.elan_tree.specs.declared.written_type.TypePhrase.{TypePhrase}
 use Rattle.elan_tree.specs.declared.written_type.Formal.{Formal}
 use Rattle.elan_tree.specs.declared.tree.Body.{Body}
 use Rattle.elan_tree.specs.declared.tree.Refinement.{Refinement}
+use Rattle.elan_tree.specs.declared.tree.Export.{Export}
+use Rattle.elan_tree.specs.declared.tree.Level.{Level}
 use Rattle.elan_tree.specs.declared.tree.LevelUnit.{LevelUnit}
 use Rattle.elan_names.specs.declared.heading.Sort.{Sort}
 use Rattle.elan_names.specs.declared.heading.Sort.TheVariants.{Procedure}
+use Rattle.std.specs.List.{list_any}
+use Rattle.std.specs.Str.{bytes_eq}
 use Rattle.elan_scope.specs.declared.scope.Scope.{Scope}
 use Rattle.elan_scope.specs.declared.known.Known.{Known}
 use Rattle.elan_meant.specs.declared.meant.Meant.{Meant}
@@ -28,7 +32,7 @@ use Rattle.elan_scope.specs.Scope.{first_heading, is_alike, types_of}
 use Rattle.value_rules.specs.Calls as calls
 use Rattle.unit_rules.specs.Units as u
 use Rattle.elan_judge.specs.Shape as shape
-use Rattle.elan_levels.specs.Bodies.{parameters, result, frame, body_within, routine_scope, bodies_in}
+use Rattle.elan_levels.specs.Bodies.{parameters, result, frame, body_within, routine_scope, bodies_in, bodies_of_units}
 use Rattle.elan_bodies.specs.Level as l
 pub use Rattle.elan_judge.proofs.Rows.{Grown, starts, grows, grows_all, ends, left_at, left_none}
 use Rattle.elan_judge.proofs.Rows.{one_is}
@@ -69,6 +73,31 @@ module _ (k : Known) (row : Result (List Meant) Trouble) (one : Result Meant Tro
       subst (λ (j : ℕ). Grown k next (level_units s j (drop (i + 1) us)) whole) (sym em)
       (subst (λ (j : ℕ). Grown k next (level_units s (n + bodies_in u) (drop j us)) whole) index
       (grows_by (l.level_unit s n u) (level_units s (n + bodies_in u) (drop (suc i) us)) whole (left_at (level_units s n) k row us i u whole lt e g) here))
+
+  pub exports_go : (s : Scope) (w : Level) (earlier : List (List ℕ)) (es : List Export) (i : ℕ) (x : Export) (whole : List Phrase) → i < length es
+      → x ≡ get_or es i x →
+      Grown k row (l.exports s w earlier (drop i es)) whole
+      → Is one (judged k (leaf (l.export_place x)
+      (form.exported (list_any (λ y. bytes_eq y (l.export_name x)) earlier) (l.may_show s w (l.export_name x)))))
+      → Grown k next (l.exports s w (earlier ++ l.export_name x ∷ []) (drop (i + 1) es)) whole
+  exports_go s w earlier es i x whole lt e g h =
+      let behind = earlier ++ l.export_name x ∷ [] in
+      let index : suc i ≡ i + 1 = omega arith in
+      subst (λ (j : ℕ). Grown k next (l.exports s w behind (drop j es)) whole) index
+      (grows_by (leaf (l.export_place x) (form.exported (list_any (λ y. bytes_eq y (l.export_name x)) earlier) (l.may_show s w (l.export_name x))))
+      (l.exports s w behind (drop (suc i) es)) whole (left_at (l.exports s w earlier) k row es i x whole lt e g) h)
+
+-- the parts of a level behind what it shows
+pub level_goes : (k : Known) (row : Result (List Meant) Trouble) (s z : Scope) (w : Level) (es : List Phrase) (us : List LevelUnit) (n : ℕ)
+    (rs : List Refinement) → z ≡ s → us ≡ w.units → n ≡ bodies_of_units us → rs ≡ w.refinements
+    → Is row (judged_all k (all_of ((es ++ level_units s 0 us) ++ l.refinements z n rs))) → Is row (judged_all k (all_of (es ++ l.level_parts s w)))
+level_goes k row s z w es us n rs ez eu en er h =
+    subst (λ (ps : List Phrase). Is row (judged_all k (all_of ps)))
+    (append_assoc es (level_units s 0 us) (l.refinements z n rs)
+    ∙ ap (λ (y : Scope). es ++ (level_units s 0 us ++ l.refinements y n rs)) ez
+    ∙ ap (λ (m : ℕ). es ++ (level_units s 0 us ++ l.refinements s m rs)) en
+    ∙ ap (λ (vs : List LevelUnit). es ++ (level_units s 0 vs ++ l.refinements s (bodies_of_units vs) rs)) eu
+    ∙ ap (λ (qs : List Refinement). es ++ (level_units s 0 w.units ++ l.refinements s (bodies_of_units w.units) qs)) er) h
 
 pub formals_go : (k : Known) (row next : Result (List Meant) Trouble) (s : Scope) (fs : List Formal) (i : ℕ) (f : Formal) (whole : List Phrase) → i < length fs
     → f ≡ get_or fs i f →

@@ -1,16 +1,18 @@
--- Cores of programs, which have no packets.
-use Rattle.std.proofs.Common.{◌≡◌, List, [], sym, ap, ◌∙◌}
+-- The core of a text, from what its phrases mean.
+use Rattle.std.proofs.Common.{◌≡◌, List, ◌++◌, sym, ap, ◌∙◌}
 use Rattle.eu_base.specs.declared.value.Kind.{Kind}
-use Rattle.elan_types.specs.declared.core_phrase.Action.{Action}
-use Rattle.elan_types.specs.declared.core_phrase.Body.{Body}
 use Rattle.cell_kinds.specs.declared.packet.Packet.{Packet}
+use Rattle.elan_types.specs.declared.core_phrase.Body.{Body}
 use Rattle.elan_types.specs.declared.core_phrase.Core.{Core}
+use Rattle.elan_tree.specs.declared.tree.Tree.{Tree}
+use Rattle.elan_scope.specs.declared.env.Env.{Env}
+use Rattle.elan_check.specs.Text.{inserted, declared, core_of}
 
-abbrev pub core_with : List Kind → List Body → List Action → Core
-core_with v b u = record { packets = []; inserted = []; variables = v; bodies = b; units = u }
-
-pub core_made : (c : Core) (vs : List Kind) → c.packets ≡ [] → c.inserted ≡ [] → c.variables ≡ vs → core_with vs c.bodies c.units ≡ c
-core_made c vs none own v =
-    let whole : List Packet → List Kind → List Kind → Core =
-    λ ps ks js. record { packets = ps; inserted = ks; variables = js; bodies = c.bodies; units = c.units } in
-    ap (λ ps. whole ps [] vs) (sym none) ∙ ap (λ ks. whole c.packets ks vs) (sym own) ∙ ap (λ js. whole c.packets c.inserted js) (sym v)
+pub core_made : (env : Env) (t : Tree) (c : Core) (own : List Body) → c.packets ≡ env.packets → c.inserted ≡ inserted env t → c.variables ≡ declared env t
+    → c.bodies ≡ env.bodies ++ own → core_of env t c.units own ≡ c
+core_made env t c own p i v b =
+    let whole : List Packet → List Kind → List Kind → List Body → Core =
+    λ ps ks js bs. record { packets = ps; inserted = ks; variables = js; bodies = bs; units = c.units } in
+    ap (λ ps. whole ps (inserted env t) (declared env t) (env.bodies ++ own)) (sym p)
+    ∙ ap (λ ks. whole c.packets ks (declared env t) (env.bodies ++ own)) (sym i)
+    ∙ ap (λ js. whole c.packets c.inserted js (env.bodies ++ own)) (sym v) ∙ ap (λ bs. whole c.packets c.inserted c.variables bs) (sym b)

@@ -2,6 +2,8 @@
 use Rattle.std.proofs.Common.{◌≡◌, ℕ, zero, suc, ◌+◌, Bool, false, ◌||◌, ◌&&◌, List, [], ◌∷◌, ◌++◌, map, length, Option, Some, None, refl, sym, ap, subst, ◌∙◌, inl}
 use Rattle.std.proofs.Common.{inr, arith}
 use Rattle.std.specs.Prelude.{slice_get, slice_index_or}
+use Rattle.std.specs.List.{list_any}
+use Rattle.std.specs.Str.{bytes_eq}
 use Rattle.elan_types.specs.declared.elan_type.ElanType.{ElanType}
 use Rattle.elan_types.specs.declared.elan_type.Parameter.{Parameter}
 use Rattle.elan_types.specs.declared.core_phrase.Scope.{Scope as Owner}
@@ -10,7 +12,9 @@ use Rattle.elan_tree.specs.declared.written_type.Name.{Name}
 use Rattle.elan_tree.specs.declared.written_type.TypePhrase.{TypePhrase}
 use Rattle.elan_tree.specs.declared.written_type.Formal.{Formal}
 use Rattle.elan_tree.specs.declared.tree.Body.{Body as Written}
+use Rattle.elan_tree.specs.declared.tree.Export.{Export}
 use Rattle.elan_tree.specs.declared.tree.Refinement.{Refinement as Refined}
+use Rattle.elan_tree.specs.declared.tree.Tree.{Tree}
 use Rattle.elan_tree.specs.declared.tree.Level.{Level}
 use Rattle.elan_tree.specs.declared.tree.LevelUnit.{LevelUnit}
 use Rattle.elan_tree.specs.declared.tree.LevelUnit.TheVariants as level
@@ -20,8 +24,10 @@ use Rattle.elan_names.specs.declared.heading.Sort.TheVariants.{Procedure, Operat
 use Rattle.elan_names.specs.declared.heading.What.TheVariants.{Routine}
 use Rattle.elan_names.specs.declared.heading.Heading.{Heading}
 use Rattle.elan_scope.specs.declared.scope.Scope.{Scope}
+use Rattle.elan_scope.specs.declared.env.Env.{Env}
+use Rattle.elan_scope.specs.Shown.{shown_types}
 use Rattle.elan_levels.specs.Bodies as b
-use Rattle.elan_levels.specs.Bodies.{headings, parameters, result, frame}
+use Rattle.elan_levels.specs.Bodies.{parameters, result, frame}
 use Rattle.elan_unbuilt.specs.Operators.{operator_text}
 use Rattle.elan_scope.specs.Phrase as form
 use Rattle.elan_scope.specs.Phrase.{Plain, plain, Phrase, none, part, all_of, row, leaf}
@@ -41,9 +47,10 @@ use Rattle.elan_bodies.proofs.Settled.{open_last, calls_are}
 use Rattle.elan_bodies.proofs.Counts.{unit_headings_count, all_headings_count}
 use Rattle.elan_bodies.proofs.Places.{same_length}
 use Rattle.elan_check.proofs.Hanging.{before_both, bind_hangs, before_hangs, IsHeaded, Leaf, leaf_of, body_leaf, clear}
-use Rattle.elan_check.proofs.Closed.{ScopeClosed, HeadingsClosed, nothing_hangs}
+use Rattle.elan_check.proofs.Closed.{ScopeClosed, PacketsClosed, HeadingsClosed, nothing_hangs}
 use Rattle.elan_check.proofs.Clean as clean
-use Rattle.type_names.specs.Faults.{level_faults}
+use Rattle.type_names.proofs.Sound.{Mean}
+use Rattle.elan_check.specs.Text.{faults}
 use Rattle.elan_scope.specs.Scope.{has_open, is_open_result}
 use Rattle.value_rules.specs.Calls.{heading_open}
 use Rattle.elan_meant.specs.Verdict.{Verdict, told, is_given}
@@ -114,7 +121,7 @@ module _ (kn : Known) (s : Scope) where
       let g = before_faultless kn (judged kn (l.refinement z k r)) (judged_all kn (all_of (l.refinements z (suc k) rs))) f in
       let a =
       bind_faultless kn (judged_all kn (part (l.declares z r.name) (part (l.refined_units z k r) none)))
-      (ruled kn 0 (plain (form.refinement (l.owner_of z.routine))))
+      (ruled kn 0 (plain (form.refinement (l.owner_of z))))
       g.0 in
       let c = before_faultless kn (judged kn (l.declares z r.name)) (judged_all kn (part (l.refined_units z k r) none)) a in
       let d = before_faultless kn (judged kn (l.refined_units z k r)) (judged_all kn none) c.1 in (
@@ -181,7 +188,7 @@ module _ (kn : Known) (s : Scope) where
   refinements_lead : (z : Scope) → ScopeClosed z → (k : ℕ) (rs : List Refined) → z.headings ≡ s.headings → AllLead (l.refinements z k rs)
   refinements_lead z cl k [] hh = tt
   refinements_lead z cl k (r ∷ rs) hh = (
-    λ e. phrase_hangs 0 (form.refinement (l.owner_of z.routine)) (l.declares z r.name ∷ l.refined_units z k r ∷ []) (λ ms. refl) (
+    λ e. phrase_hangs 0 (form.refinement (l.owner_of z)) (l.declares z r.name ∷ l.refined_units z k r ∷ []) (λ ms. refl) (
       declares_lead z cl r.name,
       (
         (λ i. (
@@ -300,22 +307,30 @@ module _ (kn : Known) (s : Scope) where
   units_lead cl k [] c = tt
   units_lead cl k (v ∷ vs) c = (unit_lead cl k v c.0, units_lead cl (k + b.bodies_in v) vs c.1)
 
-  pub level_lead : (w : Level) → ScopeClosed s → UnitsClosed 0 w.units
-      → judged kn (row 0 form.level (level_units s 0 w.units ++ l.refinements s (b.bodies_of_units w.units) w.refinements)) ≡ hangs → HangsIn
-  level_lead w cl c e =
-      phrase_hangs 0 form.level (level_units s 0 w.units ++ l.refinements s (b.bodies_of_units w.units) w.refinements) (λ ms. refl)
-      (lead_append (level_units s 0 w.units) (l.refinements s (b.bodies_of_units w.units) w.refinements) (units_lead cl 0 w.units c)
-      (refinements_lead s cl (b.bodies_of_units w.units) w.refinements refl)) e
+  -- Nothing that a packet shows hangs.
+  exports_lead : (w : Level) (earlier : List (List ℕ)) (es : List Export) → AllLead (l.exports s w earlier es)
+  exports_lead w earlier [] = tt
+  exports_lead w earlier (x ∷ es) = (
+    (λ i. phrase_hangs (l.export_place x)
+        (form.exported (list_any (λ y. bytes_eq y (l.export_name x)) earlier) (l.may_show s w (l.export_name x))) [] (λ ms. refl) tt i),
+    exports_lead w (earlier ++ l.export_name x ∷ []) es,
+  )
 
-  pub level_spots : (w : Level) → ScopeClosed s → UnitsClosed 0 w.units
-      → Faultless (judged kn (row 0 form.level (level_units s 0 w.units ++ l.refinements s (b.bodies_of_units w.units) w.refinements)))
-      → Spots 0 (all_headings s.types 0 w.units ++ b.refinement_headings None w.refinements)
-      (all_unit_bodies s 0 w.units ++ l.all_refined_units s (b.bodies_of_units w.units) w.refinements)
-  level_spots w cl c f =
-      let g =
-      bind_faultless kn (judged_all kn (all_of (level_units s 0 w.units ++ l.refinements s (b.bodies_of_units w.units) w.refinements)))
-      (ruled kn 0 (plain form.level)) f in
-      let h = split (level_units s 0 w.units) (l.refinements s (b.bodies_of_units w.units) w.refinements) g in
+  abbrev parts_with : Level → List Export → List Phrase
+  parts_with w es = l.exports s w [] es ++ l.level_parts s w
+
+  pub level_lead : (w : Level) (es : List Export) → ScopeClosed s → UnitsClosed 0 w.units → judged kn (row 0 form.level (parts_with w es)) ≡ hangs → HangsIn
+  level_lead w es cl c e =
+      phrase_hangs 0 form.level (parts_with w es) (λ ms. refl)
+      (lead_append (l.exports s w [] es) (l.level_parts s w) (exports_lead w [] es)
+      (lead_append (level_units s 0 w.units) (l.refinements s (b.bodies_of_units w.units) w.refinements) (units_lead cl 0 w.units c)
+      (refinements_lead s cl (b.bodies_of_units w.units) w.refinements refl))) e
+
+  pub level_spots : (w : Level) (es : List Export) → ScopeClosed s → UnitsClosed 0 w.units → Faultless (judged kn (row 0 form.level (parts_with w es)))
+      → Spots 0 (b.headings_in s.types w) (l.level_bodies s w)
+  level_spots w es cl c f =
+      let g = bind_faultless kn (judged_all kn (all_of (parts_with w es))) (ruled kn 0 (plain form.level)) f in
+      let h = split (level_units s 0 w.units) (l.refinements s (b.bodies_of_units w.units) w.refinements) (split (l.exports s w [] es) (l.level_parts s w) g).1 in
       let z : 0 + length (all_headings s.types 0 w.units) ≡ length (all_headings s.types 0 w.units) = omega arith in
       spots_append 0 (b.bodies_of_units w.units) (all_headings s.types 0 w.units) (b.refinement_headings None w.refinements) (all_unit_bodies s 0 w.units)
       (l.all_refined_units s (b.bodies_of_units w.units) w.refinements) (sym (all_headings_count s.types 0 w.units) ∙ sym z) (units_spots 0 w.units c h.0)
@@ -332,18 +347,21 @@ called_at [] i p e = absurd cc
 called_at (q ∷ ps) zero p e = let h : q ≡ p = cc in ap called_in h
 called_at (q ∷ ps) (suc i) p e = called_at ps i p e
 
-module _ (w : Level) where
+module _ (env : Env) (t : Tree) where
+  abbrev w : Level
+  w = l.level_in t
+
+  abbrev s : Scope
+  s = l.text_scope env t
+
   abbrev hs : List Heading
-  hs = headings w
+  hs = s.headings
 
   abbrev ps : List Phrase
-  ps = l.level_bodies w
+  ps = l.level_bodies s w
 
   abbrev kn : Known
   kn = known_of hs ps
-
-  abbrev s : Scope
-  s = l.level_scope w
 
   abbrev calls : List (List ℕ)
   calls = kn.calls
@@ -377,7 +395,10 @@ module _ (w : Level) where
 
   -- ---- types have meaning
 
-  module _ (faultless : level_faults w ≡ []) where
+  module _ (packets : PacketsClosed env.inserted) (means : Mean (shown_types env)) (faultless : faults env t ≡ []) where
+    abbrev all_clean : clean.AllUnits env.types (shown_types env) means w faultless w.units
+    all_clean = clean.all_clean env.types (shown_types env) means w faultless
+
     refined_headings : (home : Option ℕ) (rs : List Refined) → HeadingsClosed (b.refinement_headings home rs)
     refined_headings home [] = tt
     refined_headings home (r ∷ rs) = (tt, refined_headings home rs)
@@ -386,19 +407,19 @@ module _ (w : Level) where
     headings_append [] is h k = k
     headings_append (g ∷ gs) is h k = (h.0, headings_append gs is h.1 k)
 
-    routine_headings : (k : ℕ) (r : Option TypePhrase) (fs : List Formal) (v : Written) → clean.RoutineClean w faultless r fs v
+    routine_headings : (k : ℕ) (r : Option TypePhrase) (fs : List Formal) (v : Written) → clean.RoutineClean env.types (shown_types env) means w faultless r fs v
         → (sort : Sort) (at : ℕ) (x : List ℕ)
         → HeadingsClosed (b.routine_heading s.types sort at x fs r ∷ b.refinement_headings (Some k) v.refinements)
     routine_headings k r fs v c sort at x =
-        ((clean.parameters_closed w faultless r fs v c, clean.delivers_closed w faultless r fs v c), refined_headings (Some k) v.refinements)
+        ((clean.parameters_closed env.types (shown_types env) means w faultless r fs v c, clean.delivers_closed env.types (shown_types env) means w faultless r fs v c), refined_headings (Some k) v.refinements)
 
-    unit_headings : (k : ℕ) (v : LevelUnit) → clean.UnitClean w faultless v → HeadingsClosed (b.unit_headings s.types k v)
+    unit_headings : (k : ℕ) (v : LevelUnit) → clean.UnitClean env.types (shown_types env) means w faultless v → HeadingsClosed (b.unit_headings s.types k v)
     unit_headings k (level.Plain u) c = tt
     unit_headings k (level.NewType at n of) c = tt
     unit_headings k (level.Proc at r n fs v) c = routine_headings k r fs v c Procedure n.at n.text
     unit_headings k (level.Op at r n fs v) c = routine_headings k r fs v c Operator n.at (operator_text n.operator)
 
-    units_headings : (k : ℕ) (vs : List LevelUnit) → clean.AllUnits w faultless vs → HeadingsClosed (all_headings s.types k vs)
+    units_headings : (k : ℕ) (vs : List LevelUnit) → clean.AllUnits env.types (shown_types env) means w faultless vs → HeadingsClosed (all_headings s.types k vs)
     units_headings k [] c = tt
     units_headings k (v ∷ vs) c =
         headings_append (b.unit_headings s.types k v) (all_headings s.types (k + b.bodies_in v) vs) (unit_headings k v c.0)
@@ -407,48 +428,48 @@ module _ (w : Level) where
     all_closed : HeadingsClosed hs
     all_closed =
         headings_append (all_headings s.types 0 w.units) (b.refinement_headings None w.refinements)
-        (units_headings 0 w.units (clean.all_clean w faultless)) (refined_headings None w.refinements)
+        (units_headings 0 w.units all_clean) (refined_headings None w.refinements)
 
     level_is_closed : ScopeClosed s
     level_is_closed = record {
-      packets = tt;
-      level = clean.level_closed w faultless;
+      packets = packets;
+      level = clean.level_closed env.types (shown_types env) means w faultless;
       routine = tt;
       headings = all_closed;
-      types = clean.level_means w faultless;
+      types = clean.level_means env.types (shown_types env) means w faultless;
     }
 
-    routine_closed : (k : ℕ) (r : Option TypePhrase) (fs : List Formal) (v : Written) → clean.RoutineClean w faultless r fs v
+    routine_closed : (k : ℕ) (r : Option TypePhrase) (fs : List Formal) (v : Written) → clean.RoutineClean env.types (shown_types env) means w faultless r fs v
         → RoutineClosed kn s k r fs v
     routine_closed k r fs v c = (
-      clean.parameters_closed w faultless r fs v c,
-      clean.delivers_closed w faultless r fs v c,
+      clean.parameters_closed env.types (shown_types env) means w faultless r fs v c,
+      clean.delivers_closed env.types (shown_types env) means w faultless r fs v c,
       record {
-        packets = tt;
-        level = clean.level_closed w faultless;
-        routine = clean.body_closed w faultless r fs v c;
+        packets = packets;
+        level = clean.level_closed env.types (shown_types env) means w faultless;
+        routine = clean.body_closed env.types (shown_types env) means w faultless r fs v c;
         headings = all_closed;
-        types = clean.body_means w faultless r fs v c;
+        types = clean.body_means env.types (shown_types env) means w faultless r fs v c;
       },
     )
 
-    unit_is_closed : (k : ℕ) (v : LevelUnit) → clean.UnitClean w faultless v → UnitClosed kn s k v
+    unit_is_closed : (k : ℕ) (v : LevelUnit) → clean.UnitClean env.types (shown_types env) means w faultless v → UnitClosed kn s k v
     unit_is_closed k (level.Plain u) c = tt
     unit_is_closed k (level.NewType at n of) c = tt
     unit_is_closed k (level.Proc at r n fs v) c = routine_closed k r fs v c
     unit_is_closed k (level.Op at r n fs v) c = routine_closed k r fs v c
 
-    units_are_closed : (k : ℕ) (vs : List LevelUnit) → clean.AllUnits w faultless vs → UnitsClosed kn s k vs
+    units_are_closed : (k : ℕ) (vs : List LevelUnit) → clean.AllUnits env.types (shown_types env) means w faultless vs → UnitsClosed kn s k vs
     units_are_closed k [] c = tt
     units_are_closed k (v ∷ vs) c = (unit_is_closed k v c.0, units_are_closed (k + b.bodies_in v) vs c.1)
 
-    pub never_hangs : judged kn (l.level_phrase w) ≡ hangs → ⊥
+    pub never_hangs : judged kn (l.text env t) ≡ hangs → ⊥
     never_hangs e =
-        let f : Faultless (judged kn (l.level_phrase w)) = subst (λ (q : Ruled Meant). Faultless q) (sym e) open_one in
+        let f : Faultless (judged kn (l.text env t)) = subst (λ (q : Ruled Meant). Faultless q) (sym e) open_one in
         let cl = level_is_closed in
-        let us = units_are_closed 0 w.units (clean.all_clean w faultless) in
-        let sp : Spots kn s 0 hs ps = level_spots kn s w cl us f in
-        let h = level_lead kn s w cl us e in
+        let us = units_are_closed 0 w.units all_clean in
+        let sp : Spots kn s 0 hs ps = level_spots kn s w (l.exports_in t) cl us f in
+        let h = level_lead kn s w (l.exports_in t) cl us e in
         let g = leaf_of kn h.0 h.5 h.1 h.2 h.4 in
         no_walk calls (length calls) (λ f c. Goes c) (λ f c. step sp c) (λ f c. small sp c) hs (sym (counted sp)) g.0
         (leaf_goes h.0 (called_in h.1) h.3 g)

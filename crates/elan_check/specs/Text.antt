@@ -1,20 +1,23 @@
 -- The meaning of a text, and why it has none.
-use Rattle.std.specs.Prelude.{◌≡◌, ◌≤◌, ◌<◌, ◌⊎◌, nat_lt, if◌then◌else◌, true, false, [], Option, Some, None, Result, Ok, Err}
-use Rattle.elan_types.specs.declared.env.Env.{Env}
+use Rattle.std.specs.Prelude.{◌≡◌, ◌≤◌, ◌<◌, ◌⊎◌, nat_lt, if◌then◌else◌, true, false, List, [], ◌++◌, Option, Some, None, Result, Ok, Err}
+use Rattle.eu_base.specs.declared.value.Kind.{Kind}
 use Rattle.elan_types.specs.declared.core_phrase.Core.{Core}
+use Rattle.elan_types.specs.declared.core_phrase.Action.{Action}
+use Rattle.elan_types.specs.declared.core_phrase.Body.{Body}
 use Rattle.elan_tree.specs.declared.tree.Tree.{Tree}
+use Rattle.elan_tree.specs.declared.tree.Tree.TheVariants as tree
 use Rattle.elan_check.specs.declared.error.CheckError.{CheckError}
 use Rattle.elan_check.specs.declared.error.CheckError.TheVariants.{NoMemory, NoMeaning, NotBuilt}
-use Rattle.elan_types.specs.Typing.{IsWellTyped}
-use Rattle.elan_tree.specs.declared.tree.Level.{Level}
 use Rattle.elan_meant.specs.declared.meant.Meant.TheVariants as means
 use Rattle.elan_unbuilt.specs.NotBuilt.{not_built}
+use Rattle.elan_scope.specs.declared.env.Env.{Env}
 use Rattle.elan_scope.specs.Scope.{variables_of}
-use Rattle.elan_levels.specs.Bodies.{level_names, headings}
+use Rattle.elan_scope.specs.Shown.{shown_types}
+use Rattle.elan_levels.specs.Bodies.{level_names}
 use Rattle.elan_meant.specs.declared.meant.Meant.{Meant}
 use Rattle.elan_scope.specs.Ruled.{Fault, Ruled, gives, breaks}
 use Rattle.type_names.specs.Faults.{first_fault, level_faults}
-use Rattle.elan_bodies.specs.Level.{level_in, level_phrase, level_bodies, text}
+use Rattle.elan_bodies.specs.Level.{level_in, level_bodies, text_scope, text}
 use Rattle.elan_scope.specs.declared.known.Known.{Known}
 use Rattle.elan_bodies.specs.Refinements.{bodies_within, known_of}
 use Rattle.elan_rules.specs.Meaning as phrase
@@ -23,18 +26,36 @@ use Rattle.elan_rules.specs.Meaning as phrase
 abbrev pub IsNotBuilt : Tree → Type 0
 IsNotBuilt t = not_built t ≡ true
 
--- what is known of the bodies of a text
-abbrev pub known : Tree → Known
-known t = known_of (headings (level_in t)) (bodies_within (text t))
+-- after these packets
+module _ (env : Env) where
+  -- what is known of the bodies of a text
+  abbrev pub known : Tree → Known
+  known t = known_of (text_scope env t).headings (bodies_within (text env t))
 
--- The text has this core.
+  -- the faults of types in a text, in text order
+  abbrev pub faults : Tree → List Fault
+  faults t = level_faults env.types (shown_types env) (level_in t)
+
+  -- The variables and constants of a packet stand behind those of the packets before it, and are inserted with it.
+  abbrev pub inserted : Tree → List Kind
+  inserted (tree.Program l) = []
+  inserted (tree.Packet at n exports l) = variables_of (level_names env l)
+
+  -- A program has its own.
+  abbrev pub declared : Tree → List Kind
+  declared (tree.Program l) = variables_of (level_names env l)
+  declared (tree.Packet at n exports l) = []
+
+-- The text has this core after these packets: its bodies stand behind theirs.
 pub record Means (env : Env) (t : Tree) (c : Core) : Type 0 where
   pub is_built : not_built t ≡ false
-  pub types : level_faults (level_in t) ≡ []
-  pub packets : c.packets ≡ []
-  pub inserted : c.inserted ≡ []
-  pub variables : c.variables ≡ variables_of (level_names (level_in t))
-  pub phrases : phrase.Means (known t) (text t) (means.Level c.units c.bodies)
+  pub types : faults env t ≡ []
+  pub packets : c.packets ≡ env.packets
+  pub inserted : c.inserted ≡ inserted env t
+  pub variables : c.variables ≡ declared env t
+  pub own : List Body
+  pub bodies : c.bodies ≡ env.bodies ++ own
+  pub phrases : phrase.Means (known env t) (text env t) (means.Level c.units own)
 
 -- The fault stands before all others: it is the first one of a type, or that of the first phrase that breaks a rule.
 abbrev pub IsEarliest : Option Fault → (Fault → Type 0) → Fault → Type 0
@@ -44,7 +65,7 @@ IsEarliest (Some e) First f = ((f ≡ e) × ((g : Fault) → First g → e.0 ≤
 -- This is the place of the first phrase that breaks a rule though all its parts have meaning, and its reason. Types are phrases too.
 pub record Refused (env : Env) (t : Tree) (fault : Fault) : Type 0 where
   pub is_built : not_built t ≡ false
-  pub first : IsEarliest (first_fault (level_faults (level_in t))) (phrase.IsFirst (known t) (phrase.phrases (text t))) fault
+  pub first : IsEarliest (first_fault (faults env t)) (phrase.IsFirst (known env t) (phrase.phrases (text env t))) fault
 
 abbrev pub IsCore : Core → Result Core CheckError → Type 0
 IsCore core (Ok c) = c ≡ core
@@ -72,21 +93,25 @@ IsFault fault NoMemory = Unit {0}
 IsFault fault (NoMeaning at why) = fault ≡ Some (at, why)
 IsFault fault NotBuilt = ⊥
 
-abbrev pub judged_level : Level → Ruled Meant
-judged_level l = phrase.judged (known_of (headings l) (level_bodies l)) (level_phrase l)
+-- what is known of the bodies of a text as they are gone over, and what it means, or its first fault, as phrases are judged
+abbrev pub bodies_known : Env → Tree → Known
+bodies_known env t = known_of (text_scope env t).headings (level_bodies (text_scope env t) (level_in t))
 
--- the meaning of a level, or its first fault
-abbrev pub Answers : Level → Result Core CheckError → Type 0
-Answers l (Ok core) =
-    (level_faults l ≡ [])
-    × (core.packets ≡ [])
-    × (core.inserted ≡ [])
-    × (core.variables ≡ variables_of (level_names l))
-    × (judged_level l ≡ gives (means.Level core.units core.bodies))
-    × IsWellTyped core
-Answers l (Err NoMemory) = Unit {0}
-Answers l (Err (NoMeaning at why)) = earliest (first_fault (level_faults l)) (judged_level l) ≡ Some (at, why)
-Answers l (Err NotBuilt) = ⊥
+abbrev pub judged_text : Env → Tree → Ruled Meant
+judged_text env t = phrase.judged (bodies_known env t) (text env t)
+
+-- the core of a text with these units and bodies
+abbrev pub core_of : Env → Tree → List Action → List Body → Core
+core_of env t us own =
+    record { packets = env.packets; inserted = inserted env t; variables = declared env t; bodies = env.bodies ++ own; units = us }
+
+-- the meaning of a text, or its first fault
+abbrev pub Answers : Env → Tree → Result Core CheckError → Type 0
+Answers env t (Ok core) =
+    (faults env t ≡ []) × (own : List Body) × (core ≡ core_of env t core.units own) × (judged_text env t ≡ gives (means.Level core.units own))
+Answers env t (Err NoMemory) = Unit {0}
+Answers env t (Err (NoMeaning at why)) = earliest (first_fault (faults env t)) (judged_text env t) ≡ Some (at, why)
+Answers env t (Err NotBuilt) = ⊥
 
 -- A text has a core, or is refused, or has what is not built yet.
 pub data HasAnswer (env : Env) (t : Tree) : Type 0 where

@@ -1,12 +1,13 @@
 //! Laws of meaning.
 
 ghost use Rattle.std.specs.Prelude.{◌≡◌, ◌⊎◌};
-ghost use Rattle.elan_types.specs.declared.env.Env.{Env};
+ghost use Rattle.elan_scope.specs.declared.env.Env.{Env};
 ghost use Rattle.elan_types.specs.declared.core_phrase.Core.{Core};
 ghost use Rattle.elan_tree.specs.declared.tree.Tree.{Tree};
 ghost use Rattle.elan_types.specs.Typing.{IsWellTyped};
 ghost use Rattle.elan_scope.specs.Ruled.{Fault};
 ghost use Rattle.elan_check.specs.Text.{Means, Refused, IsNotBuilt, HasOneAnswer};
+ghost use Rattle.elan_check.specs.Packets.{AreCompiled};
 
 /// A text has at most one core.
 pub fn one_core()
@@ -23,12 +24,12 @@ pub fn meant_is_not_refused()
     ensures { (env : Env) → (t : Tree) → (c : Core) → (f : Fault) → Means env t c → Refused env t f → ⊥ }
 {}
 
-/// Each text has a core, or is refused, or has what is not built yet, and only one of these.
+/// Behind packets each text has a core, or is refused, or has what is not built yet, and only one of these.
 pub fn each_text_has_one_answer()
-    ensures { (env : Env) → (t : Tree) → HasOneAnswer env t }
+    ensures { (env : Env) → AreCompiled env → (t : Tree) → HasOneAnswer env t }
 {}
 
-/// A core that a text means is well typed.
+/// A core that a text means behind packets is well typed.
 pub fn what_a_text_means_is_well_typed()
-    ensures { (env : Env) → (t : Tree) → (c : Core) → Means env t c → IsWellTyped c }
+    ensures { (env : Env) → AreCompiled env → (t : Tree) → (c : Core) → Means env t c → IsWellTyped c }
 {}

@@ -48,12 +48,16 @@ pub struct Routine<'a> {
 
 // ---- refinements
 
-fn owner_of(scope: &Scope) -> Owner
-    ensures { result ≡ spec.owner_of scope.now.routine }
+// Whose refinements stand in a scope.
+fn owner_of(scope: &Scope) -> Result<Owner, NoMemory>
+    ensures { IfOk result (λ owner. owner ≡ spec.owner_of scope.now) }
 {
     match &scope.routine {
-        None => Owner::Level,
-        Some(within) => Owner::Of(within.number),
+        None => Ok(Owner::Level),
+        Some(within) => {
+            let number = scope.bodies_before.checked_add(within.number);
+            Ok(Owner::Of(number.ok_or(NoMemory)?))
+        }
     }
 }
 
@@ -68,6 +72,7 @@ fn judge_refinement(
     ensures meaning { Is result (judged known.now (spec.refinement scope.old number refinement.now)) }
     ensures kept { scope.new ≡ scope.old }
 {
+    let owner = owner_of(scope)?;
     let name = declared(
         alloc,
         refinement.name.at,
@@ -83,7 +88,7 @@ fn judge_refinement(
         refinement.units.as_slice(),
     );
     scope.refinement = None;
-    refinement_phrase(alloc, owner_of(scope), name, units)
+    refinement_phrase(alloc, owner, name, units)
 }
 
 /// Whether nothing that stands behind can change what phrases mean: one of them breaks a rule, or memory ran out.

@@ -2,29 +2,29 @@
 
 ghost use Rattle.std.specs.Prelude.{◌≡◌, ◌↔◌, IfOk, Err};
 ghost use Rattle.elan_types.specs.Typing.{IsWellTyped};
-ghost use Rattle.elan_types.specs.declared.env.Env.{Env};
 ghost use Rattle.elan_types.specs.declared.core_phrase.Core.{Core};
 ghost use Rattle.elan_tree.specs.declared.tree.Tree.{Tree};
 ghost use Rattle.elan_check.specs.declared.error.CheckError.TheVariants as errors;
 ghost use Rattle.elan_scope.specs.Ruled.{Fault};
 ghost use Rattle.elan_check.specs.Text as text;
 
+use crate::core::core_of;
 use crate::error::CheckError;
-use crate::level::core_of;
+use crate::packets::Packets;
 use elan_tree::Tree;
-use elan_types::{Core, Env};
+use elan_types::Core;
 use elan_unbuilt::has_unbuilt;
 use std::alloc::Global;
 
-/// The one core of a text, or the first phrase in text order that breaks a rule though all its parts have meaning, and the
-/// rule.
-pub fn check(alloc: Global, tree: &Tree, env: &Env) -> Result<Core, CheckError>
+/// The one core of a text that stands behind packets, or the first phrase in text order that breaks a rule though all its parts
+/// have meaning, and the rule.
+pub fn check(alloc: Global, tree: &Tree, packets: &Packets) -> Result<Core, CheckError>
     // What it gives is the meaning.
-    ensures meaning { IfOk result (λ core. text.Means env.now tree.now core) }
+    ensures meaning { IfOk result (λ core. text.Means packets.now tree.now core) }
     // A text that has a meaning is not refused.
-    ensures only { (core : Core) → text.Means env.now tree.now core → text.IsCore core result }
+    ensures only { (core : Core) → text.Means packets.now tree.now core → text.IsCore core result }
     // The refusal is the first one.
-    ensures refused { text.IsRefusal (text.Refused env.now tree.now) result }
+    ensures refused { text.IsRefusal (text.Refused packets.now tree.now) result }
     // A text with a phrase or a name that is not built has no other answer, and no other text has this one.
     ensures not_built { (result ≡ Err errors.NotBuilt) ↔ text.IsNotBuilt tree.now }
     // A core is well typed, so code can be made of it.
@@ -33,8 +33,5 @@ pub fn check(alloc: Global, tree: &Tree, env: &Env) -> Result<Core, CheckError>
     if has_unbuilt(tree) {
         return Err(CheckError::NotBuilt);
     }
-    match tree {
-        Tree::Program(level) => core_of(alloc, level),
-        Tree::Packet { .. } => Err(CheckError::NotBuilt),
-    }
+    core_of(alloc, packets.env(), tree)
 }

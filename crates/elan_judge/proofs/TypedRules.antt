@@ -1,5 +1,5 @@
 -- What a phrase means has the kinds that it asks for.
-use Rattle.std.proofs.Common.{◌≡◌, ℕ, Bool, List, [], ◌∷◌, drop, length, Option, Some, None, refl, sym, subst}
+use Rattle.std.proofs.Common.{◌≡◌, ℕ, Bool, true, false, List, [], ◌∷◌, drop, length, Option, Some, None, refl, sym, subst}
 use Rattle.elan_meant.specs.declared.meant.Meant.{Meant}
 use Rattle.elan_scope.specs.Ruled.{Ruled, gives}
 use Rattle.elan_meant.specs.Verdict.{Verdict, told}
@@ -59,6 +59,11 @@ module _ (here : Stand) (s : Scope) (k : Known) (fits : Fits here s k) where
   type_good at None = tt
   type_good at (Some t) = on_if Good (nat_eq t.at at) _ _ (λ e. refl) (λ e. tt)
 
+  exported_good : (at : ℕ) (may : Option Bool) → Gives Good (r.exported_as at may)
+  exported_good at None = tt
+  exported_good at (Some false) = tt
+  exported_good at (Some true) = refl
+
   plain_rules : (at : ℕ) (f : Plain) (ms : List Meant) → Names s (plain f) → AllGood ms → Gives Good (rule at f ms)
   plain_rules at form.absent ms i g = tt
   plain_rules at form.not_built ms i g = tt
@@ -82,6 +87,7 @@ module _ (here : Stand) (s : Scope) (k : Known) (fits : Fits here s k) where
   plain_rules at form.declaration ms i g = ty.unit_typed here (p.actions_of ms) (ty.actions_of_typed here ms g)
   plain_rules at form.definition ms i g = refl
   plain_rules at (form.type_name z x) ms i g = type_good at (scope.find_own_type z x)
+  plain_rules at (form.exported doubled may) ms i g = on_if Good doubled _ _ (λ e. tt) (λ e. exported_good at may)
   plain_rules at form.statement ms i g = alone_good here (p.nth ms 0) (good_part ms 0 g)
   plain_rules at (form.assignment z) ms i g =
       in_scope (λ y. all.assignment at y (p.nth ms 0) (p.nth ms 1)) z i (assignment_good at (p.nth ms 0) (p.nth ms 1) (good_part ms 0 g) (good_part ms 1 g))

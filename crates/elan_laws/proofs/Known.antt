@@ -8,6 +8,7 @@ use Rattle.elan_scope.specs.declared.delivery.Delivery.TheVariants.{Open, Nothin
 use Rattle.elan_names.specs.declared.heading.What.{What}
 use Rattle.elan_names.specs.declared.heading.What.TheVariants.{Routine, Refinement}
 use Rattle.elan_names.specs.declared.heading.Heading.{Heading}
+use Rattle.elan_scope.specs.declared.env.Env.{Env}
 use Rattle.elan_scope.specs.declared.known.Known.{Known}
 use Rattle.elan_scope.specs.Known.{delivered, delivery_at}
 use Rattle.elan_scope.specs.Phrase.{Phrase}
@@ -83,5 +84,5 @@ module _ (hs : List Heading) (us : List Phrase) (i : ℕ) (h : Heading) (u : Phr
       told_found hs us i h u has does (λ q. never_open r (sym said ∙ q)) ∙ said
   settles (Refinement home) e = refinement_settles (ap says e)
 
-pub settled : (t : Tree) → IsSettled t
-settled t = λ n h u has does. settles (headings (level_in t)) (bodies_within (text t)) n h u has does h.what refl
+pub settled : (env : Env) (t : Tree) → IsSettled env t
+settled env t = λ n h u has does. settles (headings env (level_in t)) (bodies_within (text env t)) n h u has does h.what refl

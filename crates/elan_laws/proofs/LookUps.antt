@@ -37,6 +37,7 @@ use Rattle.elan_levels.specs.Declarations as d
 use Rattle.elan_names.specs.declared.type_name.TypeName.{TypeName}
 use Rattle.elan_names.specs.Types.{first_type}
 use Rattle.type_names.specs.Types.{type_name, names_from, names_of, in_units, in_refinements, refinement_definitions}
+use Rattle.type_names.proofs.Looked.{look_append}
 use Rattle.type_definitions.specs.declared.definition.Definition.{Definition}
 use Rattle.elan_levels.specs.Bodies as b
 use Rattle.elan_laws.specs.Served.{HasBody}
@@ -142,19 +143,19 @@ named z x h = named_by z z.routine x h
 
 -- ---- names of types
 
-type_from : (around : List TypeName) (all : List Definition) (k : ℕ) (ds : List Definition) (x : List ℕ) → Defines ds x
-    → is_some (first_type x (names_from around all k ds)) ≡ true
-type_from around all k [] x h = absurd h
-type_from around all k (e ∷ es) x h =
+type_from : (first : ℕ) (around : List TypeName) (all : List Definition) (k : ℕ) (ds : List Definition) (x : List ℕ) → Defines ds x
+    → is_some (first_type x (names_from first around all k ds)) ≡ true
+type_from first around all k [] x h = absurd h
+type_from first around all k (e ∷ es) x h =
     by_test (bytes_eq e.name x) refl
     (elim h [
       | inl g ↦ inl (subst (λ (y : List ℕ). bytes_eq e.name y ≡ true) g (bytes_self e.name))
-      | inr g ↦ inr (type_from around all (k + 1) es x g)
+      | inr g ↦ inr (type_from first around all (k + 1) es x g)
     ])
   where
     by_test : (c : Bool) → bytes_eq e.name x ≡ c
-        → (bytes_eq e.name x ≡ true) ⊎ (is_some (first_type x (names_from around all (k + 1) es)) ≡ true)
-        → is_some (if c then Some (type_name around all k e) else first_type x (names_from around all (k + 1) es)) ≡ true
+        → (bytes_eq e.name x ≡ true) ⊎ (is_some (first_type x (names_from first around all (k + 1) es)) ≡ true)
+        → is_some (if c then Some (type_name first around all k e) else first_type x (names_from first around all (k + 1) es)) ≡ true
     by_test true i g = refl
     by_test false i g =
         elim g [
@@ -162,8 +163,20 @@ type_from around all k (e ∷ es) x h =
           | inr j ↦ j
         ]
 
-pub type_named : (around : List TypeName) (ds : List Definition) (x : List ℕ) → Defines ds x → is_some (first_type x (names_of around ds)) ≡ true
-type_named around ds x h = type_from around ds 0 ds x h
+pub type_named : (first : ℕ) (around : List TypeName) (ds : List Definition) (x : List ℕ) → Defines ds x
+    → is_some (first_type x (names_of first around ds)) ≡ true
+type_named first around ds x h = type_from first around ds 0 ds x h
+
+-- before the names that are declared around
+pub type_seen : (first : ℕ) (around : List TypeName) (ds : List Definition) (x : List ℕ) → Defines ds x
+    → is_some (first_type x (names_of first around ds ++ around)) ≡ true
+type_seen first around ds x h =
+    ap is_some (look_append x (names_of first around ds) around)
+    ∙ or_found (first_type x (names_of first around ds)) (first_type x around) (type_named first around ds x h)
+  where
+    or_found : (o p : Option TypeName) → is_some o ≡ true → is_some (option_or o p) ≡ true
+    or_found None p e = absurd cc
+    or_found (Some t) p e = refl
 
 pub both_true : (c e : Bool) → c ≡ true → e ≡ true → (c && e) ≡ true
 both_true true e f g = g

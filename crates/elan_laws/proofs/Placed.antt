@@ -279,6 +279,12 @@ module _ (ns : List ℕ) where
     leaving_placed k None m = here
     leaving_placed k (Some e) m = on_if Placed (r.agrees (delivery_at k e.1) m) _ _ tt here
 
+    exported_placed : (doubled : Bool) (may : Option Bool) → Tells Placed (r.exported at doubled may)
+    exported_placed true may = here
+    exported_placed false None = here
+    exported_placed false (Some false) = here
+    exported_placed false (Some true) = tt
+
     -- ---- stores and loops
 
     stored_placed : (m n : Meant) → Placed m → Tells Any (u.stored at m n)
@@ -416,6 +422,7 @@ module _ (ns : List ℕ) where
   rule_placed at (form.body q t) ms h g = tt
   rule_placed at form.routine ms h g = tt
   rule_placed at (form.refinement q) ms h g = tt
+  rule_placed at (form.exported doubled may) ms h g = exported_placed at h doubled may
   rule_placed at form.level ms h g = tt
 
   pub ruled_placed : (k : Known) (at : ℕ) (f : Form) (ms : List Meant) → Owned at f → AllPlaced ms → MayTell Placed (ruled k at f ms)

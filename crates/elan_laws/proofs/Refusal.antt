@@ -1,9 +1,9 @@
 -- A refusal is at a place of the text.
 use Rattle.std.proofs.Common.{◌≡◌, ℕ, suc, false, List, [], ◌∷◌, ◌++◌, Option, Some, None, refl, sym, ap, subst, ◌∙◌, arith, inl, inr}
 use Rattle.std.specs.List.{Contains}
-use Rattle.elan_types.specs.declared.env.Env.{Env}
 use Rattle.elan_tree.specs.declared.tree.Tree.{Tree}
 use Rattle.elan_meant.specs.declared.meant.Meant.{Meant}
+use Rattle.elan_scope.specs.declared.env.Env.{Env}
 use Rattle.elan_scope.specs.declared.known.Known.{Known}
 use Rattle.elan_scope.specs.Phrase.{Phrase, phrase, Parts, none, part}
 use Rattle.elan_scope.specs.Ruled.{Fault, Ruled, gives, breaks, hangs, ◌>>=◌, before}
@@ -11,9 +11,9 @@ use Rattle.elan_rules.specs.Rules.{ruled}
 use Rattle.elan_rules.specs.Meaning.{phrases, IsFirst, judged, judged_all}
 use Rattle.elan_rules.proofs.First as first
 use Rattle.elan_unbuilt.specs.NotBuilt.{not_built}
-use Rattle.type_names.specs.Faults.{first_fault, level_faults}
-use Rattle.elan_bodies.specs.Level.{level_in, text}
-use Rattle.elan_check.specs.Text.{IsEarliest, Refused, known}
+use Rattle.type_names.specs.Faults.{first_fault}
+use Rattle.elan_bodies.specs.Level.{text}
+use Rattle.elan_check.specs.Text.{IsEarliest, Refused, faults, known}
 use Rattle.elan_laws.specs.Places.{places, type_places}
 use Rattle.elan_laws.specs.Order.{Follows, ends, stays, goes_on, own, in_phrase, in_parts}
 use Rattle.elan_laws.proofs.Through as thr
@@ -74,15 +74,15 @@ first_in ns [] e h i = absurd cc
 first_in ns (g ∷ fs) e h i =
     let j : g ≡ e = cc in subst (λ (q : Fault). In ns q.0) j (thr.through (thr.begun g.0 (ends (told_at fs))) h)
 
-module _ (t : Tree) where
+module _ (env : Env) (t : Tree) where
   abbrev first_phrase : Fault → Type 0
-  first_phrase f = IsFirst (known t) (phrases (text t)) f
+  first_phrase f = IsFirst (known env t) (phrases (text env t)) f
 
   phrase_in : (f : Fault) → first_phrase f → In (places t) f.0
   phrase_in f h =
-      let same = text_same t in
-      let placed = judged_placed (known t) (places t) (text t) same.to in
-      fault_placed (known t) (places t) (text t) f h (judged (known t) (text t)) refl placed
+      let same = text_same env t in
+      let placed = judged_placed (known env t) (places t) (text env t) same.to in
+      fault_placed (known env t) (places t) (text env t) f h (judged (known env t) (text env t)) refl placed
 
   pub phrase_at_place : (f : Fault) → first_phrase f → Contains (places t) f.0
   phrase_at_place f h = contains f.0 (places t) (phrase_in f h)
@@ -92,11 +92,10 @@ module _ (t : Tree) where
   abbrev all : List ℕ
   all = places t ++ type_places t
 
-  type_in : not_built t ≡ false → (f : Fault) → first_fault (level_faults (level_in t)) ≡ Some f → In all f.0
-  type_in b f e = thr.behind (places t) (first_in (type_places t) (level_faults (level_in t)) f (faults_follow t b) e)
+  type_in : not_built t ≡ false → (f : Fault) → first_fault (faults env t) ≡ Some f → In all f.0
+  type_in b f e = thr.behind (places t) (first_in (type_places t) (faults env t) f (faults_follow env t b) e)
 
-  earliest_in : not_built t ≡ false → (f : Fault) (o : Option Fault) → first_fault (level_faults (level_in t)) ≡ o
-      → IsEarliest o first_phrase f → In all f.0
+  earliest_in : not_built t ≡ false → (f : Fault) (o : Option Fault) → first_fault (faults env t) ≡ o → IsEarliest o first_phrase f → In all f.0
   earliest_in b f None e h = thr.before (type_places t) (phrase_in f h)
   earliest_in b f (Some g) e h =
       elim h [
@@ -104,6 +103,5 @@ module _ (t : Tree) where
         | inr i ↦ thr.before (type_places t) (phrase_in f i.0)
       ]
 
-pub refused_at_place : (env : Env) (t : Tree) (f : Fault) → Refused env t f → Contains (places t ++ type_places t) f.0
-refused_at_place env t f h =
-    contains f.0 (places t ++ type_places t) (earliest_in t h.is_built f (first_fault (level_faults (level_in t))) refl h.first)
+  pub refused_at_place : (f : Fault) → Refused env t f → Contains (places t ++ type_places t) f.0
+  refused_at_place f h = contains f.0 (places t ++ type_places t) (earliest_in h.is_built f (first_fault (faults env t)) refl h.first)

@@ -21,6 +21,7 @@ use Rattle.elan_tree.specs.declared.written_type.Size.TheVariants as sizes
 use Rattle.elan_tree.specs.declared.written_type.Formal.{Formal}
 use Rattle.elan_tree.specs.declared.tree.Body.{Body}
 use Rattle.elan_tree.specs.declared.tree.Refinement.{Refinement}
+use Rattle.elan_tree.specs.declared.tree.Level.{Level}
 use Rattle.elan_tree.specs.declared.tree.LevelUnit.{LevelUnit}
 use Rattle.elan_tree.specs.declared.tree.LevelUnit.TheVariants as level
 use Rattle.elan_tree.specs.declared.tree.Tree.{Tree}
@@ -33,16 +34,18 @@ use Rattle.elan_unbuilt.specs.Types.{is_type_built, is_field_built, is_size_buil
 use Rattle.elan_names.specs.declared.type_name.TypeName.{TypeName}
 use Rattle.elan_names.specs.declared.type_name.Named.{Named}
 use Rattle.elan_names.specs.declared.type_name.Named.TheVariants as named
+use Rattle.elan_scope.specs.declared.env.Env.{Env}
 use Rattle.elan_scope.specs.Ruled.{Fault}
+use Rattle.elan_scope.specs.Shown.{shown_types}
 use Rattle.type_definitions.specs.declared.definition.Definition.{Definition}
 use Rattle.type_names.specs.Types.{first_from, names_of, body_definitions, level_definitions, look, size_in, size_of, is_broken}
 use Rattle.type_names.specs.Faults as faults
 use Rattle.type_names.specs.Faults.{Here, here, Judged, JudgedFields}
-use Rattle.elan_bodies.specs.Level.{level_in}
+use Rattle.elan_check.specs.Text.{faults as text_faults}
 use Rattle.elan_laws.specs.Places as at
 use Rattle.elan_laws.specs.Places.{type_places}
 use Rattle.elan_laws.specs.Order.{Follows, ends}
-use Rattle.elan_laws.proofs.Through.{beside, before, later, all_of_it}
+use Rattle.elan_laws.proofs.Through.{behind, beside, before, later, all_of_it}
 
 neither : (a b : Bool) → (a || b) ≡ false → (a ≡ false) × (b ≡ false)
 neither true b e = absurd cc
@@ -250,7 +253,8 @@ module _ (h : Here) where
 grouped : (a b c d : List ℕ) → (a ++ b) ++ (c ++ d) ≡ a ++ ((b ++ c) ++ d)
 grouped a b c d = append_assoc a b (c ++ d) ∙ sym (ap (λ (l : List ℕ). a ++ l) (append_assoc b c d))
 
-module _ (ds : List Definition) (rs : List Refinement) (r : Option TypePhrase) (fs : List Formal) (b : Body) where
+-- where own types are numbered from this number on, and these names are declared around
+module _ (first : ℕ) (around : List TypeName) (ds : List Definition) (rs : List Refinement) (r : Option TypePhrase) (fs : List Formal) (b : Body) where
   abbrev given : List Node
   given = nodes.formals fs
 
@@ -267,13 +271,13 @@ module _ (ds : List Definition) (rs : List Refinement) (r : Option TypePhrase) (
       (types_append (given ++ units) rest ∙ ap (λ (l : List ℕ). l ++ types_in rest) (types_append given units))
 
   routine_follows : list_any built.node (nodes.result r) ≡ false → list_any built.node (nodes.body fs b) ≡ false
-      → Follows (told_at (faults.routine_faults ds rs r fs b)) (types_in (nodes.result r) ++ types_in (nodes.body fs b))
+      → Follows (told_at (faults.routine_faults first around ds rs r fs b)) (types_in (nodes.result r) ++ types_in (nodes.body fs b))
   routine_follows g h =
       let p = any_split (given ++ units) rest h in
       let q = any_split given units p.0 in
-      let heading = here [] ds rs in
-      let inside = here (names_of [] ds) (body_definitions fs b) [] in
-      subst (Follows (told_at (faults.routine_faults ds rs r fs b)))
+      let heading = here first around ds rs in
+      let inside = here 0 (names_of first around ds ++ around) (body_definitions fs b) [] in
+      subst (Follows (told_at (faults.routine_faults first around ds rs r fs b)))
       (grouped (types_in (nodes.result r)) (types_in given) (types_in units) (types_in rest) ∙ sym body_types_are)
       (two_lists (faults.nodes_faults heading (nodes.result r ++ given)) (faults.nodes_faults inside (units ++ rest))
       (subst (Follows (told_at (faults.nodes_faults heading (nodes.result r ++ given)))) (types_append (nodes.result r) given)
@@ -289,37 +293,46 @@ module _ (ds : List Definition) (rs : List Refinement) (r : Option TypePhrase) (
 
 -- ---- the level
 
-module _ (ds : List Definition) (rs : List Refinement) where
+module _ (first : ℕ) (around : List TypeName) (ds : List Definition) (rs : List Refinement) where
   unit_follows : (u : LevelUnit) → list_any built.node (nodes.level_unit u) ≡ false
-      → Follows (told_at (faults.unit_faults ds rs u)) (types_in (nodes.level_unit u))
-  unit_follows (level.Plain u) h = nodes_follow (here [] ds rs) (nodes.in_unit u) h
-  unit_follows (level.NewType a n of) h = nodes_follow (here [] ds rs) (new_type a n of ∷ []) h
+      → Follows (told_at (faults.unit_faults first around ds rs u)) (types_in (nodes.level_unit u))
+  unit_follows (level.Plain u) h = nodes_follow (here first around ds rs) (nodes.in_unit u) h
+  unit_follows (level.NewType a n of) h = nodes_follow (here first around ds rs) (new_type a n of ∷ []) h
   unit_follows (level.Proc a r n fs b) h =
       let q = any_split (nodes.result r) (other n ∷ nodes.body fs b) h in
-      subst (Follows (told_at (faults.routine_faults ds rs r fs b))) (sym (types_append (nodes.result r) (other n ∷ nodes.body fs b)))
-      (routine_follows ds rs r fs b q.0 (any_rest (other n) (nodes.body fs b) q.1))
+      subst (Follows (told_at (faults.routine_faults first around ds rs r fs b))) (sym (types_append (nodes.result r) (other n ∷ nodes.body fs b)))
+      (routine_follows first around ds rs r fs b q.0 (any_rest (other n) (nodes.body fs b) q.1))
   unit_follows (level.Op a r n fs b) h =
       let q = any_split (nodes.result r) (sign n.operator ∷ nodes.body fs b) h in
-      subst (Follows (told_at (faults.routine_faults ds rs r fs b))) (sym (types_append (nodes.result r) (sign n.operator ∷ nodes.body fs b)))
-      (routine_follows ds rs r fs b q.0 (any_rest (sign n.operator) (nodes.body fs b) q.1))
+      subst (Follows (told_at (faults.routine_faults first around ds rs r fs b))) (sym (types_append (nodes.result r) (sign n.operator ∷ nodes.body fs b)))
+      (routine_follows first around ds rs r fs b q.0 (any_rest (sign n.operator) (nodes.body fs b) q.1))
 
   units_follow : (us : List LevelUnit) → list_any built.node (flat_map nodes.level_unit us) ≡ false
-      → Follows (told_at (flat_map (faults.unit_faults ds rs) us)) (types_in (flat_map nodes.level_unit us))
+      → Follows (told_at (flat_map (faults.unit_faults first around ds rs) us)) (types_in (flat_map nodes.level_unit us))
   units_follow [] h = ends []
   units_follow (u ∷ us) h =
       let q = any_split (nodes.level_unit u) (flat_map nodes.level_unit us) h in
-      subst (Follows (told_at (faults.unit_faults ds rs u ++ flat_map (faults.unit_faults ds rs) us)))
+      subst (Follows (told_at (faults.unit_faults first around ds rs u ++ flat_map (faults.unit_faults first around ds rs) us)))
       (sym (types_append (nodes.level_unit u) (flat_map nodes.level_unit us)))
-      (two_lists (faults.unit_faults ds rs u) (flat_map (faults.unit_faults ds rs) us) (unit_follows u q.0) (units_follow us q.1))
+      (two_lists (faults.unit_faults first around ds rs u) (flat_map (faults.unit_faults first around ds rs) us) (unit_follows u q.0) (units_follow us q.1))
 
-pub faults_follow : (t : Tree) → built.not_built t ≡ false → Follows (told_at (faults.level_faults (level_in t))) (type_places t)
-faults_follow (tree.Program w) h =
+level_follows : (first : ℕ) (around : List TypeName) (w : Level) → list_any built.node (nodes.in_level w) ≡ false
+    → Follows (told_at (faults.level_faults first around w)) (types_in (nodes.in_level w))
+level_follows first around w h =
     let ds = level_definitions w in
     let rs = w.refinements in
     let units = flat_map nodes.level_unit w.units in
-    let rest = nodes.refinements w.refinements in
+    let rest = nodes.refinements rs in
     let q = any_split units rest h in
-    subst (Follows (told_at (faults.level_faults w))) (sym (types_append units rest))
-    (two_lists (flat_map (faults.unit_faults ds rs) w.units) (faults.nodes_faults (here [] ds rs) rest) (units_follow ds rs w.units q.0)
-    (nodes_follow (here [] ds rs) rest q.1))
-faults_follow (tree.Packet a n exports w) h = ends (type_places (tree.Packet a n exports w))
+    subst (Follows (told_at (faults.level_faults first around w))) (sym (types_append units rest))
+    (two_lists (flat_map (faults.unit_faults first around ds rs) w.units) (faults.nodes_faults (here first around ds rs) rest)
+    (units_follow first around ds rs w.units q.0) (nodes_follow (here first around ds rs) rest q.1))
+
+-- Where a packet names what it shows, no type is written.
+pub faults_follow : (env : Env) (t : Tree) → built.not_built t ≡ false → Follows (told_at (text_faults env t)) (type_places t)
+faults_follow env (tree.Program w) h = level_follows env.types (shown_types env) w h
+faults_follow env (tree.Packet a n exports w) h =
+    let shown = flat_map nodes.export exports in
+    let q = any_split shown (nodes.in_level w) h in
+    subst (Follows (told_at (text_faults env (tree.Packet a n exports w)))) (sym (types_append shown (nodes.in_level w)))
+    (behind (types_in shown) (level_follows env.types (shown_types env) w q.1))

@@ -16,15 +16,19 @@ use Rattle.elan_tree.specs.declared.tree.Body.{Body}
 use Rattle.elan_tree.specs.declared.tree.Refinement.{Refinement}
 use Rattle.elan_tree.specs.declared.tree.LevelUnit.{LevelUnit}
 use Rattle.elan_tree.specs.declared.tree.LevelUnit.TheVariants as level
+use Rattle.elan_tree.specs.declared.tree.Export.{Export}
+use Rattle.elan_tree.specs.declared.tree.Level.{Level}
 use Rattle.elan_tree.specs.declared.tree.Tree.{Tree}
-use Rattle.elan_tree.specs.declared.tree.Tree.TheVariants as tree
 use Rattle.elan_walk.specs.Nodes as nodes
 use Rattle.elan_walk.specs.Nodes.{Node}
 use Rattle.elan_unbuilt.specs.Operators.{operator_text}
 use Rattle.elan_names.specs.declared.entry.Denotes.{Denotes}
 use Rattle.elan_names.specs.declared.entry.Denotes.TheVariants as denotes
 use Rattle.elan_names.specs.declared.entry.Entry.{Entry}
+use Rattle.elan_scope.specs.declared.env.Env.{Env}
+use Rattle.elan_scope.specs.declared.scope.Home.{Home}
 use Rattle.elan_scope.specs.declared.scope.Scope.{Scope}
+use Rattle.elan_scope.specs.Shown.{shown_types}
 use Rattle.elan_names.specs.declared.heading.Sort.{Sort}
 use Rattle.elan_names.specs.declared.heading.Sort.TheVariants.{Procedure, Operator}
 use Rattle.elan_scope.specs.declared.delivery.Delivery.TheVariants.{Open}
@@ -38,7 +42,7 @@ use Rattle.elan_levels.specs.Bodies as b
 use Rattle.elan_bodies.specs.Level as l
 use Rattle.elan_laws.specs.Served.{AreServed, AllServed}
 use Rattle.elan_laws.proofs.Declared.{NamedType, AllNamed, AllDefined, Fine, unit_alone_found, body_units_found}
-use Rattle.elan_laws.proofs.LookUps.{Has, in_first, in_second, Defines, defined_first, defined_second, refined, type_named, bytes_self, named, own}
+use Rattle.elan_laws.proofs.LookUps.{Has, in_first, in_second, Defines, defined_first, defined_second, refined, type_named, type_seen, bytes_self, named, own}
 use Rattle.elan_laws.proofs.LookUps.{HasHeading, heading_first, heading_second, heading_is, both_true, SubHeadings, Bodies}
 use Rattle.elan_laws.proofs.LookUps.{bodies_of, lead_append, nodes_lead, formals_lead, refinements_lead, units_lead}
 use Rattle.elan_levels.specs.walks.Headings.{all_headings}
@@ -125,7 +129,7 @@ module _ (s : Scope) (k : ℕ) (at : ℕ) (x : List ℕ) (r : Option TypePhrase)
   seen = types.body_types s.types fs w ++ s.types
 
   body_defined : SubTypes inner (types.body_definitions fs w)
-  body_defined = λ y j. type_named s.types (types.body_definitions fs w) y j
+  body_defined = λ y j. type_named 0 s.types (types.body_definitions fs w) y j
 
   routine_found : (sort : Sort) (names : List Phrase) → AllServed (all_of names) → HasHeading s.headings (b.routine_heading s.types sort at x fs r)
       → SubHeadings s (b.refinement_headings (Some k) w.refinements) → AreServed (l.routine s k at x r fs w sort names)
@@ -191,10 +195,15 @@ units_found s bodies k (u ∷ us) f h g =
           (λ x i. g x (heading_second heads rest x i)),
     )
 
-pub text_found : (t : Tree) → AreServed (l.text t)
-text_found (tree.Program w) =
-    let s = l.level_scope w in
-    let ts = types.level_types w in
+-- What a packet shows asks for nothing.
+exports_found : (s : Scope) (w : Level) (earlier : List (List ℕ)) (es : List Export) → AllServed (all_of (l.exports s w earlier es))
+exports_found s w earlier [] = tt
+exports_found s w earlier (e ∷ es) = ((tt, tt), exports_found s w (earlier ++ l.export_name e ∷ []) es)
+
+level_found : (env : Env) (home : Home) (w : Level) → AllServed (all_of (l.level_parts (l.level_scope env home w) w))
+level_found env home w =
+    let s = l.level_scope env home w in
+    let ts = s.types in
     let units = flat_map (b.unit_names ts) w.units in
     let rest = b.refinement_names ts w.refinements in
     let ds = flat_map types.unit_definitions w.units in
@@ -204,12 +213,16 @@ text_found (tree.Program w) =
     let lead =
     lead_append s units rest (units_lead ts s w.units) (refinements_lead ts s None w.refinements refl (λ g i. heading_second heads others g i)) in
     let bodies = bodies_of s lead in
-    let defined : SubTypes s (types.level_definitions w) = λ x i. type_named [] (types.level_definitions w) x i in (
+    let defined : SubTypes s (types.level_definitions w) = λ x i. type_seen env.types (shown_types env) (types.level_definitions w) x i in
+    append_found (level_units s 0 w.units) (l.refinements s (b.bodies_of_units w.units) w.refinements)
+    (units_found s bodies 0 w.units (λ x i. in_first units rest x i) (λ x i. defined x (defined_first ds es x i)) (λ x i. heading_first heads others x i))
+    (refinements_found s ts bodies (b.bodies_of_units w.units) w.refinements (λ x i. in_second units rest x i)
+    (λ x i. defined x (defined_second ds es x i)))
+
+pub text_found : (env : Env) (t : Tree) → AreServed (l.text env t)
+text_found env t =
+    let s = l.text_scope env t in
+    let w = l.level_in t in (
       tt,
-      append_found (level_units s 0 w.units) (l.refinements s (b.bodies_of_units w.units) w.refinements)
-          (units_found s bodies 0 w.units (λ x i. in_first units rest x i) (λ x i. defined x (defined_first ds es x i))
-          (λ x i. heading_first heads others x i))
-          (refinements_found s ts bodies (b.bodies_of_units w.units) w.refinements (λ x i. in_second units rest x i)
-          (λ x i. defined x (defined_second ds es x i))),
+      append_found (l.exports s w [] (l.exports_in t)) (l.level_parts s w) (exports_found s w [] (l.exports_in t)) (level_found env (l.home_of env t) w),
     )
-text_found (tree.Packet at n exports w) = (tt, tt)

@@ -9,11 +9,15 @@ use Rattle.elan_tree.specs.declared.tree.Body.{Body}
 use Rattle.elan_tree.specs.declared.tree.Refinement.{Refinement}
 use Rattle.elan_tree.specs.declared.tree.LevelUnit.{LevelUnit}
 use Rattle.elan_tree.specs.declared.tree.LevelUnit.TheVariants as level
+use Rattle.elan_tree.specs.declared.tree.Export.{Export}
+use Rattle.elan_tree.specs.declared.tree.Export.TheVariants as exported
+use Rattle.elan_tree.specs.declared.tree.Level.{Level}
 use Rattle.elan_tree.specs.declared.tree.Tree.{Tree}
 use Rattle.elan_tree.specs.declared.tree.Tree.TheVariants as tree
 use Rattle.elan_names.specs.declared.heading.Sort.{Sort}
 use Rattle.elan_names.specs.declared.heading.Sort.TheVariants.{Procedure, Operator}
 use Rattle.elan_scope.specs.declared.delivery.Delivery.TheVariants.{Open}
+use Rattle.elan_scope.specs.declared.env.Env.{Env}
 use Rattle.elan_scope.specs.declared.scope.Scope.{Scope}
 use Rattle.elan_scope.specs.Known.{delivered}
 use Rattle.elan_unbuilt.specs.Operators.{operator_text}
@@ -78,11 +82,27 @@ units_follow : (s : Scope) (k : ℕ) (us : List LevelUnit) → IsSame (places_of
 units_follow s k [] = nothing
 units_follow s k (u ∷ us) = both (unit_follows s k u) (units_follow s (k + bodies_in u) us)
 
-pub text_same : (t : Tree) → IsSame (in_phrase (l.text t)) (places t)
-text_same (tree.Program w) =
-    parts_follow (level_units (l.level_scope w) 0 w.units) (l.refinements (l.level_scope w) (bodies_of_units w.units) w.refinements)
-    (units_follow (l.level_scope w) 0 w.units) (refinements_follow (l.level_scope w) (bodies_of_units w.units) w.refinements)
-text_same (tree.Packet a n exports w) = nothing
+level_follows : (s : Scope) (w : Level) → IsSame (places_of (l.level_parts s w)) (at.in_level w)
+level_follows s w =
+    parts_follow (level_units s 0 w.units) (l.refinements s (bodies_of_units w.units) w.refinements) (units_follow s 0 w.units)
+    (refinements_follow s (bodies_of_units w.units) w.refinements)
+
+-- ---- what a packet shows
+
+export_follows : (e : Export) {xs ys : List ℕ} → IsSame xs ys → IsSame (l.export_place e ∷ xs) (at.export e ∷ ys)
+export_follows (exported.Ident n) h = same n.at h
+export_follows (exported.Bold n) h = same n.at h
+export_follows (exported.Sign a s) h = same a h
+
+exports_follow : (s : Scope) (w : Level) (earlier : List (List ℕ)) (es : List Export) → IsSame (places_of (l.exports s w earlier es)) (at.all_exports es)
+exports_follow s w earlier [] = nothing
+exports_follow s w earlier (e ∷ es) = export_follows e (exports_follow s w (earlier ++ l.export_name e ∷ []) es)
+
+pub text_same : (env : Env) (t : Tree) → IsSame (in_phrase (l.text env t)) (places t)
+text_same env (tree.Program w) = level_follows (l.text_scope env (tree.Program w)) w
+text_same env (tree.Packet a n exports w) =
+    let s = l.text_scope env (tree.Packet a n exports w) in
+    parts_follow (l.exports s w [] exports) (l.level_parts s w) (exports_follow s w [] exports) (level_follows s w)
 
 -- ---- phrases without parts
 
@@ -106,5 +126,5 @@ mutual
       subst (λ (ns : List ℕ). Follows ns (in_phrase p ++ in_parts ps)) (sym (leaves_append (phrases p) (phrases_of ps)))
       (beside (leaves_follow p) (all_leaves_follow ps))
 
-pub text_leaves_follow : (t : Tree) → Follows (leaves (phrases (l.text t))) (places t)
-text_leaves_follow t = let h = text_same t in through (leaves_follow (l.text t)) h.to
+pub text_leaves_follow : (env : Env) (t : Tree) → Follows (leaves (phrases (l.text env t))) (places t)
+text_leaves_follow env t = let h = text_same env t in through (leaves_follow (l.text env t)) h.to

@@ -1,5 +1,5 @@
--- The places of a tree in text order: of names that are declared, labels, expressions and units, and of types. What is not built has
--- its own place alone.
+-- The places of a tree in text order: of names that a packet shows, names that are declared, labels, expressions and units, and of
+-- types. What is not built has its own place alone.
 use Rattle.std.specs.Prelude.{ℕ, List, [], ◌∷◌, ◌++◌, map, flat_map, Option, Some, None}
 use Rattle.elan_tree.specs.declared.written_type.Name.{Name}
 use Rattle.elan_tree.specs.declared.written_type.TypePhrase.{TypePhrase}
@@ -27,6 +27,9 @@ use Rattle.elan_tree.specs.declared.phrase.Expr.TheOpen as t
 use Rattle.elan_tree.specs.declared.phrase.Expr.TheOpen.{Expr-F, Limit-F, Unit-F, Branch-F, Case-F, Counter-F, Item-F}
 use Rattle.elan_tree.specs.declared.phrase.Expr.TheFolds.{fold-Expr, fold-Limit, fold-Unit, fold-Branch, fold-Case, fold-Counter, fold-Item}
 use Rattle.elan_tree.specs.declared.tree.Body.{Body}
+use Rattle.elan_tree.specs.declared.tree.Export.{Export}
+use Rattle.elan_tree.specs.declared.tree.Export.TheVariants as exported
+use Rattle.elan_tree.specs.declared.tree.Level.{Level}
 use Rattle.elan_tree.specs.declared.tree.Refinement.{Refinement}
 use Rattle.elan_tree.specs.declared.tree.LevelUnit.{LevelUnit}
 use Rattle.elan_tree.specs.declared.tree.LevelUnit.TheVariants as level
@@ -167,10 +170,23 @@ abbrev pub level_units : List LevelUnit → List ℕ
 level_units [] = []
 level_units (u ∷ us) = level_unit u ++ level_units us
 
--- Packets are not built.
+abbrev pub in_level : Level → List ℕ
+in_level l = level_units l.units ++ refinements l.refinements
+
+-- a name that a packet shows
+abbrev pub export : Export → ℕ
+export (exported.Ident n) = n.at
+export (exported.Bold n) = n.at
+export (exported.Sign at s) = at
+
+abbrev pub all_exports : List Export → List ℕ
+all_exports [] = []
+all_exports (e ∷ es) = export e ∷ all_exports es
+
+-- What a packet shows stands before its level.
 abbrev pub places : Tree → List ℕ
-places (tree.Program l) = level_units l.units ++ refinements l.refinements
-places (tree.Packet at n exports l) = []
+places (tree.Program l) = in_level l
+places (tree.Packet at n exports l) = all_exports exports ++ in_level l
 
 -- ---- types
 

@@ -6,6 +6,7 @@ use Rattle.elan_scope.specs.declared.delivery.Delivery.TheVariants.{Nothing}
 use Rattle.elan_names.specs.declared.heading.What.{What}
 use Rattle.elan_names.specs.declared.heading.What.TheVariants.{Routine, Refinement}
 use Rattle.elan_names.specs.declared.heading.Heading.{Heading}
+use Rattle.elan_scope.specs.declared.env.Env.{Env}
 use Rattle.elan_scope.specs.declared.known.Known.{Known}
 use Rattle.elan_scope.specs.Known.{delivered, delivery_at}
 use Rattle.elan_scope.specs.Phrase.{Phrase}
@@ -26,8 +27,8 @@ abbrev pub Settles : Known → What → Phrase → Delivery → Type 0
 Settles k (Routine sort ps r) units d = d ≡ delivered r
 Settles k (Refinement home) units d = Delivers k (last_unit units) d
 
--- This is known of each body of a text.
-abbrev pub IsSettled : Tree → Type 0
-IsSettled t =
-    (n : ℕ) (h : Heading) (units : Phrase) → slice_get (headings (level_in t)) n ≡ Some h → slice_get (bodies_within (text t)) n ≡ Some units
-    → Settles (known t) h.what units (delivery_at (known t) n)
+-- This is known of each body of a text after these packets.
+abbrev pub IsSettled : Env → Tree → Type 0
+IsSettled env t =
+    (n : ℕ) (h : Heading) (units : Phrase) → slice_get (headings env (level_in t)) n ≡ Some h → slice_get (bodies_within (text env t)) n ≡ Some units
+    → Settles (known env t) h.what units (delivery_at (known env t) n)

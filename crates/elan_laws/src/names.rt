@@ -4,6 +4,7 @@ ghost use Rattle.std.specs.Prelude.{◌≡◌, ℕ, List, Some};
 ghost use Rattle.elan_tree.specs.declared.tree.Tree.{Tree};
 ghost use Rattle.elan_types.specs.declared.core_phrase.Actual.{Actual};
 ghost use Rattle.elan_names.specs.declared.heading.Sort.{Sort};
+ghost use Rattle.elan_scope.specs.declared.env.Env.{Env};
 ghost use Rattle.elan_scope.specs.declared.scope.Scope.{Scope};
 ghost use Rattle.elan_scope.specs.Scope.{Callable};
 ghost use Rattle.elan_meant.specs.declared.meant.Meant.{Meant};
@@ -17,7 +18,7 @@ ghost use Rattle.elan_laws.specs.Served.{AreServed};
 /// also that of a type, and each heading of a PROC or OP, is found in the scope that declares it, and what an identifier denotes
 /// as a refinement is a body.
 pub fn each_rule_gets_what_it_asks_for()
-    ensures { (t : Tree) → AreServed (text t) }
+    ensures { (env : Env) → (t : Tree) → AreServed (text env t) }
 {}
 
 /// What is chosen by its name and the types of its operands does something with what it is given.

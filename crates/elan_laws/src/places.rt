@@ -2,14 +2,13 @@
 
 ghost use Rattle.std.specs.Prelude.{◌≡◌, ◌++◌, false, map};
 ghost use Rattle.std.specs.List.{Contains};
-ghost use Rattle.elan_types.specs.declared.env.Env.{Env};
 ghost use Rattle.elan_tree.specs.declared.tree.Tree.{Tree};
+ghost use Rattle.elan_scope.specs.declared.env.Env.{Env};
 ghost use Rattle.elan_scope.specs.Ruled.{Fault};
 ghost use Rattle.elan_rules.specs.Meaning.{phrases, IsFirst};
 ghost use Rattle.elan_unbuilt.specs.NotBuilt.{not_built};
-ghost use Rattle.type_names.specs.Faults.{level_faults};
-ghost use Rattle.elan_bodies.specs.Level.{level_in, text};
-ghost use Rattle.elan_check.specs.Text.{Refused, known};
+ghost use Rattle.elan_bodies.specs.Level.{text};
+ghost use Rattle.elan_check.specs.Text.{Refused, faults, known};
 ghost use Rattle.elan_laws.specs.Places.{places, type_places};
 ghost use Rattle.elan_laws.specs.Order.{Follows, IsSame, in_phrase, leaves};
 
@@ -17,14 +16,14 @@ ghost use Rattle.elan_laws.specs.Order.{Follows, IsSame, in_phrase, leaves};
 /// parts. In the order in which phrases are judged those that have no parts stand as in the text. In a text that is built the
 /// faults of types are told in the order in which its types stand.
 pub fn phrases_stand_in_text_order()
-    ensures all { (t : Tree) → IsSame (in_phrase (text t)) (places t) }
-    ensures judged { (t : Tree) → Follows (leaves (phrases (text t))) (places t) }
-    ensures types { (t : Tree) → not_built t ≡ false → Follows (map (λ f. f.0) (level_faults (level_in t))) (type_places t) }
+    ensures all { (env : Env) → (t : Tree) → IsSame (in_phrase (text env t)) (places t) }
+    ensures judged { (env : Env) → (t : Tree) → Follows (leaves (phrases (text env t))) (places t) }
+    ensures types { (env : Env) → (t : Tree) → not_built t ≡ false → Follows (map (λ f. f.0) (faults env t)) (type_places t) }
 {}
 
-/// The first phrase that breaks a rule breaks it at a place of the text: that of a name that it declares, or of a label, an
-/// expression or a unit. A text is refused at such a place, or at one in a type as it is written, or at that of a TYPE.
+/// The first phrase that breaks a rule breaks it at a place of the text: that of a name that it shows or declares, or of a label,
+/// an expression or a unit. A text is refused at such a place, or at one in a type as it is written, or at that of a TYPE.
 pub fn a_refusal_has_a_place_of_the_text()
-    ensures phrase { (t : Tree) → (f : Fault) → IsFirst (known t) (phrases (text t)) f → Contains (places t) f.0 }
+    ensures phrase { (env : Env) → (t : Tree) → (f : Fault) → IsFirst (known env t) (phrases (text env t)) f → Contains (places t) f.0 }
     ensures refused { (env : Env) → (t : Tree) → (f : Fault) → Refused env t f → Contains (places t ++ type_places t) f.0 }
 {}

@@ -22,7 +22,9 @@ use Rattle.elan_names.specs.declared.entry.Denotes.TheVariants as denotes
 use Rattle.elan_names.specs.declared.entry.Entry.{Entry}
 use Rattle.elan_scope.specs.declared.scope.Scope.{Scope}
 use Rattle.elan_scope.specs.declared.scope.Within.{Within}
-use Rattle.elan_scope.specs.Scope.{all_held, variables_of}
+use Rattle.elan_scope.specs.Scope.{placed, all_held, variables_of}
+use Rattle.elan_scope.specs.declared.env.Env.{Env}
+use Rattle.elan_scope.specs.Shown.{shown_types}
 use Rattle.elan_names.specs.declared.heading.Sort.{Sort}
 use Rattle.elan_names.specs.declared.heading.Sort.TheVariants.{Procedure, Operator}
 use Rattle.elan_names.specs.declared.heading.What.TheVariants as what
@@ -86,17 +88,7 @@ body_within ts k fs b = record { number = k; names = body_names ts fs b; types =
 
 -- in this PROC or OP
 abbrev pub routine_scope : Scope → Within → Scope
-routine_scope s w = record {
-  packets = s.packets;
-  bodies_before = s.bodies_before;
-  types_before = s.types_before;
-  home = s.home;
-  headings = s.headings;
-  level = s.level;
-  types = s.types;
-  routine = Some w;
-  refinement = None;
-}
+routine_scope s w = placed s (Some w) None
 
 abbrev pub unit_names : List TypeName → LevelUnit → List Entry
 unit_names ts (level.Plain u) = in_unit ts u
@@ -106,8 +98,12 @@ unit_names ts _ = []
 abbrev pub names_in : List TypeName → Level → List Entry
 names_in ts l = flat_map (unit_names ts) l.units ++ refinement_names ts l.refinements
 
-abbrev pub level_names : Level → List Entry
-level_names l = names_in (level_types l) l
+-- the names of types that can be seen in a level after these packets: its own, and those that the packets show
+abbrev pub seen_types : Env → Level → List TypeName
+seen_types env l = level_types env.types (shown_types env) l
+
+abbrev pub level_names : Env → Level → List Entry
+level_names env l = names_in (seen_types env l) l
 
 -- ---- the headings of bodies
 
@@ -142,5 +138,5 @@ unit_headings ts k _ = []
 abbrev pub headings_in : List TypeName → Level → List Heading
 headings_in ts l = flat_map (λ u. unit_headings ts u.0 u.1) (numbered 0 l.units) ++ refinement_headings None l.refinements
 
-abbrev pub headings : Level → List Heading
-headings l = headings_in (level_types l) l
+abbrev pub headings : Env → Level → List Heading
+headings env l = headings_in (seen_types env l) l

@@ -20,7 +20,7 @@ use elan_types::{Access, ElanType, Parameter};
 use eu_base::{List, NoMemory};
 use std::alloc::Global;
 use type_definitions::definition::{body_definitions, level_definitions};
-use type_names::resolve::names_of;
+use type_names::resolve::{Around, names_of};
 use type_names::written::type_in;
 
 fn access(given: Given) -> Access
@@ -130,6 +130,23 @@ fn body_names(
     refinement_names(names, body.refinements.as_slice()).met()
 }
 
+// The names of types that a PROC or OP declares, where these are declared around. It makes no types of its own.
+fn body_types(
+    alloc: Global,
+    around: &TypeDirectory,
+    formals: &[Formal],
+    body: &Body,
+) -> Result<TypeDirectory, NoMemory>
+    ensures { IfOk result (λ names. names ≡ types.body_types around.now formals.now body.now) }
+{
+    let around = Around {
+        names: around,
+        first: 0,
+    };
+    let definitions = body_definitions(alloc, formals, body)?;
+    names_of(alloc, around, definitions.as_slice())
+}
+
 /// The PROC or OP with this number, where these types are declared around: its names of types, and its other names, which are its
 /// parameters, what its units declare, and its refinements.
 pub fn body_within(
@@ -141,8 +158,7 @@ pub fn body_within(
 ) -> Result<Within, NoMemory>
     ensures { IfOk result (λ within. within ≡ spec.body_within around.now number formals.now body.now) }
 {
-    let definitions = body_definitions(alloc, formals, body)?;
-    let types = names_of(alloc, around, definitions.as_slice())?;
+    let types = body_types(alloc, around, formals, body)?;
     let names = body_names(alloc, &types, around, formals, body)?;
     Ok(Within {
         number,
@@ -151,12 +167,17 @@ pub fn body_within(
     })
 }
 
-/// The names of types that a level declares.
-pub fn level_types(alloc: Global, level: &Level) -> Result<TypeDirectory, NoMemory>
-    ensures { IfOk result (λ names. names ≡ types.level_types level.now) }
+/// The names of types that can be seen in a level: its own, and those around.
+pub fn level_types(
+    alloc: Global,
+    around: Around<'_>,
+    level: &Level,
+) -> Result<TypeDirectory, NoMemory>
+    ensures { IfOk result (λ names. names ≡ types.level_types around.entry.first around.entry.names.now level.now) }
 {
     let definitions = level_definitions(alloc, level)?;
-    names_of(alloc, &TypeDirectory::new(alloc), definitions.as_slice())
+    let own = names_of(alloc, around, definitions.as_slice())?;
+    own.before(alloc, around.names)
 }
 
 fn unit_names<'a>(out: Names<'a>, unit: &LevelUnit) -> Names<'a>
@@ -243,8 +264,7 @@ pub fn own_kinds(
     ensures { IfOk result (λ kinds. kinds
         ≡ scopes.variables_of (spec.own_names (types.body_types around.now formals.now body.now ++ around.now) body.now)) }
 {
-    let definitions = body_definitions(alloc, formals, body)?;
-    let types = names_of(alloc, around, definitions.as_slice())?;
+    let types = body_types(alloc, around, formals, body)?;
     let names = own_names(alloc, &types, around, body)?;
     held_kinds(alloc, names.as_slice())
 }

@@ -6,6 +6,7 @@ ghost use Rattle.elan_names.specs.walks.Firsts as spec;
 
 use crate::entry::Entry;
 use crate::heading::is_one;
+use crate::keeping::{FEW, keep};
 use eu_base::{List, NoMemory};
 use std::alloc::Global;
 use std::collections::HashMap;
@@ -38,9 +39,6 @@ impl Model for Directory {
     ghost invariant = { λ directory. (directory.numbers ≡ cells_before 0 directory.entries) × AreKept directory.firsts (entry_names directory.entries) };
 }
 
-/// So many names are looked through one after another.
-pub const FEW: usize = 8;
-
 // How many cells are before each declaration.
 fn cells_before(alloc: Global, entries: &[Entry]) -> Result<List<usize>, NoMemory>
     ensures { IfOk result (λ numbers. numbers ≡ spec.cells_before 0 entries.now) }
@@ -65,23 +63,6 @@ fn first_at(entries: &[Entry], name: &[u8]) -> Option<usize>
         }
     }
     None
-}
-
-/// Keeps a name with its place, unless it is kept.
-pub fn keep(
-    alloc: Global,
-    firsts: &mut HashMap<Vec<u8>, usize>,
-    place: usize,
-    name: &[u8],
-) -> Result<(), NoMemory>
-    ensures { OnOk result (spec.KeepsOne firsts.old firsts.new place name.now) }
-{
-    if firsts.contains_key(name) {
-        return Ok(());
-    }
-    let name = Vec::from_slice(alloc, name)?;
-    firsts.insert(name, place)?;
-    Ok(())
 }
 
 // Keeps the first declaration of each name.

@@ -1,13 +1,13 @@
 //! What later texts see of a packet.
 
-ghost use Rattle.std.specs.Prelude.{◌≡◌};
+ghost use Rattle.std.specs.Prelude.{◌≡◌, IfOk};
 ghost use Rattle.elan_names.specs.Interfaces as spec;
 
 use crate::directory::Directory;
 use crate::heading::is_one;
 use crate::headings::Headings;
 use crate::type_directory::TypeDirectory;
-use eu_base::{Bytes, List, Shared};
+use eu_base::{Bytes, List, NoMemory, Shared};
 
 /// What the texts that are compiled after a packet see of it.
 #[derive(Drop)]
@@ -47,4 +47,17 @@ pub struct Inserted {
     pub bodies_before: usize,
     /// How many cells of variables and constants stand before those of the packet.
     pub cells_before: usize,
+}
+
+impl Inserted {
+    /// The same; what it shows is shared.
+    pub fn try_clone(&self) -> Result<Inserted, NoMemory>
+        ensures { IfOk result (λ copy. copy ≡ self.now) }
+    {
+        Ok(Inserted {
+            interface: self.interface.share()?,
+            bodies_before: self.bodies_before,
+            cells_before: self.cells_before,
+        })
+    }
 }

@@ -8,6 +8,7 @@ pub mod entry;
 pub mod heading;
 pub mod headings;
 pub mod interface;
+mod keeping;
 pub mod predefined;
 pub mod type_directory;
 pub mod type_name;

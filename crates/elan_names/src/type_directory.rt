@@ -1,11 +1,11 @@
 //! The names of types that a level or a body declares, found by name.
 
-ghost use Rattle.std.specs.Prelude.{◌≡◌, [], option_map, IfOk, OnOk};
+ghost use Rattle.std.specs.Prelude.{◌≡◌, ◌++◌, [], option_map, IfOk, OnErr, OnOk};
 ghost use Rattle.elan_names.specs.Types as types;
 ghost use Rattle.elan_names.specs.walks.Firsts as spec;
 
-use crate::directory::{FEW, keep};
 use crate::heading::is_one;
+use crate::keeping::{FEW, keep};
 use crate::type_name::{Named, TypeName};
 use eu_base::{Bytes, List, NoMemory};
 use std::alloc::Global;
@@ -86,6 +86,20 @@ impl TypeDirectory {
         Ok(TypeDirectory { list, firsts })
     }
 
+    /// These names, and others behind them.
+    pub fn before(self, alloc: Global, others: &TypeDirectory) -> Result<TypeDirectory, NoMemory>
+        ensures { IfOk result (λ both. both ≡ self ++ others.now) }
+    {
+        if others.list.is_empty() {
+            return Ok(self);
+        }
+        let TypeDirectory { mut list, .. } = self;
+        for named in others.list.as_slice() {
+            list.push(named.try_clone(alloc)?)?;
+        }
+        TypeDirectory::of(alloc, list)
+    }
+
     /// The names, lent.
     pub fn as_slice(&self) -> &[TypeName]
         ensures { result.now ≡ self.now }
@@ -117,7 +131,8 @@ impl TypeDirectory {
     /// Lets the name at a place denote this. Without memory, or where none stands there, nothing changes.
     #[tactic(auto, using(crate::proofs::Kept::denoting_set, crate::proofs::Kept::denoting_none, crate::proofs::Kept::denoting_names))]
     pub fn denote(&mut self, alloc: Global, place: usize, of: Named) -> Result<(), NoMemory>
-        ensures { OnOk result (self.new ≡ spec.denoting self.old place of) }
+        ensures denotes { OnOk result (self.new ≡ spec.denoting self.old place of) }
+        ensures refused { OnErr result (self.new ≡ self.old) }
     {
         match self.list.get(place) {
             None => Ok(()),

@@ -14,7 +14,7 @@ use Rattle.elan_meant.specs.Parts.{nth, unit_of, actions_of}
 use Rattle.elan_scope.specs.declared.scope.Scope.{Scope}
 use Rattle.elan_names.specs.declared.heading.Sort.TheVariants.{Procedure, Operator}
 use Rattle.value_rules.specs.Calls.{named, applied, called, declared, heading, leaving}
-use Rattle.value_rules.specs.Calls.{type_declared, leaves_open, is_open_name, declares_open, is_open_type, heading_open}
+use Rattle.value_rules.specs.Calls.{type_declared, exported, leaves_open, is_open_name, declares_open, is_open_type, heading_open}
 use Rattle.unit_rules.specs.Units.{assigned, initial, in_order, alone, without_value, must_deliver, body_with, content_as, content_of, bodies_in}
 use Rattle.choice_rules.specs.Choices.{choice, label_is, label_named, labels_in, selected}
 use Rattle.unit_rules.specs.Loops.{counted, loop}
@@ -69,6 +69,7 @@ rule at (form.heading s sort x ps r missing) ms = heading at ps missing (first_h
 rule at (form.body o r) ms = gives (body_with o (content_as r (nth ms 0)))
 rule at form.routine ms = gives (Bodies (flat_map bodies_in ms))
 rule at (form.refinement o) ms = gives (body_with o (content_of (nth ms 1)))
+rule at (form.exported doubled may) ms = exported at doubled may
 rule at form.level ms = gives (Level (actions_of ms) (flat_map bodies_in ms))
 
 -- ---- what hangs on a type that has no meaning: what may take or deliver such, the declaration of a name, and headings

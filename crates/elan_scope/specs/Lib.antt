@@ -1,4 +1,5 @@
 pub mod Scope
+pub mod Shown
 pub mod Phrase
 pub mod Ruled
 pub mod Known

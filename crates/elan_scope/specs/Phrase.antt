@@ -62,7 +62,10 @@ pub data Plain : Type 0 where
   routine : Plain
   -- a name in its declaration, and units
   refinement : Owner → Plain
-  -- the units of a text, and its refinements
+  -- A name that a packet shows: whether it shows it before, and whether it may show what its level declares under the name, where
+  -- it declares that.
+  exported : Bool → Option Bool → Plain
+  -- the names that a text shows, its units, and its refinements
   level : Plain
 
 pub data Form : Type 0 where

@@ -23,6 +23,20 @@ pub use Rattle.elan_names.specs.Callables.{Callable, first, same_sort, own_calla
 pub use Rattle.elan_names.specs.Callables.{has_open, is_open_result, delivers_open, is_open_heading, is_open_callable}
 pub use Rattle.elan_names.specs.Callables.{first_heading, is_routine, is_refinement_of, is_alike, is_refined, number_in}
 
+-- in the same level, in this PROC or OP and in this refinement
+abbrev pub placed : Scope → Option Within → Option ℕ → Scope
+placed s routine refinement = record {
+  packets = s.packets;
+  bodies_before = s.bodies_before;
+  types_before = s.types_before;
+  home = s.home;
+  headings = s.headings;
+  level = s.level;
+  types = s.types;
+  routine = routine;
+  refinement = refinement;
+}
+
 -- the number of the PROC or OP
 abbrev pub number_of : Option Within → Option ℕ
 number_of routine = option_map (λ w. w.number) routine

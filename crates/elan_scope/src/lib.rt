@@ -2,6 +2,7 @@
 #![tactic(auto)]
 
 pub mod delivery;
+pub mod env;
 pub mod known;
 pub mod scope;
 pub mod trouble;

@@ -60,7 +60,7 @@ pub struct Scope {
     pub headings: Headings,
     /// The names that the level declares, in text order.
     pub level: Directory,
-    /// The names of types that the level declares, in text order.
+    /// The names of types that can be seen in the level: those that it declares, in text order, and those that the packets show.
     pub types: TypeDirectory,
     /// The PROC or OP in which the phrase stands.
     pub routine: Option<Within>,

@@ -2,7 +2,7 @@
 //! the making of code go by structure alone. Of types a core knows nothing else.
 
 use cell_kinds::{CellKinds, Packet};
-use eu_base::{Boxed, Bytes, Change, List, Operation, RequestName, Shape, Way};
+use eu_base::{Boxed, Bytes, Change, List, Operation, RequestName, Shape, Shared, Way};
 
 /// The meaning of a program.
 #[derive(Drop)]
@@ -14,8 +14,9 @@ pub struct Core {
     pub inserted: CellKinds,
     /// The kinds of the cells of a program's variables and constants; a packet has none here.
     pub variables: CellKinds,
-    /// The PROCs and refinements, those of the packets first. Phrases name them by their numbers here.
-    pub bodies: List<Body>,
+    /// The PROCs and refinements, those of the packets first. Phrases name them by their numbers here. A body of a packet is one
+    /// for all texts that are compiled after it.
+    pub bodies: List<Shared<Body>>,
     /// What the command does, in text order.
     pub units: List<Action>,
 }

@@ -3,7 +3,6 @@
 
 mod core_phrase;
 mod elan_type;
-mod env;
 mod laws;
 mod why;
 
@@ -12,7 +11,6 @@ pub use core_phrase::{
     Scope, ValueArm, ValuePhrase,
 };
 pub use elan_type::{ElanType, FieldType, Parameter, formals};
-pub use env::Env;
 pub use eu_base::{Change, Operation, RequestName, Way};
 pub use laws::{flat_values_are_one_to_one, parts_stand_in_order};
 pub use why::Why;

@@ -21,6 +21,9 @@ use Rattle.elan_tree.specs.declared.phrase.Expr.TheOpen.{Expr-F, Limit-F, Unit-F
 use Rattle.elan_tree.specs.declared.phrase.Expr.TheFolds.{fold-Expr, fold-Limit, fold-Unit, fold-Branch, fold-Case, fold-Counter, fold-Item}
 use Rattle.elan_tree.specs.declared.tree.Body.{Body}
 use Rattle.elan_tree.specs.declared.tree.Refinement.{Refinement}
+use Rattle.elan_tree.specs.declared.tree.Export.{Export}
+use Rattle.elan_tree.specs.declared.tree.Export.TheVariants as exported
+use Rattle.elan_tree.specs.declared.tree.Level.{Level}
 use Rattle.elan_tree.specs.declared.tree.LevelUnit.{LevelUnit}
 use Rattle.elan_tree.specs.declared.tree.LevelUnit.TheVariants as level
 use Rattle.elan_tree.specs.declared.tree.Tree.{Tree}
@@ -169,6 +172,15 @@ level_unit (level.NewType at n of) = new_type at n of ∷ []
 level_unit (level.Proc at r n fs b) = result r ++ other n ∷ body fs b
 level_unit (level.Op at r n fs b) = result r ++ sign n.operator ∷ body fs b
 
+abbrev pub in_level : Level → List Node
+in_level l = flat_map level_unit l.units ++ refinements l.refinements
+
+-- No sign is unknown.
+abbrev pub export : Export → List Node
+export (exported.Ident n) = other n ∷ []
+export (exported.Bold n) = other n ∷ []
+export (exported.Sign at s) = []
+
 abbrev pub nodes : Tree → List Node
-nodes (tree.Program l) = flat_map level_unit l.units ++ refinements l.refinements
-nodes (tree.Packet at n exports l) = unbuilt ∷ []
+nodes (tree.Program l) = in_level l
+nodes (tree.Packet at n exports l) = flat_map export exports ++ in_level l

@@ -6,7 +6,7 @@ ghost use Rattle.elan_walk.specs.Walk.{Seen};
 
 use crate::node::{Node, Visitor};
 use crate::walk::{visit_unit, visit_units};
-use elan_tree::{Body, Formal, LevelUnit, Name, Refinement, Tree, TypePhrase};
+use elan_tree::{Body, Export, Formal, Level, LevelUnit, Name, Refinement, Tree, TypePhrase};
 
 fn names<V: Visitor>(mut visitor: V, names: &[Name]) -> V
     ensures { Seen V.wanted V.after (map spec.other names.now) visitor result }
@@ -97,15 +97,45 @@ fn level_units<V: Visitor>(mut visitor: V, units: &[LevelUnit]) -> V
     visitor
 }
 
+fn visit_level<V: Visitor>(visitor: V, level: &Level) -> V
+    ensures { Seen V.wanted V.after (spec.in_level level.now) visitor result }
+{
+    let visitor = level_units(visitor, level.units.as_slice());
+    refinements(visitor, level.refinements.as_slice())
+}
+
+// A name that a packet shows.
+fn export<V: Visitor>(visitor: V, shown: &Export) -> V
+    ensures { Seen V.wanted V.after (spec.export shown.now) visitor result }
+{
+    match shown {
+        Export::Ident(name) | Export::Bold(name) => visitor.visit(Node::Other(name)),
+        Export::Sign(_, _) => visitor,
+    }
+}
+
+fn exports<V: Visitor>(mut visitor: V, list: &[Export]) -> V
+    ensures { Seen V.wanted V.after (flat_map spec.export list.now) visitor result }
+{
+    for shown in list {
+        visitor = export(visitor, shown);
+    }
+    visitor
+}
+
 /// Looks at the nodes of a text, in text order.
 pub fn visit_tree<V: Visitor>(visitor: V, tree: &Tree) -> V
     ensures { Seen V.wanted V.after (spec.nodes tree.now) visitor result }
 {
     match tree {
-        Tree::Program(level) => {
-            let visitor = level_units(visitor, level.units.as_slice());
-            refinements(visitor, level.refinements.as_slice())
+        Tree::Program(level) => visit_level(visitor, level),
+        Tree::Packet {
+            exports: list,
+            level,
+            ..
+        } => {
+            let visitor = exports(visitor, list.as_slice());
+            visit_level(visitor, level)
         }
-        Tree::Packet { .. } => visitor.visit(Node::Unbuilt),
     }
 }

@@ -19,7 +19,8 @@ use Rattle.place_gen.specs.Correct.{Shows, Comes, scene_of}
 use Rattle.code_gen.specs.Program.{program_of}
 use Rattle.code_gen.proofs.Whole.{behaves}
 use Rattle.elan_tree.specs.declared.tree.Tree.{Tree}
-use Rattle.elan_types.specs.declared.env.Env.{Env}
+use Rattle.elan_scope.specs.declared.env.Env.{Env}
+use Rattle.elan_check.specs.Packets.{AreCompiled, none}
 use Rattle.elan_types.specs.declared.core_phrase.Core.{Core}
 use Rattle.elan_types.specs.Typing.{IsWellTyped}
 use Rattle.elan_types.specs.Command.{Ending, Ended, Stopped, OutOfMarks, Asks, evaluate, at_start}
@@ -134,6 +135,6 @@ module _ (core : Core) (typed : IsWellTyped core) (alone : core.packets ≡ []) 
           later r (omega (arith, all, longer)) (omega (arith, longer, paid))
 
 -- what a text means is well typed, and so has as many as it needs
-pub enough : ((env : Env) (t : Tree) (c : Core) → tree.Means env t c → IsWellTyped c) → (text : List ℕ) (core : Core) → Means text core
+pub enough : ((env : Env) → AreCompiled env → (t : Tree) (c : Core) → tree.Means env t c → IsWellTyped c) → (text : List ℕ) (core : Core) → Means text core
     → Suffices (line_marks + 1) core line_marks []
-enough typed text core (means t has reads m) = suffices core (typed alone t core m) m.packets line_marks (line_marks + 1) [] (omega arith) (omega arith)
+enough typed text core (means t has reads m) = suffices core (typed alone none t core m) m.packets line_marks (line_marks + 1) [] (omega arith) (omega arith)

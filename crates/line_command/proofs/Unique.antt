@@ -4,7 +4,8 @@ use Rattle.elan_tree.specs.declared.token.Token.{Token}
 use Rattle.elan_tree.specs.declared.tree.Tree.{Tree}
 use Rattle.elan_grammar.specs.Reads.{Reads}
 use Rattle.elan_grammar.proofs.PlaceLaws.{one_place}
-use Rattle.elan_types.specs.declared.env.Env.{Env}
+use Rattle.elan_scope.specs.declared.env.Env.{Env}
+use Rattle.elan_check.specs.Packets.{AreCompiled, none as no_packets}
 use Rattle.elan_types.specs.declared.core_phrase.Core.{Core}
 use Rattle.elan_types.specs.declared.why.Why.{Why}
 use Rattle.elan_check.specs.Text as tree
@@ -28,7 +29,7 @@ pub record Laws : Type 0 where
   pub one_core : (env : Env) (t : Tree) (c d : Core) → tree.Means env t c → tree.Means env t d → c ≡ d
   pub one_refusal : (env : Env) (t : Tree) (f g : Fault) → tree.Refused env t f → tree.Refused env t g → f ≡ g
   pub meant_is_not_refused : (env : Env) (t : Tree) (c : Core) (f : Fault) → tree.Means env t c → tree.Refused env t f → ⊥
-  pub one_answer : (env : Env) (t : Tree) → tree.HasOneAnswer env t
+  pub one_answer : (env : Env) → AreCompiled env → (t : Tree) → tree.HasOneAnswer env t
 
 module _ (laws : Laws) (text : List ℕ) where
   the_tokens : {ts us : List Token} → HasTokens text ts → HasTokens text us → ts ≡ us
@@ -46,7 +47,7 @@ module _ (laws : Laws) (text : List ℕ) where
   not_both (means t a r m) (no_token e) = cc (a, e)
   not_both (means t a r m) (too_many e) = cc (a, e)
   not_both (means t a r m) (no_tree b none _) = none t (rw (the_tokens b a) r)
-  not_both {c} (means t a r m) (not_built u b s n) = (laws.one_answer alone t).no_core_not_built c m (rw (the_tree a r b s) n)
+  not_both {c} (means t a r m) (not_built u b s n) = (laws.one_answer alone no_packets t).no_core_not_built c m (rw (the_tree a r b s) n)
   not_both {c} (means t a r m) (no_meaning {place = place} {why = why} u b s f) = laws.meant_is_not_refused alone t c (place, why) m (rw (the_tree a r b s) f)
 
   -- and it is refused so or so
@@ -74,12 +75,12 @@ module _ (laws : Laws) (text : List ℕ) where
   one_refusal (not_built t e s n) (no_tree f m _) = absurd (m t (rw (the_tokens f e) s))
   one_refusal (not_built t e s n) (not_built u f r m) = refl
   one_refusal (not_built t e s n) (no_meaning {place = place} {why = why} u f r m) =
-      absurd ((laws.one_answer alone t).no_refusal_not_built (place, why) (rw (the_tree e s f r) m) n)
+      absurd ((laws.one_answer alone no_packets t).no_refusal_not_built (place, why) (rw (the_tree e s f r) m) n)
   one_refusal (no_meaning t e s n) (no_token f) = absurd (cc (e, f))
   one_refusal (no_meaning t e s n) (too_many f) = absurd (cc (e, f))
   one_refusal (no_meaning t e s n) (no_tree f m _) = absurd (m t (rw (the_tokens f e) s))
   one_refusal (no_meaning {place = place} {why = why} t e s n) (not_built u f r m) =
-      absurd ((laws.one_answer alone t).no_refusal_not_built (place, why) n (rw (the_tree e s f r) m))
+      absurd ((laws.one_answer alone no_packets t).no_refusal_not_built (place, why) n (rw (the_tree e s f r) m))
   one_refusal (no_meaning {place = p} {why = w} t e s n) (no_meaning {place = q} {why = v} u f r m) =
       same_fault p q w v (laws.one_refusal alone t (p, w) (q, v) n (rw (the_tree e s f r) m))
 

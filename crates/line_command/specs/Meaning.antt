@@ -9,12 +9,13 @@ use Rattle.elan_parser.specs.declared.error.ParseError.{ParseError}
 use Rattle.elan_parser.specs.declared.error.ParseError.TheVariants as syntactic
 use Rattle.elan_grammar.specs.Reads.{Reads}
 use Rattle.elan_grammar.specs.Place.{IsPlace, place_of}
-use Rattle.elan_types.specs.declared.env.Env.{Env}
+use Rattle.elan_scope.specs.declared.env.Env.{Env}
 use Rattle.elan_types.specs.declared.core_phrase.Core.{Core}
 use Rattle.elan_types.specs.declared.why.Why.{Why}
 use Rattle.elan_check.specs.declared.error.CheckError.{CheckError}
 use Rattle.elan_check.specs.declared.error.CheckError.TheVariants as semantic
 use Rattle.elan_check.specs.Text as tree
+use Rattle.elan_check.specs.Packets.{nothing}
 use Rattle.line_command.specs.declared.refusal.Refusal.{Refusal}
 use Rattle.line_command.specs.declared.refusal.Refusal.TheVariants.{NoToken, TooMany, NotElan, NotBuilt, NoMeaning}
 use Rattle.line_command.specs.declared.meaning.TextError.{TextError}
@@ -24,7 +25,7 @@ use Rattle.line_command.specs.Program.{Shows}
 
 -- no packets are there
 abbrev pub alone : Env
-alone = record {}
+alone = nothing
 
 -- these are the tokens of the text, and they are not too many
 abbrev pub HasTokens : List ℕ → List Token → Type 0

@@ -4,11 +4,11 @@ ghost use Rattle.elan_types.specs.Typing.{IsWellTyped};
 ghost use Rattle.line_command.specs.Meaning.{Means, IsCause};
 
 use crate::refusal::Refusal;
-use elan_check::{CheckError, check};
+use elan_check::{CheckError, Packets, check};
 use elan_lexer::{LexError, tokens};
 use elan_parser::{ParseError, parse};
 use elan_tree::Token;
-use elan_types::{Core, Env};
+use elan_types::Core;
 use eu_base::NoMemory;
 use std::alloc::Global;
 
@@ -64,7 +64,7 @@ impl From<CheckError> for TextError {
 }
 
 /// The core of a text that stands alone, without packets.
-// Tokens and tree are let go by calls, so that how their parts are let go is proved in the crate of their types alone.
+// Tokens, packets and tree are let go by calls, so that how their parts are let go is proved in the crate of their types alone.
 pub(crate) fn meaning(alloc: Global, text: &[u8]) -> Result<Core, TextError>
     requires { length text.now < 2 ^ 32 }
     ensures meaning { IfOk result (Means text.now) }
@@ -75,7 +75,9 @@ pub(crate) fn meaning(alloc: Global, text: &[u8]) -> Result<Core, TextError>
     let parsed = parse(alloc, tokens.as_slice(), false);
     Token::all_let_go(tokens);
     let tree = parsed?;
-    let checked = check(alloc, &tree, &Env);
+    let packets = Packets::new(alloc);
+    let checked = check(alloc, &tree, &packets);
+    packets.let_go();
     tree.let_go();
     Ok(checked?)
 }

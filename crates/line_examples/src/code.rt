@@ -4,11 +4,11 @@ use crate::rows::{Asked, put};
 use crate::typed;
 use code_form::{Code, listing};
 use code_gen::generate;
-use elan_check::check;
+use elan_check::{Packets, check};
 use elan_lexer::tokens;
 use elan_parser::parse;
 use elan_tree::{Token, Tree};
-use elan_types::{Core, Env};
+use elan_types::Core;
 use eu_base::Bytes;
 use std::alloc::Global;
 
@@ -43,7 +43,10 @@ fn of_tokens(alloc: Global, out: &mut Bytes, tokens: &[Token], row: &str, asked:
 }
 
 fn of_tree(alloc: Global, out: &mut Bytes, tree: &Tree, row: &str, asked: Asked) {
-    if let Ok(core) = check(alloc, tree, &Env) {
+    let packets = Packets::new(alloc);
+    let checked = check(alloc, tree, &packets);
+    packets.let_go();
+    if let Ok(core) = checked {
         if let Ok(code) = generate(alloc, &core) {
             of_code(alloc, out, &code, row, asked);
             code.let_go();

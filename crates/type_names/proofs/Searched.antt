@@ -14,10 +14,11 @@ use Rattle.elan_tree.specs.declared.tree.Level.{Level}
 use Rattle.elan_tree.specs.declared.tree.LevelUnit.{LevelUnit}
 use Rattle.type_definitions.specs.declared.definition.Definition.{Definition}
 use Rattle.type_names.specs.declared.scope_types.ScopeTypes.{ScopeTypes}
+use Rattle.type_names.specs.declared.fault.InLevel.{InLevel}
 use Rattle.type_names.specs.declared.search.Search.{Search}
 use Rattle.type_names.specs.Types.{names_of, body_definitions, level_definitions}
 use Rattle.type_names.specs.Faults.{Here, here, first_fault, node_faults, nodes_faults, unit_faults, routine_faults, level_faults}
-use Rattle.type_names.specs.walks.Seen.{AreOf, plainly, earlier, here_of, with_fault, searched, Finds}
+use Rattle.type_names.specs.walks.Seen.{AreOf, plainly, known_in, Knows, earlier, here_of, with_fault, searched, Finds}
 use Rattle.type_names.proofs.Told.{first_append, earlier_none, earlier_three}
 
 abbrev with_first : Search → Option Fault → Search
@@ -57,39 +58,55 @@ some_first xs ys f e = ap (λ (g : Option Fault). earlier g (first_fault ys)) e 
 
 -- ---- scopes
 
-pub here_is : (around : List TypeName) (ds : List Definition) (rs : List Refinement) (types : ScopeTypes) → AreOf around ds types
-    → plainly types around rs ≡ here around ds rs
-here_is around ds rs types e =
+pub here_is : (first : ℕ) (around : List TypeName) (ds : List Definition) (rs : List Refinement) (types : ScopeTypes) → AreOf first around ds types
+    → plainly types around rs ≡ here first around ds rs
+here_is first around ds rs types e =
     ap (λ (ns : List TypeName). record { seen = ns ++ around; definitions = types.definitions; calls = types.calls; refinements = rs }) e.0
-    ∙ ap (λ (d : List Definition). record { seen = names_of around ds ++ around; definitions = d; calls = types.calls; refinements = rs }) e.1
-    ∙ ap (λ (c : List (List ℕ)). record { seen = names_of around ds ++ around; definitions = ds; calls = c; refinements = rs }) e.2
+    ∙ ap (λ (d : List Definition). record { seen = names_of first around ds ++ around; definitions = d; calls = types.calls; refinements = rs }) e.1
+    ∙ ap (λ (c : List (List ℕ)). record { seen = names_of first around ds ++ around; definitions = ds; calls = c; refinements = rs }) e.2
 
-module _ {E : Type 0} (ds : List Definition) (level : ScopeTypes) (e : AreOf [] ds level) (rs : List Refinement) where
-  pub in_level : (ns : List Node) (r : Result (Option Fault) E) → Finds (nodes_faults (plainly level [] rs) ns) r
-      → Finds (nodes_faults (here [] ds rs) ns) r
-  in_level ns r h = subst (λ (k : Here). Finds (nodes_faults k ns) r) (here_is [] ds rs level e) h
+abbrev first_in : InLevel → ℕ
+first_in level = level.around.first
 
-  pub routine_none : (here' : ScopeTypes) (bs : List Definition) (around : List TypeName) (of : Option TypePhrase) (fs : List Formal) (b : Body)
-      (r : Result (Option Fault) E) → None ≡ first_fault (nodes_faults (plainly level [] rs) (nodes.result of ++ nodes.formals fs)) → around ≡ level.names
-      → bs ≡ body_definitions fs b → AreOf around bs here'
-      → Finds (nodes_faults (plainly here' around []) (nodes.in_units b.units ++ nodes.refinements b.refinements)) r → Finds (routine_faults ds rs of fs b) r
-  routine_none here' bs around of fs b r n i j k h =
-      none_first (nodes_faults (here [] ds rs) (nodes.result of ++ nodes.formals fs))
-      (nodes_faults (here (names_of [] ds) (body_definitions fs b) []) (nodes.in_units b.units ++ nodes.refinements b.refinements)) r
-      (n ∙ ap (λ (q : Here). first_fault (nodes_faults q (nodes.result of ++ nodes.formals fs))) (here_is [] ds rs level e))
+abbrev around_in : InLevel → List TypeName
+around_in level = level.around.names.now
+
+abbrev refined_in : InLevel → List Refinement
+refined_in level = level.refined.now
+
+module _ {E : Type 0} (ds : List Definition) (level : InLevel) (e : Knows ds level) where
+  pub in_level : (ns : List Node) (r : Result (Option Fault) E) → Finds (nodes_faults (known_in level) ns) r
+      → Finds (nodes_faults (here (first_in level) (around_in level) ds (refined_in level)) ns) r
+  in_level ns r h = subst (λ (k : Here). Finds (nodes_faults k ns) r) (here_is (first_in level) (around_in level) ds (refined_in level) level.types.now e.0) h
+
+  pub routine_none : (here' : ScopeTypes) (bs : List Definition) (of : Option TypePhrase) (fs : List Formal) (b : Body)
+      (r : Result (Option Fault) E) → None ≡ first_fault (nodes_faults (known_in level) (nodes.result of ++ nodes.formals fs))
+      → bs ≡ body_definitions fs b → AreOf 0 level.seen.now bs here'
+      → Finds (nodes_faults (plainly here' level.seen.now []) (nodes.in_units b.units ++ nodes.refinements b.refinements)) r
+      → Finds (routine_faults (first_in level) (around_in level) ds (refined_in level) of fs b) r
+  routine_none here' bs of fs b r n j k h =
+      none_first (nodes_faults (here (first_in level) (around_in level) ds (refined_in level)) (nodes.result of ++ nodes.formals fs))
+      (nodes_faults (here 0 (names_of (first_in level) (around_in level) ds ++ around_in level) (body_definitions fs b) []) (nodes.in_units b.units ++ nodes.refinements b.refinements)) r
+      (n ∙ ap (λ (q : Here). first_fault (nodes_faults q (nodes.result of ++ nodes.formals fs))) (here_is (first_in level) (around_in level) ds (refined_in level) level.types.now e.0))
       (subst (λ (q : Here). Finds (nodes_faults q (nodes.in_units b.units ++ nodes.refinements b.refinements)) r)
-      (here_is around bs [] here' k ∙ ap (λ (ts : List TypeName). here ts bs []) (i ∙ e.0)
-      ∙ ap (λ (cs : List Definition). here (names_of [] ds) cs []) j) h)
+      (here_is 0 level.seen.now bs [] here' k ∙ ap (λ (ts : List TypeName). here 0 ts bs []) e.1
+      ∙ ap (λ (cs : List Definition). here 0 (names_of (first_in level) (around_in level) ds ++ around_in level) cs []) j) h)
 
-pub level_none : {E : Type 0} (types : ScopeTypes) (l : Level) (ds : List Definition) (rs : List Refinement) (r : Result (Option Fault) E)
-    → ds ≡ level_definitions l → rs ≡ l.refinements → AreOf [] ds types → None ≡ first_fault (flat_map (unit_faults ds rs) l.units)
-    → Finds (nodes_faults (plainly types [] rs) (nodes.refinements rs)) r → Finds (level_faults l) r
-level_none types l ds rs r d i e n h =
-    subst (λ (es : List Definition). Finds (flat_map (unit_faults es l.refinements) l.units
-    ++ nodes_faults (here [] es l.refinements) (nodes.refinements l.refinements)) r) d
-    (subst (λ (us : List Refinement). Finds (flat_map (unit_faults ds us) l.units ++ nodes_faults (here [] ds us) (nodes.refinements us)) r) i
-    (none_first (flat_map (unit_faults ds rs) l.units) (nodes_faults (here [] ds rs) (nodes.refinements rs)) r n
-    (in_level ds types e rs (nodes.refinements rs) r h)))
+pub level_none : {E : Type 0} (level : InLevel) (l : Level) (ds : List Definition) (r : Result (Option Fault) E)
+    → ds ≡ level_definitions l → level.refined.now ≡ l.refinements → Knows ds level
+    → None ≡ first_fault (flat_map (unit_faults level.around.first level.around.names.now ds level.refined.now) l.units)
+    → Finds (nodes_faults (known_in level) (nodes.refinements level.refined.now)) r
+    → Finds (level_faults level.around.first level.around.names.now l) r
+level_none level l ds r d i e n h =
+    let first = level.around.first in
+    let around = level.around.names.now in
+    let rs = level.refined.now in
+    subst (λ (es : List Definition). Finds (flat_map (unit_faults first around es l.refinements) l.units
+    ++ nodes_faults (here first around es l.refinements) (nodes.refinements l.refinements)) r) d
+    (subst (λ (us : List Refinement). Finds (flat_map (unit_faults first around ds us) l.units
+    ++ nodes_faults (here first around ds us) (nodes.refinements us)) r) i
+    (none_first (flat_map (unit_faults first around ds rs) l.units) (nodes_faults (here first around ds rs) (nodes.refinements rs)) r n
+    (in_level ds level e (nodes.refinements rs) r h)))
 
 -- ---- units in turn
 

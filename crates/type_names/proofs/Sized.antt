@@ -1,5 +1,5 @@
 -- Each part of a type that is written has a cell.
-use Rattle.std.proofs.Common.{◌≡◌, ℕ, ℤ, pos, negsuc, zero, suc, Bool, true, false, ◌&&◌, if◌then◌else◌, nat_le, List, [], ◌∷◌, ◌++◌, length, map}
+use Rattle.std.proofs.Common.{◌+◌, ◌≡◌, ℕ, ℤ, pos, negsuc, zero, suc, Bool, true, false, ◌&&◌, if◌then◌else◌, nat_le, List, [], ◌∷◌, ◌++◌, length, map}
 use Rattle.std.proofs.Common.{Option, Some, None, refl, sym, ap, subst, ◌∙◌}
 use Rattle.std.specs.Prelude.{flat_map}
 use Rattle.std.specs.Option.{option_or}
@@ -192,11 +192,11 @@ module _ (l : Looks) (sized : SizedBy l) where
       by_test true = open_sized
       by_test false = ap is_sized own_shape ∙ e
 
-  defined_sized : (n : ℕ) (w : Defined) (t : ElanType) → as_defined l n w ≡ named.Of t → IsSized t
-  defined_sized n (defined.Abbreviation of) t e = let i : meant l of ≡ t = cc in subst IsSized i (meant_sized of)
-  defined_sized n (defined.New of) t e = let i : made n (meant l of) ≡ t = cc in subst IsSized i (own_sized n (meant l of) (meant_sized of))
-  defined_sized n (defined.Number k) t e = absurd cc
-  defined_sized n defined.Other t e = absurd cc
+  defined_sized : (first n : ℕ) (w : Defined) (t : ElanType) → as_defined first l n w ≡ named.Of t → IsSized t
+  defined_sized first n (defined.Abbreviation of) t e = let i : meant l of ≡ t = cc in subst IsSized i (meant_sized of)
+  defined_sized first n (defined.New of) t e = let i : made (first + n) (meant l of) ≡ t = cc in subst IsSized i (own_sized (first + n) (meant l of) (meant_sized of))
+  defined_sized first n (defined.Number k) t e = absurd cc
+  defined_sized first n defined.Other t e = absurd cc
 
 -- ---- names
 
@@ -206,24 +206,24 @@ type_sized ts sized of = meant_sized (look ts) sized of
 pub none_sized : SizedNames []
 none_sized x t e = absurd cc
 
-module _ (around : List TypeName) (ds : List Definition) (sized : SizedNames around) where
+module _ (first : ℕ) (around : List TypeName) (ds : List Definition) (sized : SizedNames around) where
   found_sized : (l : Looks) → SizedBy l → (o : Option (ℕ × Definition)) (q : Option Named) → ((t : ElanType) → q ≡ Some (named.Of t) → IsSized t)
-      → (t : ElanType) → by_definition l o q ≡ Some (named.Of t) → IsSized t
+      → (t : ElanType) → by_definition first l o q ≡ Some (named.Of t) → IsSized t
   found_sized l h None q k t e = k t e
-  found_sized l h (Some f) q k t e = let i : as_defined l f.0 f.1.what ≡ named.Of t = cc in defined_sized l h f.0 f.1.what t i
+  found_sized l h (Some f) q k t e = let i : as_defined first l f.0 f.1.what ≡ named.Of t = cc in defined_sized l h first f.0 f.1.what t i
 
-  denoted_sized : (n : ℕ) → SizedBy (denoted around ds n)
+  denoted_sized : (n : ℕ) → SizedBy (denoted first around ds n)
   denoted_sized zero x t e = found_sized (λ y. None) (λ y u i. absurd cc) (first_from 0 ds x) (look around x) (sized x) t e
-  denoted_sized (suc n) x t e = found_sized (denoted around ds n) (denoted_sized n) (first_from 0 ds x) (look around x) (sized x) t e
+  denoted_sized (suc n) x t e = found_sized (denoted first around ds n) (denoted_sized n) (first_from 0 ds x) (look around x) (sized x) t e
 
-  pub names_sized : SizedNames (names_of around ds)
+  pub names_sized : SizedNames (names_of first around ds)
   names_sized x t e =
-      found_sized (denoted around ds (length ds)) (denoted_sized (length ds)) (first_from 0 ds x) None (λ u i. absurd cc) t
-      (sym (names_denote around ds x) ∙ e)
+      found_sized (denoted first around ds (length ds)) (denoted_sized (length ds)) (first_from 0 ds x) None (λ u i. absurd cc) t
+      (sym (names_denote first around ds x) ∙ e)
 
-  pub seen_sized : SizedNames (names_of around ds ++ around)
-  seen_sized x t e = by_own (look (names_of around ds) x) refl (sym (look_both x (names_of around ds) around) ∙ e)
+  pub seen_sized : SizedNames (names_of first around ds ++ around)
+  seen_sized x t e = by_own (look (names_of first around ds) x) refl (sym (look_both x (names_of first around ds) around) ∙ e)
     where
-      by_own : (o : Option Named) → look (names_of around ds) x ≡ o → option_or o (look around x) ≡ Some (named.Of t) → IsSized t
+      by_own : (o : Option Named) → look (names_of first around ds) x ≡ o → option_or o (look around x) ≡ Some (named.Of t) → IsSized t
       by_own None i k = sized x t k
       by_own (Some m) i k = names_sized x t (i ∙ k)

@@ -85,8 +85,8 @@ pub record Here : Type 0 where
   pub calls : List (List ℕ)
   pub refinements : List Refinement
 
-abbrev pub here : List TypeName → List Definition → List Refinement → Here
-here around ds rs = record { seen = names_of around ds ++ around; definitions = ds; calls = calls ds; refinements = rs }
+abbrev pub here : ℕ → List TypeName → List Definition → List Refinement → Here
+here first around ds rs = record { seen = names_of first around ds ++ around; definitions = ds; calls = calls ds; refinements = rs }
 
 -- ---- types as they are written
 
@@ -210,23 +210,25 @@ module _ (h : Here) where
 
 -- ---- a level
 
--- A heading is read in the level, and a body in its own scope.
-abbrev pub routine_faults : List Definition → List Refinement → Option TypePhrase → List Formal → Body → List Fault
-routine_faults ds rs r fs b =
-    nodes_faults (here [] ds rs) (nodes.result r ++ nodes.formals fs)
-    ++ nodes_faults (here (names_of [] ds) (body_definitions fs b) []) (nodes.in_units b.units ++ nodes.refinements b.refinements)
+-- where own types are numbered from this number on, and these names are declared around
+module _ (first : ℕ) (around : List TypeName) where
+  -- A heading is read in the level, and a body in its own scope.
+  abbrev pub routine_faults : List Definition → List Refinement → Option TypePhrase → List Formal → Body → List Fault
+  routine_faults ds rs r fs b =
+      nodes_faults (here first around ds rs) (nodes.result r ++ nodes.formals fs)
+      ++ nodes_faults (here 0 (names_of first around ds ++ around) (body_definitions fs b) []) (nodes.in_units b.units ++ nodes.refinements b.refinements)
 
-abbrev pub unit_faults : List Definition → List Refinement → LevelUnit → List Fault
-unit_faults ds rs (level.Plain u) = nodes_faults (here [] ds rs) (nodes.in_unit u)
-unit_faults ds rs (level.NewType at n of) = nodes_faults (here [] ds rs) (new_type at n of ∷ [])
-unit_faults ds rs (level.Proc at r n fs b) = routine_faults ds rs r fs b
-unit_faults ds rs (level.Op at r n fs b) = routine_faults ds rs r fs b
+  abbrev pub unit_faults : List Definition → List Refinement → LevelUnit → List Fault
+  unit_faults ds rs (level.Plain u) = nodes_faults (here first around ds rs) (nodes.in_unit u)
+  unit_faults ds rs (level.NewType at n of) = nodes_faults (here first around ds rs) (new_type at n of ∷ [])
+  unit_faults ds rs (level.Proc at r n fs b) = routine_faults ds rs r fs b
+  unit_faults ds rs (level.Op at r n fs b) = routine_faults ds rs r fs b
 
--- the faults of types in a level, in text order
-abbrev pub level_faults : Level → List Fault
-level_faults l =
-    let ds = level_definitions l in
-    flat_map (unit_faults ds l.refinements) l.units ++ nodes_faults (here [] ds l.refinements) (nodes.refinements l.refinements)
+  -- the faults of types in a level, in text order
+  abbrev pub level_faults : Level → List Fault
+  level_faults l =
+      let ds = level_definitions l in
+      flat_map (unit_faults ds l.refinements) l.units ++ nodes_faults (here first around ds l.refinements) (nodes.refinements l.refinements)
 
 abbrev pub first_fault : List Fault → Option Fault
 first_fault fs = slice_get fs 0

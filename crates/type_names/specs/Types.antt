@@ -1,5 +1,5 @@
 -- What names and types as they are written denote.
-use Rattle.std.specs.Prelude.{ℕ, zero, suc, ◌+◌, ℤ, pos, negsuc, Bool, false, ◌&&◌, ◌||◌, List, [], ◌∷◌, map, flat_map, length, Option, Some, None}
+use Rattle.std.specs.Prelude.{ℕ, zero, suc, ◌+◌, ℤ, pos, negsuc, Bool, false, ◌&&◌, ◌||◌, List, [], ◌∷◌, ◌++◌, map, flat_map, length, Option, Some, None}
 use Rattle.std.specs.Prelude.{option_map, if◌then◌else◌, nat_le}
 use Rattle.std.specs.List.{list_any}
 use Rattle.std.specs.Str.{bytes_eq}
@@ -102,41 +102,44 @@ type_in ts of = meant (look ts) of
 
 -- ---- what names denote
 
--- A type of the text's own has its number, and its concrete type. Where that is open, it is too.
+-- An own type has its number, and its concrete type. Where that is open, it is too.
 abbrev pub made : ℕ → ElanType → ElanType
 made n t = if is_open t then types.Open else types.Own n t
 
-abbrev pub as_defined : (List ℕ → Option Named) → ℕ → Defined → Named
-as_defined look n (defined.Abbreviation of) = named.Of (meant look of)
-as_defined look n (defined.New of) = named.Of (made n (meant look of))
-as_defined look n (defined.Number k) = named.Size k
-as_defined look n defined.Other = named.Other
+-- where own types are numbered from this number on
+module _ (first : ℕ) where
+  abbrev pub as_defined : (List ℕ → Option Named) → ℕ → Defined → Named
+  as_defined look n (defined.Abbreviation of) = named.Of (meant look of)
+  as_defined look n (defined.New of) = named.Of (made (first + n) (meant look of))
+  as_defined look n (defined.Number k) = named.Size k
+  as_defined look n defined.Other = named.Other
 
-abbrev pub by_definition : (List ℕ → Option Named) → Option (ℕ × Definition) → Option Named → Option Named
-by_definition look None around = around
-by_definition look (Some f) around = Some (as_defined look f.0 f.1.what)
+  abbrev pub by_definition : (List ℕ → Option Named) → Option (ℕ × Definition) → Option Named → Option Named
+  by_definition look None around = around
+  by_definition look (Some f) around = Some (as_defined look f.0 f.1.what)
 
--- where these names are declared around, and these definitions stand here
-module _ (around : List TypeName) (ds : List Definition) where
-  -- what a name denotes over at most so many further names. What leads to itself denotes nothing
-  abbrev pub denoted : ℕ → List ℕ → Option Named
-  denoted zero x = by_definition (λ y. None) (first_from 0 ds x) (look around x)
-  denoted (suc n) x = by_definition (denoted n) (first_from 0 ds x) (look around x)
+  -- where these names are declared around, and these definitions stand here
+  module _ (around : List TypeName) (ds : List Definition) where
+    -- what a name denotes over at most so many further names. What leads to itself denotes nothing
+    abbrev pub denoted : ℕ → List ℕ → Option Named
+    denoted zero x = by_definition (λ y. None) (first_from 0 ds x) (look around x)
+    denoted (suc n) x = by_definition (denoted n) (first_from 0 ds x) (look around x)
 
-  abbrev pub type_name : ℕ → Definition → TypeName
-  type_name n d = record { at = d.name_at; name = d.name; of = as_defined (denoted (length ds)) n d.what }
+    abbrev pub type_name : ℕ → Definition → TypeName
+    type_name n d = record { at = d.name_at; name = d.name; of = as_defined (denoted (length ds)) n d.what }
 
-  abbrev pub names_from : ℕ → List Definition → List TypeName
-  names_from n [] = []
-  names_from n (d ∷ rest) = type_name n d ∷ names_from (n + 1) rest
+    abbrev pub names_from : ℕ → List Definition → List TypeName
+    names_from n [] = []
+    names_from n (d ∷ rest) = type_name n d ∷ names_from (n + 1) rest
 
--- the names that definitions declare
-abbrev pub names_of : List TypeName → List Definition → List TypeName
-names_of around ds = names_from around ds 0 ds
+  -- the names that definitions declare, where these are declared around
+  abbrev pub names_of : List TypeName → List Definition → List TypeName
+  names_of around ds = names_from around ds 0 ds
 
-abbrev pub level_types : Level → List TypeName
-level_types l = names_of [] (level_definitions l)
+  -- the names of types that can be seen in a level: its own, and those around
+  abbrev pub level_types : List TypeName → Level → List TypeName
+  level_types around l = names_of around (level_definitions l) ++ around
 
--- those that a PROC or OP declares, where these are declared around
+-- those that a PROC or OP declares, where these are declared around; it makes no types of its own
 abbrev pub body_types : List TypeName → List Formal → Body → List TypeName
-body_types around fs b = names_of around (body_definitions fs b)
+body_types around fs b = names_of 0 around (body_definitions fs b)

@@ -5,8 +5,9 @@ ghost use Rattle.type_definitions.specs.declared.definition.Definition as defini
 ghost use Rattle.elan_walk.specs.Nodes as nodes;
 ghost use Rattle.type_names.specs.Faults as spec;
 ghost use Rattle.type_names.specs.Types as types;
-ghost use Rattle.type_names.specs.walks.Seen.{plainly, AreOf, Finds};
+ghost use Rattle.type_names.specs.walks.Seen.{plainly, known_in, Knows, Finds};
 
+use crate::resolve::Around;
 use crate::scope_types::ScopeTypes;
 use crate::search::{Fault, Search};
 use elan_names::type_directory::TypeDirectory;
@@ -16,20 +17,29 @@ use eu_base::NoMemory;
 use std::alloc::Global;
 use type_definitions::definition::{body_definitions, level_definitions};
 
+/// What is known of types in a level.
+#[derive(Clone, Copy)]
+pub struct InLevel<'a> {
+    pub types: &'a ScopeTypes,
+    pub around: Around<'a>,
+    /// The names of types that can be seen in it: its own, and those around.
+    pub seen: &'a TypeDirectory,
+    /// Its refinements.
+    pub refined: &'a [Refinement],
+}
+
 // The heading of a PROC or OP.
 #[tactic(auto, using(crate::proofs::Searched::found))]
 fn heading_fault(
     alloc: Global,
-    here: &ScopeTypes,
-    refined: &[Refinement],
+    level: InLevel<'_>,
     of: &Option<TypePhrase>,
     given: &[Formal],
 ) -> Result<Option<Fault>, NoMemory>
-    ensures { Finds (spec.nodes_faults (plainly here.now [] refined.now) (nodes.result of.now ++ nodes.formals given.now)) result }
+    ensures { Finds (spec.nodes_faults (known_in level.entry) (nodes.result of.now ++ nodes.formals given.now)) result }
 {
-    let none = TypeDirectory::new(alloc);
-    let search = result_type(Search::new(alloc, here, &none, refined), of);
-    formals(search, given).met()
+    let search = Search::new(alloc, level.types, level.around.names, level.refined);
+    formals(result_type(search, of), given).met()
 }
 
 // The units of a PROC or OP, and its refinements.
@@ -49,50 +59,47 @@ fn units_fault(
 #[tactic(auto, using(crate::proofs::Told::first_append))]
 fn routine_fault(
     alloc: Global,
-    level: &ScopeTypes,
-    refined: &[Refinement],
+    level: InLevel<'_>,
     of: &Option<TypePhrase>,
     given: &[Formal],
     body: &Body,
 ) -> Result<Option<Fault>, NoMemory>
-    ensures { (ds : List definitions.Definition) → AreOf [] ds level.now → Finds (spec.routine_faults ds refined.now of.now given.now body.now) result }
+    ensures { (ds : List definitions.Definition) → Knows ds level.entry → Finds
+        (spec.routine_faults level.entry.around.first level.entry.around.names.now ds level.entry.refined.now of.now given.now body.now) result }
 {
-    match heading_fault(alloc, level, refined, of, given)? {
+    match heading_fault(alloc, level, of, given)? {
         Some(fault) => Ok(Some(fault)),
         None => {
-            let around = &level.names;
+            let around = Around {
+                names: level.seen,
+                first: 0,
+            };
             let here = ScopeTypes::of(alloc, around, body_definitions(alloc, given, body)?)?;
-            units_fault(alloc, &here, around, body)
+            units_fault(alloc, &here, level.seen, body)
         }
     }
 }
 
 #[tactic(auto, using(crate::proofs::Searched::found))]
-fn plain_fault(
-    alloc: Global,
-    level: &ScopeTypes,
-    refined: &[Refinement],
-    unit: &Unit,
-) -> Result<Option<Fault>, NoMemory>
-    ensures { Finds (spec.nodes_faults (plainly level.now [] refined.now) (nodes.in_unit unit.now)) result }
+fn plain_fault(alloc: Global, level: InLevel<'_>, unit: &Unit) -> Result<Option<Fault>, NoMemory>
+    ensures { Finds (spec.nodes_faults (known_in level.entry) (nodes.in_unit unit.now)) result }
 {
-    let none = TypeDirectory::new(alloc);
-    visit_unit(Search::new(alloc, level, &none, refined), unit).met()
+    let search = Search::new(alloc, level.types, level.around.names, level.refined);
+    visit_unit(search, unit).met()
 }
 
 fn unit_fault(
     alloc: Global,
-    level: &ScopeTypes,
-    refined: &[Refinement],
+    level: InLevel<'_>,
     unit: &LevelUnit,
 ) -> Result<Option<Fault>, NoMemory>
-    ensures { (ds : List definitions.Definition) → AreOf [] ds level.now → Finds (spec.unit_faults ds refined.now unit.now) result }
+    ensures { (ds : List definitions.Definition) → Knows ds level.entry → Finds
+        (spec.unit_faults level.entry.around.first level.entry.around.names.now ds level.entry.refined.now unit.now) result }
 {
     match unit {
-        LevelUnit::Plain(unit) => plain_fault(alloc, level, refined, unit),
+        LevelUnit::Plain(unit) => plain_fault(alloc, level, unit),
         LevelUnit::NewType { at, name, of } => {
-            let none = TypeDirectory::new(alloc);
-            let search = Search::new(alloc, level, &none, refined);
+            let search = Search::new(alloc, level.types, level.around.names, level.refined);
             search.visit(Node::NewType(*at, name, of)).met()
         }
         LevelUnit::Proc {
@@ -100,26 +107,26 @@ fn unit_fault(
             formals,
             body,
             ..
-        } => routine_fault(alloc, level, refined, result, formals.as_slice(), body),
+        } => routine_fault(alloc, level, result, formals.as_slice(), body),
         LevelUnit::Op {
             result,
             formals,
             body,
             ..
-        } => routine_fault(alloc, level, refined, result, formals.as_slice(), body),
+        } => routine_fault(alloc, level, result, formals.as_slice(), body),
     }
 }
 
 fn first_in_units(
     alloc: Global,
-    level: &ScopeTypes,
-    refined: &[Refinement],
+    level: InLevel<'_>,
     units: &[LevelUnit],
 ) -> Result<Option<Fault>, NoMemory>
-    ensures { (ds : List definitions.Definition) → AreOf [] ds level.now → Finds (flat_map (spec.unit_faults ds refined.now) units.now) result }
+    ensures { (ds : List definitions.Definition) → Knows ds level.entry → Finds
+        (flat_map (spec.unit_faults level.entry.around.first level.entry.around.names.now ds level.entry.refined.now) units.now) result }
 {
     for unit in units {
-        match unit_fault(alloc, level, refined, unit)? {
+        match unit_fault(alloc, level, unit)? {
             Some(fault) => return Ok(Some(fault)),
             None => {}
         }
@@ -128,27 +135,40 @@ fn first_in_units(
 }
 
 #[tactic(auto, using(crate::proofs::Searched::found))]
-fn refinements_fault(
-    alloc: Global,
-    level: &ScopeTypes,
-    list: &[Refinement],
-) -> Result<Option<Fault>, NoMemory>
-    ensures { Finds (spec.nodes_faults (plainly level.now [] list.now) (nodes.refinements list.now)) result }
+fn refinements_fault(alloc: Global, level: InLevel<'_>) -> Result<Option<Fault>, NoMemory>
+    ensures { Finds (spec.nodes_faults (known_in level.entry) (nodes.refinements level.entry.refined.now)) result }
 {
-    let none = TypeDirectory::new(alloc);
-    refinements(Search::new(alloc, level, &none, list), list).met()
+    let search = Search::new(alloc, level.types, level.around.names, level.refined);
+    refinements(search, level.refined).met()
 }
 
-/// The first type of a level, in text order, that breaks a rule, if one does.
 #[tactic(auto, using(crate::proofs::Told::first_append))]
-pub fn level_fault(alloc: Global, level: &Level) -> Result<Option<Fault>, NoMemory>
-    ensures { Finds (spec.level_faults level.now) result }
+fn fault_in(alloc: Global, here: InLevel<'_>, level: &Level) -> Result<Option<Fault>, NoMemory>
+    ensures { (ds : List definitions.Definition) → ds ≡ types.level_definitions level.now → here.entry.refined.now ≡ level.now.refinements
+        → Knows ds here.entry → Finds (spec.level_faults here.entry.around.first here.entry.around.names.now level.now) result }
 {
-    let none = TypeDirectory::new(alloc);
-    let types = ScopeTypes::of(alloc, &none, level_definitions(alloc, level)?)?;
-    let refined = level.refinements.as_slice();
-    match first_in_units(alloc, &types, refined, level.units.as_slice())? {
+    match first_in_units(alloc, here, level.units.as_slice())? {
         Some(fault) => Ok(Some(fault)),
-        None => refinements_fault(alloc, &types, refined),
+        None => refinements_fault(alloc, here),
     }
+}
+
+/// The first type of a level, in text order, that breaks a rule, if one does. What can be seen in the level is given.
+pub fn level_fault(
+    alloc: Global,
+    around: Around<'_>,
+    seen: &TypeDirectory,
+    level: &Level,
+) -> Result<Option<Fault>, NoMemory>
+    ensures { seen.now ≡ types.level_types around.entry.first around.entry.names.now level.now
+        → Finds (spec.level_faults around.entry.first around.entry.names.now level.now) result }
+{
+    let types = ScopeTypes::of(alloc, around, level_definitions(alloc, level)?)?;
+    let here = InLevel {
+        types: &types,
+        around,
+        seen,
+        refined: level.refinements.as_slice(),
+    };
+    fault_in(alloc, here, level)
 }

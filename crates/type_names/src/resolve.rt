@@ -16,7 +16,7 @@ use eu_base::{Bytes, List, NoMemory, Shared};
 use std::alloc::Global;
 use type_definitions::definition::{Defined, Definition};
 
-// A type of the text's own; it is open where its concrete type is.
+// An own type; it is open where its concrete type is.
 fn made(alloc: Global, number: usize, concrete: ElanType) -> Result<ElanType, NoMemory>
     ensures { IfOk result (λ of. of ≡ spec.made number concrete) }
 {
@@ -27,20 +27,30 @@ fn made(alloc: Global, number: usize, concrete: ElanType) -> Result<ElanType, No
     Ok(ElanType::Own(number, Shared::new(alloc, concrete)?))
 }
 
+/// What is declared around a scope.
+#[derive(Clone, Copy)]
+pub struct Around<'a> {
+    /// The names of types.
+    pub names: &'a TypeDirectory,
+    /// How many names of types other texts declare: own types are numbered from this number on.
+    pub first: usize,
+}
+
 // What a definition says, read with these names.
 fn as_defined(
     alloc: Global,
     own: &TypeDirectory,
-    around: &TypeDirectory,
+    around: Around<'_>,
     number: usize,
     what: &Defined,
 ) -> Result<Named, NoMemory>
-    ensures { IfOk result (λ named. named ≡ spec.as_defined (spec.look (own.now ++ around.now)) number what.now) }
+    ensures { IfOk result (λ named. named ≡ spec.as_defined around.entry.first (spec.look (own.now ++ around.entry.names.now)) number what.now) }
 {
     match what {
-        Defined::Abbreviation(of) => Ok(Named::Of(type_in(alloc, own, around, of)?)),
+        Defined::Abbreviation(of) => Ok(Named::Of(type_in(alloc, own, around.names, of)?)),
         Defined::New(of) => {
-            let concrete = type_in(alloc, own, around, of)?;
+            let concrete = type_in(alloc, own, around.names, of)?;
+            let number = around.first.checked_add(number).ok_or(NoMemory)?;
             Ok(Named::Of(made(alloc, number, concrete)?))
         }
         Defined::Number(size) => Ok(Named::Size(*size)),
@@ -78,11 +88,11 @@ fn all_unread(alloc: Global, definitions: &[Definition]) -> Result<TypeDirectory
 fn read_one(
     alloc: Global,
     names: &mut TypeDirectory,
-    around: &TypeDirectory,
+    around: Around<'_>,
     definitions: &[Definition],
     number: usize,
 ) -> Result<(), NoMemory>
-    ensures { OnOk result (names.new ≡ walk.with_read around.now definitions.now number names.old) }
+    ensures { OnOk result (names.new ≡ walk.with_read around.entry.first around.entry.names.now definitions.now number names.old) }
 {
     match definitions.get(number) {
         None => Ok(()),
@@ -97,11 +107,11 @@ fn read_one(
 fn read_next(
     alloc: Global,
     names: &mut TypeDirectory,
-    around: &TypeDirectory,
+    around: Around<'_>,
     definitions: &[Definition],
     next: Option<&usize>,
 ) -> Result<(), NoMemory>
-    ensures { OnOk result ((n : ℕ) → walk.Reads around.now definitions.now n names.old → walk.Reads around.now definitions.now (n + 1) names.new) }
+    ensures { OnOk result ((n : ℕ) → walk.Reads around.entry.first around.entry.names.now definitions.now n names.old → walk.Reads around.entry.first around.entry.names.now definitions.now (n + 1) names.new) }
 {
     match next {
         None => Ok(()),
@@ -114,12 +124,12 @@ fn read_next(
 fn read_in_order(
     alloc: Global,
     unread: TypeDirectory,
-    around: &TypeDirectory,
+    around: Around<'_>,
     definitions: &[Definition],
     order: &[usize],
 ) -> Result<TypeDirectory, NoMemory>
     ensures { unread ≡ walk.all_unread definitions.now
-        → IfOk result (λ names. walk.Reads around.now definitions.now (length definitions.now) names) }
+        → IfOk result (λ names. walk.Reads around.entry.first around.entry.names.now definitions.now (length definitions.now) names) }
 {
     let mut names = unread;
     for turn in 0..definitions.len() {
@@ -132,11 +142,11 @@ fn read_in_order(
 fn reads_open(
     alloc: Global,
     own: &TypeDirectory,
-    around: &TypeDirectory,
+    around: Around<'_>,
     number: usize,
     what: &Defined,
 ) -> Result<bool, NoMemory>
-    ensures { IfOk result (λ told. told ≡ is_open_named (spec.as_defined (spec.look (own.now ++ around.now)) number what.now)) }
+    ensures { IfOk result (λ told. told ≡ is_open_named (spec.as_defined around.entry.first (spec.look (own.now ++ around.entry.names.now)) number what.now)) }
 {
     match as_defined(alloc, own, around, number, what)? {
         Named::Of(of) => {
@@ -152,10 +162,10 @@ fn reads_open(
 fn are_settled(
     alloc: Global,
     names: &TypeDirectory,
-    around: &TypeDirectory,
+    around: Around<'_>,
     definitions: &[Definition],
 ) -> Result<bool, NoMemory>
-    ensures { IfOk result (λ settled. settled ≡ walk.settled_from (spec.look (names.now ++ around.now)) 0 names.now definitions.now) }
+    ensures { IfOk result (λ settled. settled ≡ walk.settled_from around.entry.first (spec.look (names.now ++ around.entry.names.now)) 0 names.now definitions.now) }
 {
     let mut rest = names.as_slice();
     for (number, definition) in definitions.iter().enumerate() {
@@ -174,10 +184,10 @@ fn are_settled(
 fn read(
     alloc: Global,
     own: &TypeDirectory,
-    around: &TypeDirectory,
+    around: Around<'_>,
     definitions: &[Definition],
 ) -> Result<TypeDirectory, NoMemory>
-    ensures { IfOk result (λ names. names ≡ walk.read (spec.look (own.now ++ around.now)) 0 definitions.now) }
+    ensures { IfOk result (λ names. names ≡ walk.read around.entry.first (spec.look (own.now ++ around.entry.names.now)) 0 definitions.now) }
 {
     let mut names = List::new(alloc);
     for (number, definition) in definitions.iter().enumerate() {
@@ -195,13 +205,17 @@ fn read(
 // an order leaves open.
 fn read_in_rounds(
     alloc: Global,
-    around: &TypeDirectory,
+    around: Around<'_>,
     definitions: &[Definition],
 ) -> Result<TypeDirectory, NoMemory>
-    ensures { IfOk result (λ names. names ≡ spec.names_of around.now definitions.now) }
+    ensures { IfOk result (λ names. names ≡ spec.names_of around.entry.first around.entry.names.now definitions.now) }
 {
     let none = TypeDirectory::new(alloc);
-    let mut names = read(alloc, &none, &none, definitions)?;
+    let nothing = Around {
+        names: &none,
+        first: around.first,
+    };
+    let mut names = read(alloc, &none, nothing, definitions)?;
     for _definition in definitions {
         names = read(alloc, &names, around, definitions)?;
     }
@@ -212,11 +226,11 @@ fn read_in_rounds(
 fn settled(
     alloc: Global,
     names: TypeDirectory,
-    around: &TypeDirectory,
+    around: Around<'_>,
     definitions: &[Definition],
 ) -> Result<TypeDirectory, NoMemory>
-    ensures { walk.Reads around.now definitions.now (length definitions.now) names
-        → IfOk result (λ names. names ≡ spec.names_of around.now definitions.now) }
+    ensures { walk.Reads around.entry.first around.entry.names.now definitions.now (length definitions.now) names
+        → IfOk result (λ names. names ≡ spec.names_of around.entry.first around.entry.names.now definitions.now) }
 {
     if are_settled(alloc, &names, around, definitions)? {
         return Ok(names);
@@ -235,10 +249,10 @@ pub struct Resolution {
 /// definition is read behind those that it names.
 pub fn resolve(
     alloc: Global,
-    around: &TypeDirectory,
+    around: Around<'_>,
     definitions: &[Definition],
 ) -> Result<Resolution, NoMemory>
-    ensures names { IfOk result (λ made. made.names ≡ spec.names_of around.now definitions.now) }
+    ensures names { IfOk result (λ made. made.names ≡ spec.names_of around.entry.first around.entry.names.now definitions.now) }
     ensures calls { IfOk result (λ made. made.calls ≡ faults.calls definitions.now) }
 {
     let unread = all_unread(alloc, definitions)?;
@@ -251,10 +265,10 @@ pub fn resolve(
 /// The names that definitions declare, where others are declared around.
 pub fn names_of(
     alloc: Global,
-    around: &TypeDirectory,
+    around: Around<'_>,
     definitions: &[Definition],
 ) -> Result<TypeDirectory, NoMemory>
-    ensures { IfOk result (λ names. names ≡ spec.names_of around.now definitions.now) }
+    ensures { IfOk result (λ names. names ≡ spec.names_of around.entry.first around.entry.names.now definitions.now) }
 {
     let Resolution { names, .. } = resolve(alloc, around, definitions)?;
     Ok(names)

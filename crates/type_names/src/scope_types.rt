@@ -7,7 +7,7 @@ ghost use Rattle.type_names.specs.walks.Further.{definition_names};
 ghost use Rattle.elan_names.specs.walks.Firsts.{type_names};
 
 use crate::calls::numbers_named;
-use crate::resolve::{Resolution, resolve};
+use crate::resolve::{Around, Resolution, resolve};
 use call_graph::CallGraph;
 use elan_names::type_directory::TypeDirectory;
 use elan_tree::TypePhrase;
@@ -47,10 +47,10 @@ impl ScopeTypes {
     /// What these definitions tell, where these names are declared around.
     pub fn of(
         alloc: Global,
-        around: &TypeDirectory,
+        around: Around<'_>,
         definitions: List<Definition>,
     ) -> Result<ScopeTypes, NoMemory>
-        ensures { IfOk result (λ made. AreOf around.now definitions made) }
+        ensures { IfOk result (λ made. AreOf around.entry.first around.entry.names.now definitions made) }
     {
         let Resolution { names, calls } = resolve(alloc, around, definitions.as_slice())?;
         Ok(ScopeTypes {

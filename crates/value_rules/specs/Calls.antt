@@ -199,6 +199,17 @@ heading_open ps r v = (has_open ps || is_open_result r) && is_given v
 abbrev pub heading_ruled : ℕ → List Parameter → Option ElanType → Bool → Option (ℕ × Heading) → Ruled Meant
 heading_ruled at ps r missing first = unless (heading_open ps r (heading at ps missing first)) (told (heading at ps missing first))
 
+-- ---- what a packet shows
+
+abbrev pub exported_as : ℕ → Option Bool → Verdict Meant
+exported_as at None = breaks (at, Unknown)
+exported_as at (Some false) = breaks (at, WrongPlace)
+exported_as at (Some true) = gives (Done [])
+
+-- A name is shown once. What may be shown stands under it.
+abbrev pub exported : ℕ → Bool → Option Bool → Verdict Meant
+exported at doubled may = if doubled then breaks (at, Doubled) else exported_as at may
+
 -- ---- LEAVE
 
 -- Without a value, or with one, it agrees with what it leaves. Nothing is asked of the value where that is not known.

@@ -269,6 +269,20 @@ pub fn type_declared(alloc: Global, at: u32, scope: &Scope, name: &[u8]) -> Judg
     }
 }
 
+/// A name that a packet shows. It is shown once, and under it stands what may be shown.
+pub fn exported(alloc: Global, at: u32, doubled: bool, may: Option<bool>) -> Judged
+    ensures { Tells result (spec.exported at doubled may) }
+{
+    if doubled {
+        return Err(Trouble::Breaks(at, Why::Doubled));
+    }
+    match may {
+        None => Err(Trouble::Breaks(at, Why::Unknown)),
+        Some(false) => Err(Trouble::Breaks(at, Why::WrongPlace)),
+        Some(true) => Ok(Meant::Done(List::new(alloc))),
+    }
+}
+
 // A value is missing where a PROC or OP delivers one and its body has no unit.
 fn headed_as(alloc: Global, at: u32, missing: bool) -> Judged
     ensures { Tells result (spec.headed_as at missing) }

@@ -1,5 +1,5 @@
 -- What was found on a walk, and more behind it. No definition of meaning needs these.
-use Rattle.std.specs.Prelude.{◌≡◌, true, false, List, ◌++◌, Option, Some, None, Result, Ok, Err, IfOk}
+use Rattle.std.specs.Prelude.{◌≡◌, ℕ, true, false, List, ◌++◌, Option, Some, None, Result, Ok, Err, IfOk}
 use Rattle.elan_tree.specs.declared.tree.Refinement.{Refinement}
 use Rattle.elan_scope.specs.Ruled.{Fault}
 use Rattle.elan_names.specs.declared.type_name.TypeName.{TypeName}
@@ -8,6 +8,7 @@ use Rattle.type_names.specs.Types.{names_of}
 use Rattle.type_names.specs.Faults.{Here, calls, first_fault, node_faults}
 use Rattle.type_definitions.specs.declared.definition.Definition.{Definition}
 use Rattle.type_names.specs.declared.scope_types.ScopeTypes.{ScopeTypes}
+use Rattle.type_names.specs.declared.fault.InLevel.{InLevel}
 use Rattle.type_names.specs.declared.search.Search.{Search}
 use Rattle.type_names.specs.declared.visible.Visible.{Visible}
 
@@ -19,8 +20,18 @@ abbrev pub plainly : ScopeTypes → List TypeName → List Refinement → Here
 plainly types around rs = record { seen = types.names ++ around; definitions = types.definitions; calls = types.calls; refinements = rs }
 
 -- These definitions stand in the scope.
-abbrev pub AreOf : List TypeName → List Definition → ScopeTypes → Type 0
-AreOf around ds types = (types.names ≡ names_of around ds) × (types.definitions ≡ ds) × (types.calls ≡ calls ds)
+abbrev pub AreOf : ℕ → List TypeName → List Definition → ScopeTypes → Type 0
+AreOf first around ds types = (types.names ≡ names_of first around ds) × (types.definitions ≡ ds) × (types.calls ≡ calls ds)
+
+-- what is known of types in a level
+abbrev pub known_in : InLevel → Here
+known_in level = plainly level.types.now level.around.names.now level.refined.now
+
+-- These definitions stand in the level, and what is said to be seen there is seen.
+abbrev pub Knows : List Definition → InLevel → Type 0
+Knows ds level =
+    AreOf level.around.first level.around.names.now ds level.types.now
+    × (level.seen.now ≡ names_of level.around.first level.around.names.now ds ++ level.around.names.now)
 
 -- the fault that was found first
 abbrev pub earlier : Option Fault → Option Fault → Option Fault

@@ -7,4 +7,4 @@ use Rattle.elan_bodies.proofs.deliveries.next_deliveries.Goals as goal
 pub returns-in-Ok-clause-found : goal.returns-in-Ok-clause-found
 returns-in-Ok-clause-found c =
     ap (λ (s : Round). s.deliveries) c.in-Ok.ensures.found
-    ∙ round_found _ (level_bodies c.args.level.now) (c.in_ok-deliveries.ensures ∙ c.as_slice.ensures) c.requires.count
+    ∙ round_found _ (level_bodies c.args.scope.now c.args.level.now) (c.in_ok-deliveries.ensures ∙ c.as_slice.ensures) c.requires.count

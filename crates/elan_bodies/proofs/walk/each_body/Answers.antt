@@ -12,7 +12,7 @@ pub returns-clause-found : goal.returns-clause-found
 returns-clause-found g c =
     let s = c.args.scope.now in
     level_found g.B.EachBody.after c.args.level.now s c.see_units.new.scope c.in_ok-first.first c.args.looks.now c.see_units.new.looks
-    c.see_refinements.new.looks c.requires.scope
+    c.see_refinements.new.looks
     c.in_ok-see_units.ensures.kept
     (c.in_ok-first.ensures ∙ ap bodies_of_units c.as_slice-units.ensures)
     (c.in_ok-see_units.ensures.found

@@ -21,4 +21,4 @@ returns-clause-meaning c =
     subst (λ (us : List Statement). Is c.judge_units-units.result (judged k (shape.units Open (map (shape.unit inner) us)))) c.as_slice-2.ensures
     c.judge_units-units.ensures in
     subst (λ (o : Owner). Is c.refinement_phrase.result (judged k (pair 0 (form.refinement o) (l.declares s r.name) (l.refined_units s c.args.number r))))
-    c.owner_of.ensures (c.refinement_phrase.ensures k (l.declares s r.name) (l.refined_units s c.args.number r) name units)
+    c.in_ok-owner.ensures (c.refinement_phrase.ensures k (l.declares s r.name) (l.refined_units s c.args.number r) name units)

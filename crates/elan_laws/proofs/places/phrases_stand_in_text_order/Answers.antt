@@ -3,10 +3,10 @@ use Rattle.elan_laws.proofs.TypePlaces.{faults_follow}
 use Rattle.elan_laws.proofs.places.phrases_stand_in_text_order.Goals as goal
 
 pub returns-clause-all : goal.returns-clause-all
-returns-clause-all c = λ t. text_same t
+returns-clause-all c = λ env t. text_same env t
 
 pub returns-clause-judged : goal.returns-clause-judged
-returns-clause-judged c = λ t. text_leaves_follow t
+returns-clause-judged c = λ env t. text_leaves_follow env t
 
 pub returns-clause-types : goal.returns-clause-types
-returns-clause-types c = λ t h. faults_follow t h
+returns-clause-types c = λ env t h. faults_follow env t h

@@ -1,3 +1,4 @@
+use Rattle.elan_check.specs.Packets.{none}
 use Rattle.line_command.specs.Meaning.{alone}
 use Rattle.line_command.proofs.Unique.{one_output}
 use Rattle.line_command.proofs.Total.{an_output}
@@ -5,7 +6,7 @@ use Rattle.line_command.proofs.Enough.{enough}
 use Rattle.line_command.proofs.law.one_output.Goals as goal
 
 pub returns-clause-some : goal.returns-clause-some
-returns-clause-some c = an_output (λ t. (c.each_text_has_one_answer.ensures alone t).answer)
+returns-clause-some c = an_output (λ t. (c.each_text_has_one_answer.ensures alone none t).answer)
 
 pub returns-clause-one : goal.returns-clause-one
 returns-clause-one c = one_output (record {

@@ -1,4 +1,6 @@
-use Rattle.std.proofs.Common.{false}
+use Rattle.std.proofs.Common.{false, Err, subst}
+use Rattle.elan_scope.specs.declared.env.Env.{Env}
+use Rattle.elan_check.specs.Text.{Means, Refused, IsRefusal}
 use Rattle.elan_grammar.specs.Reads.{Reads}
 use Rattle.line_command.specs.Meaning.{means, of_lexer, of_parser, of_check}
 use Rattle.line_command.proofs.Refusing.{handed_on, lexer_refuses, parser_refuses, check_refuses}
@@ -20,9 +22,11 @@ returns-in_err-checked-clause-refused c =
     let reads : Reads false c.in_ok-tokens.tokens c.in_ok-tree.tree = rw c.as_slice.ensures at c.in_ok-tree.ensures.ok in
     handed_on c.args.text.now (of_check c.in_err-checked.field-0.0) c.from_residual-in_err-checked.result c.from_residual-in_err-checked.ensures
     (check_refuses c.args.text.now c.in_ok-tokens.tokens c.in_ok-tree.tree c.in_err-checked.field-0.0 c.in_ok-tokens.ensures.answer reads
-    c.in_err-checked.ensures.refused c.in_err-checked.ensures.not_built.0)
+    (subst (λ (env : Env). IsRefusal (Refused env c.in_ok-tree.tree) (Err c.in_err-checked.field-0.0)) c.new-packets.ensures c.in_err-checked.ensures.refused)
+    c.in_err-checked.ensures.not_built.0)
 
 pub returns-clause-meaning : goal.returns-clause-meaning
 returns-clause-meaning c =
     let reads : Reads false c.in_ok-tokens.tokens c.in_ok-tree.tree = rw c.as_slice.ensures at c.in_ok-tree.ensures.ok in
-    means c.in_ok-tree.tree c.in_ok-tokens.ensures.answer reads c.in_ok-checked.ensures.meaning
+    means c.in_ok-tree.tree c.in_ok-tokens.ensures.answer reads
+    (subst (λ (env : Env). Means env c.in_ok-tree.tree c.in_ok-checked.field-0) c.new-packets.ensures c.in_ok-checked.ensures.meaning)

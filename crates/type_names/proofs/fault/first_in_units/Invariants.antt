@@ -1,11 +1,12 @@
-use Rattle.std.proofs.Common.{◌≡◌, List, [], drop}
+use Rattle.std.proofs.Common.{◌≡◌, List, drop}
 use Rattle.std.specs.Prelude.{flat_map}
 use Rattle.type_definitions.specs.declared.definition.Definition.{Definition}
 use Rattle.type_names.specs.Faults.{unit_faults, first_fault}
-use Rattle.type_names.specs.walks.Seen.{AreOf}
+use Rattle.type_names.specs.walks.Seen.{Knows}
 use Rattle.type_names.proofs.fault.first_in_units.Given as goal
 
 abbrev pub invariant-loop-unit : goal.invariant-loop-unit
 invariant-loop-unit l =
-    (ds : List Definition) → AreOf [] ds l.level
-    → first_fault (flat_map (unit_faults ds l.refined) (drop l.unit-index l.units)) ≡ first_fault (flat_map (unit_faults ds l.refined) l.units)
+    (ds : List Definition) → Knows ds l.level
+    → first_fault (flat_map (unit_faults l.level.around.first l.level.around.names.now ds l.level.refined.now) (drop l.unit-index l.units))
+    ≡ first_fault (flat_map (unit_faults l.level.around.first l.level.around.names.now ds l.level.refined.now) l.units)

@@ -7,6 +7,6 @@ use Rattle.type_names.proofs.fault.heading_fault.Goals as goal
 
 pub returns : goal.returns
 returns c =
-    met_found c.args.here.now [] c.args.refined.now c.new.result c.formals.result (nodes.result c.args.of.now ++ nodes.formals c.args.given.now) c.met.result
-    c.new.ensures.here (c.new.ensures.around ∙ c.new-none.ensures) c.new.ensures.refinements c.new.ensures.first
-    (two is_wanted searched (nodes.result c.args.of.now) (nodes.formals c.args.given.now) refl c.result_type-search.ensures c.formals.ensures) c.met.ensures
+    met_found c.args.level.types.now c.args.level.around.names.now c.args.level.refined.now c.new-search.result c.formals.result (nodes.result c.args.of.now ++ nodes.formals c.args.given.now) c.met.result
+    c.new-search.ensures.here c.new-search.ensures.around c.new-search.ensures.refinements c.new-search.ensures.first
+    (two is_wanted searched (nodes.result c.args.of.now) (nodes.formals c.args.given.now) refl c.result_type.ensures c.formals.ensures) c.met.ensures

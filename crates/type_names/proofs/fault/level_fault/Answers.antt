@@ -1,19 +1,10 @@
-use Rattle.std.proofs.Common.{List, None, ◌≡◌, sym, subst, ◌∙◌}
-use Rattle.std.specs.Prelude.{flat_map}
-use Rattle.elan_tree.specs.declared.tree.LevelUnit.{LevelUnit}
-use Rattle.type_names.specs.Faults.{unit_faults, first_fault}
-use Rattle.type_names.specs.walks.Seen.{AreOf}
-use Rattle.elan_names.specs.declared.type_name.TypeName.{TypeName}
-use Rattle.type_names.proofs.Searched.{level_none}
+use Rattle.std.proofs.Common.{List, ◌++◌, ap, sym, ◌∙◌}
+use Rattle.type_definitions.specs.declared.definition.Definition.{Definition}
+use Rattle.type_names.specs.Types.{names_of}
 use Rattle.type_names.proofs.fault.level_fault.Goals as goal
 
 pub returns : goal.returns
-returns c =
-    let ds = c.in_ok-level_definitions.field-0 in
-    let rs = c.as_slice-refined.result.now in
-    let types = subst (λ (around : List TypeName). AreOf around ds c.in_ok-types.types) c.new-none.ensures c.in_ok-types.ensures in
-    level_none c.in_ok-types.types c.args.level.now ds rs c.refinements_fault.result c.in_ok-level_definitions.ensures c.as_slice-refined.ensures
-    types
-    (subst (λ (us : List LevelUnit). None ≡ first_fault (flat_map (unit_faults ds rs) us)) c.as_slice.ensures
-    (sym c.in-None.is ∙ c.in_ok-fault.ensures ds types))
-    c.refinements_fault.ensures
+returns c = λ e.
+    let seen = e ∙ ap (λ (es : List Definition). names_of c.args.around.first c.args.around.names.now es ++ c.args.around.names.now)
+    (sym c.in_ok-level_definitions.ensures) in
+    c.fault_in.ensures c.in_ok-level_definitions.field-0 c.in_ok-level_definitions.ensures c.as_slice.ensures (c.in_ok-types.ensures, seen)

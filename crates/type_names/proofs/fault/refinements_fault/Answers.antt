@@ -5,5 +5,5 @@ use Rattle.type_names.proofs.fault.refinements_fault.Goals as goal
 
 pub returns : goal.returns
 returns c =
-    met_found c.args.level.now [] c.args.list.now c.new.result c.refinements.result (nodes.refinements c.args.list.now) c.met.result
-    c.new.ensures.here (c.new.ensures.around ∙ c.new-none.ensures) c.new.ensures.refinements c.new.ensures.first c.refinements.ensures c.met.ensures
+    met_found c.args.level.types.now c.args.level.around.names.now c.args.level.refined.now c.new-search.result c.refinements.result (nodes.refinements c.args.level.refined.now) c.met.result
+    c.new-search.ensures.here c.new-search.ensures.around c.new-search.ensures.refinements c.new-search.ensures.first c.refinements.ensures c.met.ensures

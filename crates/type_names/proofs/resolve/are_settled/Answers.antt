@@ -8,9 +8,9 @@ use Rattle.type_names.proofs.resolve.are_settled.Goals as goal
 
 pub returns : goal.returns
 returns c =
-    let sees = look (c.args.names.now ++ c.args.around.now) in
+    let sees = look (c.args.names.now ++ c.args.around.names.now) in
     let number = c.loop-number.number in
-    c.is_empty.ensures ∙ sym (settled_end sees number c.loop-number.rest.now)
-    ∙ sym (ap (λ (es : List Definition). settled_from sees number c.loop-number.rest.now es)
+    c.is_empty.ensures ∙ sym (settled_end c.args.around.first sees number c.loop-number.rest.now)
+    ∙ sym (ap (λ (es : List Definition). settled_from c.args.around.first sees number c.loop-number.rest.now es)
     (drop_all number c.args.definitions.now c.loop-number-test.false))
     ∙ c.loop-number.invariant

@@ -5,4 +5,4 @@ use Rattle.type_names.proofs.resolve.read.Given as goal
 
 abbrev pub invariant-loop-number : goal.invariant-loop-number
 invariant-loop-number l =
-    l.names ++ read (look (l.own ++ l.around)) l.number (drop l.number l.definitions) ≡ read (look (l.own ++ l.around)) 0 l.definitions
+    l.names ++ read l.around.first (look (l.own ++ l.around.names.now)) l.number (drop l.number l.definitions) ≡ read l.around.first (look (l.own ++ l.around.names.now)) 0 l.definitions

@@ -1,7 +1,6 @@
 use Rattle.std.proofs.Common.{sym, subst, ◌∙◌}
 use Rattle.elan_bodies.specs.declared.settle.Settling.{Settling}
-use Rattle.elan_bodies.specs.Level.{level_bodies}
-use Rattle.elan_bodies.specs.walks.OnTheWay.{IsOnTheWay}
+use Rattle.elan_bodies.specs.walks.OnTheWay.{IsOnTheWay, bodies_at}
 use Rattle.elan_bodies.proofs.Settling.{refined_here}
 use Rattle.elan_bodies.proofs.settle.Settling.refinements.Goals as goal
 use Rattle.elan_bodies.proofs.settle.Settling.refinements.Goals.{in-Some+in_ok-refinement, in_default}
@@ -14,7 +13,7 @@ loop-place-preserved c =
         found = λ l k h.
             subst (λ (z : Settling). IsOnTheWay l z.known) (sym w.self-is)
             (w.in_ok-refinement.ensures.found l (c.loop-place.invariant.found l k h)
-            (refined_here (level_bodies l) c.args.scope.now c.loop-place.scope c.args.first c.number_at-number.result c.args.refinements.now
+            (refined_here (bodies_at l) c.args.scope.now c.loop-place.scope c.args.first c.number_at-number.result c.args.refinements.now
             w.in-Some.refinement.now h w.in-Some.ensures.0 w.in-Some.ensures.1 c.loop-place.invariant.scope));
       }
       | in_default w ↦ record {

@@ -1,7 +1,6 @@
 use Rattle.std.proofs.Common.{◌≡◌}
-use Rattle.elan_tree.specs.declared.tree.Level.{Level}
-use Rattle.elan_bodies.specs.Level.{level_bodies, all_refined_units}
-use Rattle.elan_bodies.specs.walks.OnTheWay.{IsOnTheWay, Holds}
+use Rattle.elan_bodies.specs.Level.{all_refined_units}
+use Rattle.elan_bodies.specs.walks.OnTheWay.{IsOnTheWay, Holds, LevelAt, bodies_at}
 use Rattle.elan_bodies.proofs.settle.Settling.refinements.Given as goal
 
 pub record Kept (P Q : Type 0) : Type 0 where
@@ -11,5 +10,5 @@ pub record Kept (P Q : Type 0) : Type 0 where
 abbrev pub invariant-loop-place : goal.invariant-loop-place
 invariant-loop-place l =
     Kept (l.scope ≡ l.fn.scope)
-    ((w : Level) → IsOnTheWay w l.fn.self.known → Holds (level_bodies w) l.first (all_refined_units l.fn.scope l.first l.refinements)
+    ((w : LevelAt) → IsOnTheWay w l.fn.self.known → Holds (bodies_at w) l.first (all_refined_units l.fn.scope l.first l.refinements)
     → IsOnTheWay w l.self.known)

@@ -1,7 +1,7 @@
 use Rattle.std.proofs.Common.{◌+◌, ap, ◌∙◌}
 use Rattle.elan_scope.specs.declared.scope.Scope.{Scope}
 use Rattle.elan_levels.specs.Bodies.{body_within, routine_scope}
-use Rattle.elan_bodies.specs.Level.{level_bodies}
+use Rattle.elan_bodies.specs.walks.OnTheWay.{bodies_at}
 use Rattle.elan_bodies.proofs.Settling.{routine_here}
 use Rattle.elan_bodies.proofs.settle.Settling.routine.Goals as goal
 
@@ -13,7 +13,7 @@ returns-clause-found c = λ w s h.
     let z = c.args.scope.now in
     let own = body_within z.types c.args.number c.args.formals.now c.args.body.now in
     c.in_ok-refinements.ensures.found w s
-    (routine_here (level_bodies w) (routine_scope z own) c.enter.new.scope (c.args.number + 1) c.in_ok-first.first c.as_slice.result.now
+    (routine_here (bodies_at w) (routine_scope z own) c.enter.new.scope (c.args.number + 1) c.in_ok-first.first c.as_slice.result.now
     c.args.body.now.refinements c.in_ok-enter.ensures.entered c.in_ok-first.ensures c.as_slice.ensures h)
 
 pub returns-clause-kept : goal.returns-clause-kept

@@ -2,14 +2,14 @@ use Rattle.std.proofs.Common.{◌+◌, List, sym, subst}
 use Rattle.elan_tree.specs.declared.written_type.Formal.{Formal}
 use Rattle.elan_tree.specs.declared.tree.LevelUnit.{LevelUnit}
 use Rattle.elan_levels.specs.Bodies.{body_within, routine_scope}
-use Rattle.elan_bodies.specs.Level.{level_bodies, all_refined_units, unit_bodies}
-use Rattle.elan_bodies.specs.walks.OnTheWay.{Holds}
+use Rattle.elan_bodies.specs.Level.{all_refined_units, unit_bodies}
+use Rattle.elan_bodies.specs.walks.OnTheWay.{Holds, bodies_at}
 use Rattle.elan_bodies.proofs.Settling.{behind_one}
 use Rattle.elan_bodies.proofs.settle.Settling.unit.Goals as goal
 
 pub returns-in-Proc-clause-found : goal.returns-in-Proc-clause-found
 returns-in-Proc-clause-found c = λ w s h.
-    let all = level_bodies w in
+    let all = bodies_at w in
     let z = c.args.scope.now in
     let n = c.args.number in
     let b = c.in-Proc.body in
@@ -20,7 +20,7 @@ returns-in-Proc-clause-found c = λ w s h.
 
 pub returns-in-Op-clause-found : goal.returns-in-Op-clause-found
 returns-in-Op-clause-found c = λ w s h.
-    let all = level_bodies w in
+    let all = bodies_at w in
     let z = c.args.scope.now in
     let n = c.args.number in
     let b = c.in-Op.body in

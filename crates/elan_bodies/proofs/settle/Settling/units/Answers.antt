@@ -1,5 +1,5 @@
 use Rattle.std.proofs.Common.{◌∙◌}
-use Rattle.elan_bodies.specs.Level.{level_bodies}
+use Rattle.elan_bodies.specs.walks.OnTheWay.{bodies_at}
 use Rattle.elan_bodies.proofs.Settling.{unit_here, units_behind}
 use Rattle.elan_bodies.proofs.settle.Settling.units.Goals as goal
 
@@ -9,9 +9,9 @@ loop-unit-preserved c = record {
   found = λ w s h.
       let i = c.loop-unit.invariant.found w s h in (
         c.in_ok-unit.ensures.found w i.0
-            (unit_here (level_bodies w) c.args.scope.now c.loop-unit.scope c.loop-unit.number c.in_ok-number.number c.args.units.now c.loop-unit.unit-index
+            (unit_here (bodies_at w) c.args.scope.now c.loop-unit.scope c.loop-unit.number c.in_ok-number.number c.args.units.now c.loop-unit.unit-index
             c.unit-item.result c.loop-unit-test.true c.unit-item.is c.loop-unit.invariant.scope i.1),
-        units_behind (level_bodies w) c.args.scope.now c.loop-unit.scope c.loop-unit.number c.in_ok-number.number c.args.units.now c.loop-unit.unit-index
+        units_behind (bodies_at w) c.args.scope.now c.loop-unit.scope c.loop-unit.number c.in_ok-number.number c.args.units.now c.loop-unit.unit-index
             c.unit-item.result c.loop-unit-test.true c.unit-item.is c.loop-unit.invariant.scope i.1 c.in_ok-number.ensures,
       );
 }

@@ -8,6 +8,6 @@ pub invariant_of-result : goal.invariant_of-result
 invariant_of-result c =
     record {
       are_named =
-          ap type_names c.in_ok-names.ensures.names ∙ names_named c.args.around.now c.as_slice.result.now
+          ap type_names c.in_ok-names.ensures.names ∙ names_named c.args.around.first c.args.around.names.now c.as_slice.result.now
           ∙ ap definition_names c.as_slice.ensures;
     }

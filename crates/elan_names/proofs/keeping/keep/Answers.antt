@@ -3,7 +3,7 @@ use Rattle.std.specs.Prelude.{is_some}
 use Rattle.std.specs.Str.{bytes_eq}
 use Rattle.elan_names.specs.walks.Firsts.{earlier, kept}
 use Rattle.elan_names.proofs.Kept.{is_kept}
-use Rattle.elan_names.proofs.directory.keep.Goals as goal
+use Rattle.elan_names.proofs.keeping.keep.Goals as goal
 
 pub returns : goal.returns
 returns c = λ x.

@@ -1,0 +1,71 @@
+-- The scope of a text, and what packets show, part by part.
+use Rattle.std.proofs.Common.{◌≡◌, ℕ, List, [], length, map, None, sym, ap, ◌∙◌}
+use Rattle.cell_kinds.specs.declared.packet.Packet.{Packet}
+use Rattle.elan_types.specs.declared.core_phrase.Body.{Body}
+use Rattle.elan_tree.specs.declared.tree.Export.{Export}
+use Rattle.elan_tree.specs.declared.tree.Level.{Level}
+use Rattle.elan_tree.specs.declared.tree.Tree.{Tree}
+use Rattle.elan_names.specs.declared.entry.Entry.{Entry}
+use Rattle.elan_names.specs.declared.heading.Heading.{Heading}
+use Rattle.elan_names.specs.declared.interface.Interface.{Interface}
+use Rattle.elan_names.specs.declared.interface.Inserted.{Inserted}
+use Rattle.elan_names.specs.declared.type_name.TypeName.{TypeName}
+use Rattle.elan_scope.specs.declared.env.Env.{Env}
+use Rattle.elan_scope.specs.declared.scope.Home.{Home}
+use Rattle.elan_scope.specs.declared.scope.Scope.{Scope}
+use Rattle.elan_scope.specs.Shown.{shown_types}
+use Rattle.type_definitions.specs.declared.definition.Definition.{Definition}
+use Rattle.type_names.specs.Types.{names_of, level_types, level_definitions}
+use Rattle.elan_levels.specs.Bodies.{names_in, headings_in}
+use Rattle.elan_bodies.specs.Level.{level_in, exports_in, export_name, home_of, text_scope}
+use Rattle.elan_check.specs.Packets.{nothing, interface}
+
+pub scope_is : (env : Env) (t : Tree) (w : Level) (shown : List TypeName) (ps : List Inserted) (n : ℕ) (home : Home) (hs : List Heading) (ns : List Entry)
+    (ts : List TypeName) → w ≡ level_in t → shown ≡ shown_types env → ps ≡ env.inserted → n ≡ length env.bodies → home ≡ home_of env t
+    → ts ≡ level_types env.types shown w → hs ≡ headings_in ts w → ns ≡ names_in ts w
+    → record { packets = ps; bodies_before = n; types_before = env.types; home = home; headings = hs; level = ns; types = ts; routine = None; refinement = None }
+    ≡ text_scope env t
+scope_is env t w shown ps n home hs ns ts ew es ep en eh et ehs ens =
+    let whole : List Inserted → ℕ → Home → List Heading → List Entry → List TypeName → Scope =
+    λ p m h a b c. record {
+      packets = p;
+      bodies_before = m;
+      types_before = env.types;
+      home = h;
+      headings = a;
+      level = b;
+      types = c;
+      routine = None;
+      refinement = None;
+    } in
+    ap (λ p. whole p n home hs ns ts) ep ∙ ap (λ m. whole env.inserted m home hs ns ts) en ∙ ap (λ h. whole env.inserted (length env.bodies) h hs ns ts) eh
+    ∙ ap (λ a. whole env.inserted (length env.bodies) (home_of env t) a ns ts) ehs
+    ∙ ap (λ b. whole env.inserted (length env.bodies) (home_of env t) (headings_in ts w) b ts) ens
+    ∙ ap (λ c. whole env.inserted (length env.bodies) (home_of env t) (headings_in c w) (names_in c w) c)
+    (et ∙ ap (λ (us : List TypeName). level_types env.types us w) es)
+    ∙ ap (λ (v : Level). let c = level_types env.types (shown_types env) v in
+    whole env.inserted (length env.bodies) (home_of env t) (headings_in c v) (names_in c v) c) ew
+
+pub interface_is : (env : Env) (t : Tree) (w : Level) (es : List Export) (shown seen : List TypeName) (ds : List Definition) (xs : List (List ℕ))
+    (ns : List Entry) (hs : List Heading) (ts : List TypeName) → w ≡ level_in t → es ≡ exports_in t → shown ≡ shown_types env
+    → seen ≡ level_types env.types shown w → ds ≡ level_definitions w → xs ≡ map export_name es → ns ≡ names_in seen w → hs ≡ headings_in seen w
+    → ts ≡ names_of env.types shown ds → record { exports = xs; names = ns; headings = hs; types = ts } ≡ interface env t
+interface_is env t w es shown seen ds xs ns hs ts ew ee esh ese ed ex en eh et =
+    let whole : List (List ℕ) → List Entry → List Heading → List TypeName → Interface =
+    λ x a b c. record { exports = x; names = a; headings = b; types = c } in
+    ap (λ x. whole x ns hs ts) (ex ∙ ap (λ (ys : List Export). map export_name ys) ee)
+    ∙ ap (λ a. whole (map export_name (exports_in t)) a hs ts) en
+    ∙ ap (λ b. whole (map export_name (exports_in t)) (names_in seen w) b ts) eh
+    ∙ ap (λ c. whole (map export_name (exports_in t)) (names_in seen w) (headings_in seen w) c)
+    (et ∙ ap (λ (d : List Definition). names_of env.types shown d) ed)
+    ∙ ap (λ (c : List TypeName). whole (map export_name (exports_in t)) (names_in c w) (headings_in c w) (names_of env.types shown (level_definitions w))) ese
+    ∙ ap (λ (us : List TypeName). whole (map export_name (exports_in t)) (names_in (level_types env.types us w) w) (headings_in (level_types env.types us w) w)
+    (names_of env.types us (level_definitions w))) esh
+    ∙ ap (λ (v : Level). let c = level_types env.types (shown_types env) v in
+    whole (map export_name (exports_in t)) (names_in c v) (headings_in c v) (names_of env.types (shown_types env) (level_definitions v))) ew
+
+pub nothing_is : (e : Env) → e.inserted ≡ [] → e.packets ≡ [] → e.bodies ≡ [] → e.types ≡ 0 → nothing ≡ e
+nothing_is e i p b t =
+    let whole : List Inserted → List Packet → List Body → ℕ → Env = λ x y z n. record { inserted = x; packets = y; bodies = z; types = n } in
+    ap (λ x. whole x [] [] 0) (sym i) ∙ ap (λ y. whole e.inserted y [] 0) (sym p) ∙ ap (λ z. whole e.inserted e.packets z 0) (sym b)
+    ∙ ap (λ n. whole e.inserted e.packets e.bodies n) (sym t)

@@ -1,0 +1,165 @@
+//! The packets of a task.
+
+ghost use Rattle.std.specs.Prelude.{◌≡◌, ◌+◌, ◌∷◌, [], IfOk, length};
+ghost use Rattle.cell_kinds.specs.Kinds.{packet_kinds};
+ghost use Rattle.elan_check.specs.Packets as spec;
+ghost use Rattle.elan_check.specs.Packets.{AreCompiled, IsPacket};
+
+use crate::shown::export_names;
+use crate::text_scope::{exports_in, level_in};
+use cell_kinds::Packet;
+use elan_levels::bodies::{level_names, level_types};
+use elan_levels::heading::headings;
+use elan_names::interface::{Inserted, Interface};
+use elan_scope::env::Env;
+use elan_tree::Tree;
+use elan_types::{Body, Core};
+use eu_base::{List, NoMemory, Shared};
+use std::alloc::Global;
+use std::marker::Model;
+use type_definitions::definition::level_definitions;
+use type_names::resolve::{Around, names_of};
+
+/// The packets of a task, as a text sees them that is compiled after them. Each is a text that has a meaning after those before it.
+#[derive(Drop)]
+pub struct Packets {
+    env: Env,
+}
+
+impl Model for Packets {
+    ghost use Rattle.elan_scope.specs.declared.env.Env.{Env};
+    ghost use Rattle.elan_scope.specs.contracts.env.Env as envs;
+    ghost use Rattle.elan_check.specs.Packets.{AreCompiled};
+
+    ghost Value = { Env };
+
+    ghost coded = { envs.the_row.coded };
+
+    ghost view = { λ packets. packets.env };
+
+    ghost invariant = { λ packets. AreCompiled packets.env };
+}
+
+/// How many cells the variables and constants of these packets have.
+pub fn cells_of(packets: &[Packet]) -> Result<usize, NoMemory>
+    ensures { IfOk result (λ cells. cells ≡ length (packet_kinds packets.now)) }
+{
+    let mut cells = 0_usize;
+    for packet in packets {
+        cells = cells.checked_add(packet.variables.len()).ok_or(NoMemory)?;
+    }
+    Ok(cells)
+}
+
+/// The same bodies once more.
+pub fn shared(alloc: Global, bodies: &[Shared<Body>]) -> Result<List<Shared<Body>>, NoMemory>
+    ensures { IfOk result (λ list. list ≡ bodies.now) }
+{
+    let mut list = List::new(alloc);
+    for body in bodies {
+        list.push(body.share()?)?;
+    }
+    Ok(list)
+}
+
+// What packets show, and before it what one more shows.
+fn with_shown(
+    alloc: Global,
+    shown: Inserted,
+    others: &[Inserted],
+) -> Result<List<Inserted>, NoMemory>
+    ensures { IfOk result (λ list. list ≡ shown ∷ others.now) }
+{
+    let mut list = List::new(alloc);
+    list.push(shown)?;
+    for packet in others {
+        list.push(packet.try_clone()?)?;
+    }
+    Ok(list)
+}
+
+fn env_after(
+    alloc: Global,
+    env: &Env,
+    interface: &Shared<Interface>,
+    core: &Core,
+    number: u32,
+) -> Result<Env, NoMemory>
+    ensures { IfOk result (λ after. after ≡ spec.after env.now interface.now core.now number) }
+{
+    let shown = Inserted {
+        interface: interface.share()?,
+        bodies_before: env.bodies.len(),
+        cells_before: cells_of(env.packets.as_slice())?,
+    };
+    let mut packets = Packet::clone_all(env.packets.as_slice(), alloc)?;
+    packets.push(Packet {
+        number,
+        variables: core.inserted.try_clone(alloc)?,
+    })?;
+    let names = interface.get().types.as_slice().len();
+    Ok(Env {
+        inserted: with_shown(alloc, shown, env.inserted.as_slice())?,
+        packets,
+        bodies: shared(alloc, core.bodies.as_slice())?,
+        types: env.types.checked_add(names).ok_or(NoMemory)?,
+    })
+}
+
+/// What later texts see of a packet that is compiled after these.
+pub fn interface_of(alloc: Global, packets: &Packets, tree: &Tree) -> Result<Interface, NoMemory>
+    ensures { IfOk result (λ interface. interface ≡ spec.interface packets.now tree.now) }
+{
+    let env = packets.env();
+    let shown = env.shown_types(alloc)?;
+    let around = Around {
+        names: &shown,
+        first: env.types,
+    };
+    let level = level_in(tree);
+    let seen = level_types(alloc, around, level)?;
+    let definitions = level_definitions(alloc, level)?;
+    Ok(Interface {
+        exports: export_names(alloc, exports_in(tree))?,
+        names: level_names(alloc, &seen, level)?,
+        headings: headings(alloc, &seen, level)?,
+        types: names_of(alloc, around, definitions.as_slice())?,
+    })
+}
+
+impl Packets {
+    /// No packets.
+    pub fn new(alloc: Global) -> Packets
+        ensures { result ≡ spec.nothing }
+    {
+        Packets {
+            env: Env::new(alloc),
+        }
+    }
+
+    /// Lets them go, with all that they show.
+    pub fn let_go(self) {}
+
+    /// What a text may use of them, lent.
+    pub fn env(&self) -> &Env
+        ensures env { result.now ≡ self.now }
+        ensures compiled { AreCompiled result.now }
+    {
+        &self.env
+    }
+
+    /// These packets, and behind them one with this core that shows this, under a number.
+    pub fn after(
+        &self,
+        alloc: Global,
+        interface: &Shared<Interface>,
+        core: &Core,
+        number: u32,
+    ) -> Result<Packets, NoMemory>
+        requires { IsPacket self.now interface.now core.now }
+        ensures { IfOk result (λ made. made ≡ spec.after self.now interface.now core.now number) }
+    {
+        let env = env_after(alloc, &self.env, interface, core, number)?;
+        Ok(Packets { env })
+    }
+}
