@@ -20,13 +20,14 @@ use Rattle.code_gen.specs.Program.{program_of}
 use Rattle.code_gen.proofs.Whole.{behaves}
 use Rattle.elan_tree.specs.declared.tree.Tree.{Tree}
 use Rattle.elan_scope.specs.declared.env.Env.{Env}
-use Rattle.elan_check.specs.Packets.{AreCompiled, none}
+use Rattle.elan_check.specs.Packets.{AreCompiled, nothing, none}
 use Rattle.elan_types.specs.declared.core_phrase.Core.{Core}
 use Rattle.elan_types.specs.Typing.{IsWellTyped}
 use Rattle.elan_types.specs.Command.{Ending, Ended, Stopped, OutOfMarks, Asks, evaluate, at_start}
 use Rattle.elan_check.specs.Text as tree
 use Rattle.line_command.proofs.Begun.{begun, has_begun}
-use Rattle.line_command.specs.Meaning.{alone, Means, means}
+use Rattle.packet_store.specs.Meaning.{means}
+use Rattle.line_command.specs.Meaning.{Means}
 use Rattle.line_command.specs.Program.{line_marks, reply_to, AsksOnly, Suffices}
 
 -- a request that waits for its reply has cost a mark
@@ -137,4 +138,4 @@ module _ (core : Core) (typed : IsWellTyped core) (alone : core.packets ≡ []) 
 -- what a text means is well typed, and so has as many as it needs
 pub enough : ((env : Env) → AreCompiled env → (t : Tree) (c : Core) → tree.Means env t c → IsWellTyped c) → (text : List ℕ) (core : Core) → Means text core
     → Suffices (line_marks + 1) core line_marks []
-enough typed text core (means t has reads m) = suffices core (typed alone none t core m) m.packets line_marks (line_marks + 1) [] (omega arith) (omega arith)
+enough typed text core (means t has reads m) = suffices core (typed nothing none t core m) m.packets line_marks (line_marks + 1) [] (omega arith) (omega arith)

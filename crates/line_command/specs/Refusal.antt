@@ -1,8 +1,8 @@
 -- The lines that refuse texts.
 use Rattle.std.specs.Prelude.{ℕ, ◌+◌, ◌-◌, List, [], ◌∷◌, ◌++◌, take, codes, ◌==◌, if◌then◌else◌}
 use Rattle.std.specs.Fmt.{decimal}
-use Rattle.line_command.specs.declared.refusal.Refusal.{Refusal}
-use Rattle.line_command.specs.declared.refusal.Refusal.TheVariants.{NoToken, TooMany, NotElan, NotBuilt, NoMeaning}
+use Rattle.packet_store.specs.declared.error.Refusal.{Refusal}
+use Rattle.packet_store.specs.declared.error.Refusal.TheVariants.{NoToken, TooMany, NotElan, NotBuilt, NoMeaning}
 use Rattle.elan_types.specs.declared.why.Why.{Why}
 use Rattle.elan_types.specs.declared.why.Why.TheVariants.{Unknown, Doubled, WrongType, NoVariable, WrongPlace, TooLarge}
 

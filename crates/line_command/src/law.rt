@@ -5,11 +5,8 @@ ghost use Rattle.line_command.specs.Line.{LineWrites};
 ghost use Rattle.line_command.specs.Meaning.{Means};
 ghost use Rattle.line_command.specs.Program.{line_marks, Suffices};
 
-use elan_check::{
-    each_text_has_one_answer, meant_is_not_refused, one_core, one_refusal,
-    what_a_text_means_is_well_typed,
-};
-use elan_parser::one_tree;
+use elan_check::what_a_text_means_is_well_typed;
+use packet_store::one_meaning;
 
 /// For each input there is one thing that the command `line` writes, and no other. What a program writes is told by as
 /// many evaluations as it has marks, and one more: none that is accepted needs another.
@@ -18,10 +15,6 @@ pub fn one_output()
     ensures one { (bytes a b : List ℕ) → LineWrites bytes a → LineWrites bytes b → a ≡ b }
     ensures enough { (text : List ℕ) (core : Core) → Means text core → Suffices (line_marks + 1) core line_marks [] }
 {
-    one_tree();
-    one_core();
-    one_refusal();
-    meant_is_not_refused();
-    each_text_has_one_answer();
+    one_meaning();
     what_a_text_means_is_well_typed();
 }

@@ -3,7 +3,6 @@
 
 mod law;
 mod line;
-mod meaning;
 mod program;
 mod refusal;
 mod screen;

@@ -1,15 +1,24 @@
 //! The command `line`.
-ghost use Rattle.std.specs.Prelude.{◌≡◌, ◌≤◌, ◌<◌, ◌^◌, length, IfOk, MatchOption};
+ghost use Rattle.std.specs.Prelude.{◌≡◌, ◌≤◌, ◌<◌, ◌^◌, [], false, length, IfErr, IfOk, MatchOption};
+ghost use Rattle.code_gen.specs.Correct.{Behaves};
+ghost use Rattle.code_gen.specs.Program.{program_of};
+ghost use Rattle.elan_types.specs.declared.core_phrase.Core.{Core};
+ghost use Rattle.elan_check.specs.Packets.{nothing};
+ghost use Rattle.packet_store.specs.Meaning.{IsCause};
+ghost use Rattle.packet_store.specs.Units.{IsUnitOf};
+ghost use Rattle.line_command.specs.Program.{Shows};
 ghost use Rattle.eu_base.specs.Faults.{Rose};
 ghost use Rattle.line_command.specs.Meaning.{TextWrites};
 ghost use Rattle.line_command.specs.Answer.{LineAnswers, HasCause};
 
-use crate::meaning::{TextError, meaning};
-use crate::program::shown;
+use crate::program::run;
+use crate::refusal::refusal_line;
 use crate::status::Status;
 use crate::stream::{Line, read_line};
+use code_form::Code;
 use edge::{Sink, Source, put_all};
 use eu_base::{Bytes, MemFault, NoMemory};
+use packet_store::{CompileError, Library, Unit};
 use page_pool::Pool;
 use space_memory::SpaceMemory;
 use std::alloc::Global;
@@ -40,26 +49,45 @@ pub fn run_line<S: Source, K: Sink>(alloc: Global, source: &mut S, sink: &mut K)
     }
 }
 
+/// What code writes that runs as a line.
+fn written(alloc: Global, code: &Code) -> Result<Bytes, NoMemory>
+    ensures { (core : Core) → core.packets ≡ [] → code.now ≡ program_of core → Behaves core code.now → IfOk result (Shows core) }
+{
+    let mut pool = Pool::new(alloc);
+    let mut memory = SpaceMemory::new(alloc);
+    let mut lent = memory.over(&mut pool);
+    match run(alloc, code, &mut lent) {
+        Ok(out) => Ok(out),
+        Err(MemFault::NoMemory) => Err(NoMemory),
+        // Pages in memory have no faults.
+        Err(MemFault::Failed) => unreachable!(),
+    }
+}
+
+/// The unit of a text that stands alone, behind no packets.
+fn unit_of(alloc: Global, text: &[u8]) -> Result<Unit, CompileError>
+    requires { length text.now < 2 ^ 32 }
+    ensures unit { IfOk result (IsUnitOf nothing false text.now) }
+    ensures refused { IfErr result (IsCause nothing false text.now) }
+{
+    let library = Library::new(alloc);
+    let unit = library.compile(alloc, &[], text, false);
+    library.let_go();
+    unit
+}
+
 /// What the text of a program writes.
 fn respond(alloc: Global, text: &[u8]) -> Result<Bytes, NoMemory>
     requires { length text.now < 2 ^ 32 }
     ensures { IfOk result (TextWrites text.now) }
 {
-    match meaning(alloc, text) {
-        Ok(core) => {
-            let mut pool = Pool::new(alloc);
-            let mut memory = SpaceMemory::new(alloc);
-            let mut lent = memory.over(&mut pool);
-            let shown = shown(alloc, &core, &mut lent);
-            core.let_go();
-            match shown {
-                Ok(out) => Ok(out),
-                Err(MemFault::NoMemory) => Err(NoMemory),
-                // Pages in memory have no faults.
-                Err(MemFault::Failed) => unreachable!(),
-            }
+    match unit_of(alloc, text) {
+        Ok(unit) => {
+            let out = written(alloc, unit.code());
+            unit.let_go();
+            out
         }
-        Err(TextError::Refused(refusal)) => refusal.line(alloc, text),
-        Err(TextError::NoMemory) => Err(NoMemory),
+        Err(CompileError::Refused(refusal)) => refusal_line(alloc, refusal, text),
+        Err(CompileError::NoMemory) => Err(NoMemory),
     }
 }

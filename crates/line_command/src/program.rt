@@ -8,13 +8,10 @@ ghost use Rattle.code_gen.specs.Program.{program_of};
 ghost use Rattle.code_gen.specs.Correct.{Behaves};
 ghost use Rattle.elan_types.specs.declared.core_phrase.Core.{Core};
 ghost use Rattle.elan_types.specs.Command.{blanks};
-ghost use Rattle.elan_types.specs.Typing.{IsWellTyped};
 ghost use Rattle.line_command.specs.Program.{reply_to, Shows};
 
 use crate::screen::Screen;
 use code_form::{Code, Halt};
-use code_gen::generate;
-use elan_types::Core;
 use eu_base::{Bytes, MemFault, Memory, Reply, Request, Stop};
 use std::alloc::Global;
 use task_run::TaskRun;
@@ -22,26 +19,8 @@ use task_run::TaskRun;
 /// How many marks a line may spend.
 const MARKS: u32 = 100_000;
 
-/// What a program shows with the marks of a line, its variables in this memory, of which nothing need be known.
-pub(crate) fn shown<M: Memory>(
-    alloc: Global,
-    core: &Core,
-    memory: &mut M,
-) -> Result<Bytes, MemFault>
-    requires typed { IsWellTyped core.now }
-    requires alone { core.now.packets ≡ [] }
-    requires nothing { M.holds memory.old (λ _. Free) }
-    ensures shows { IfOk result (Shows core.now) }
-    ensures cause { HasFaultCause (M.faults memory.old) (M.faults memory.new) result }
-{
-    let code = generate(alloc, core)?;
-    let shown = run(alloc, &code, memory);
-    code.let_go();
-    shown
-}
-
-/// Runs code from its start.
-fn run<M: Memory>(alloc: Global, code: &Code, memory: &mut M) -> Result<Bytes, MemFault>
+/// What a program shows with the marks of a line, run from its start, its variables in this memory, of which nothing need be known.
+pub(crate) fn run<M: Memory>(alloc: Global, code: &Code, memory: &mut M) -> Result<Bytes, MemFault>
     requires nothing { M.holds memory.old (λ _. Free) }
     ensures shows { (core : Core) → core.packets ≡ [] → code.now ≡ program_of core → Behaves core code.now → IfOk result (Shows core) }
     ensures cause { HasFaultCause (M.faults memory.old) (M.faults memory.new) result }

@@ -1,39 +1,23 @@
-//! Why a text is refused, and the line that says so.
+//! The line that says why a text is refused.
 ghost use Rattle.std.specs.Prelude.{◌≡◌, ◌++◌, ◌+◌, ◌<◌, ◌^◌, length, codes, IfOk, OnOk};
 ghost use Rattle.line_command.specs.Refusal as spec;
 
 use elan_types::Why;
 use eu_base::{Bytes, NoMemory, decimal};
+use packet_store::Refusal;
 use std::alloc::Global;
 
-/// Why a text is refused.
-#[derive(Clone, Copy, PartialEq, Eq)]
-pub(crate) enum Refusal {
-    /// No token can be read at this place.
-    NoToken(u32),
-    /// It has too many tokens.
-    TooMany,
-    /// It is no text of ELAN from this place on.
-    NotElan(u32),
-    /// It has what is not built yet.
-    NotBuilt,
-    /// The place of the first phrase that breaks a rule, and the rule.
-    NoMeaning(u32, Why),
-}
-
-impl Refusal {
-    /// The line that refuses the text.
-    pub(crate) fn line(self, alloc: Global, text: &[u8]) -> Result<Bytes, NoMemory>
-        requires { length text.now < 2 ^ 32 }
-        ensures { IfOk result (λ line. line ≡ spec.refusal_line self text.now) }
-    {
-        match self {
-            Refusal::NoToken(place) => refusal_at(alloc, b"kein Symbol", text, place),
-            Refusal::TooMany => Bytes::from(alloc, b"FEHLER : zu viele Symbole\n"),
-            Refusal::NotElan(place) => refusal_at(alloc, b"kein ELAN-Text", text, place),
-            Refusal::NotBuilt => Bytes::from(alloc, b"FEHLER : kein ELAN-Text\n"),
-            Refusal::NoMeaning(place, why) => refusal_at(alloc, why_text(why), text, place),
-        }
+/// The line that refuses a text.
+pub(crate) fn refusal_line(alloc: Global, refusal: Refusal, text: &[u8]) -> Result<Bytes, NoMemory>
+    requires { length text.now < 2 ^ 32 }
+    ensures { IfOk result (λ line. line ≡ spec.refusal_line refusal text.now) }
+{
+    match refusal {
+        Refusal::NoToken(place) => refusal_at(alloc, b"kein Symbol", text, place),
+        Refusal::TooMany => Bytes::from(alloc, b"FEHLER : zu viele Symbole\n"),
+        Refusal::NotElan(place) => refusal_at(alloc, b"kein ELAN-Text", text, place),
+        Refusal::NotBuilt => Bytes::from(alloc, b"FEHLER : kein ELAN-Text\n"),
+        Refusal::NoMeaning(place, why) => refusal_at(alloc, why_text(why), text, place),
     }
 }
 

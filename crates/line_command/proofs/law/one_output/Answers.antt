@@ -1,20 +1,18 @@
-use Rattle.elan_check.specs.Packets.{none}
-use Rattle.line_command.specs.Meaning.{alone}
+use Rattle.std.proofs.Common.{false}
+use Rattle.elan_check.specs.Packets.{nothing, none}
 use Rattle.line_command.proofs.Unique.{one_output}
 use Rattle.line_command.proofs.Total.{an_output}
 use Rattle.line_command.proofs.Enough.{enough}
 use Rattle.line_command.proofs.law.one_output.Goals as goal
 
 pub returns-clause-some : goal.returns-clause-some
-returns-clause-some c = an_output (λ t. (c.each_text_has_one_answer.ensures alone none t).answer)
+returns-clause-some c = an_output (λ text. c.one_meaning.ensures.some nothing none false text)
 
 pub returns-clause-one : goal.returns-clause-one
 returns-clause-one c = one_output (record {
-  one_tree = c.one_tree.ensures;
-  one_core = c.one_core.ensures;
-  one_refusal = c.one_refusal.ensures;
-  meant_is_not_refused = c.meant_is_not_refused.ensures;
-  one_answer = c.each_text_has_one_answer.ensures;
+  one_meaning = λ text a b m n. c.one_meaning.ensures.one nothing false text a b m n;
+  not_both = λ text a r m f. c.one_meaning.ensures.not_both nothing none false text a r m f;
+  one_refusal = λ text q r f g. c.one_meaning.ensures.one_refusal nothing none false text q r f g;
 })
 
 pub returns-clause-enough : goal.returns-clause-enough

@@ -1,26 +1,27 @@
-use Rattle.space_memory.proofs.Fresh.{new_stands}
-use Rattle.std.proofs.Common.{◌≡◌, ℕ, List, []}
+use Rattle.std.proofs.Common.{◌≡◌, ℕ, List, [], Result, Ok, Err}
+use Rattle.std.specs.Prelude.{IfOk}
 use Rattle.elan_types.specs.declared.core_phrase.Core.{Core}
-use Rattle.line_command.specs.Meaning.{Means, means, runs}
+use Rattle.packet_store.specs.Meaning.{means}
+use Rattle.line_command.specs.Program.{Shows}
+use Rattle.line_command.specs.Meaning.{Means, TextWrites, runs}
 use Rattle.line_command.proofs.Refusing.{refused_line}
 use Rattle.line_command.proofs.line.respond.Goals as goal
-
-pub over-lent-requires : goal.over-lent-requires
-over-lent-requires c = rw (c.new-pool.ensures, c.new-memory.ensures.empty) (record { agree = new_stands })
 
 -- a text that stands alone has no packets
 without : (text : List ℕ) (core : Core) → Means text core → core.packets ≡ []
 without text core (means t has reads m) = m.packets
 
-pub shown-shown-requires-clause-alone : goal.shown-shown-requires-clause-alone
-shown-shown-requires-clause-alone c = without c.args.text.now c.in-Ok.core c.in-Ok.ensures.meaning
+shows_text : {E : Type 0} (text : List ℕ) (core : Core) (r : Result (List ℕ) E) → Means text core → IfOk r (Shows core) → IfOk r (TextWrites text)
+shows_text text core (Ok out) m s = runs m s
+shows_text text core (Err e) m s = tt
 
-pub returns-in-Ok-shown : goal.returns-in-Ok-shown
-returns-in-Ok-shown c = runs c.in-Ok.ensures.meaning c.in-Ok-shown.ensures.shows
+pub returns-in-Ok : goal.returns-in-Ok
+returns-in-Ok c =
+    let text = c.args.text.now in
+    let core = c.in-Ok.unit.core in
+    let m = c.in-Ok.ensures.unit.means in
+    shows_text text core c.written-out.result m (c.written-out.ensures core (without text core m) c.code.ensures.code c.code.ensures.behaves)
 
 pub returns-in-Err-Refused : goal.returns-in-Err-Refused
 returns-in-Err-Refused c =
-    refused_line c.args.text.now c.in-Err-Refused.refusal c.line.result (rw c.in-Err-Refused.field-0-is at c.in-Err-Refused.ensures.refused) c.line.ensures
-
-pub shown-shown-requires-clause-nothing : goal.shown-shown-requires-clause-nothing
-shown-shown-requires-clause-nothing c = rw c.over-lent.ensures.memory_same (c.new-memory.ensures.nothing c.over-lent.result.pool.now)
+    refused_line c.args.text.now c.in-Err-Refused.refusal c.refusal_line.result (rw c.in-Err-Refused.field-0-is at c.in-Err-Refused.ensures.refused) c.refusal_line.ensures

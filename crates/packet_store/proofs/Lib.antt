@@ -1,0 +1,5 @@
+pub mod Refusing
+pub mod Unique
+pub mod Total
+pub mod ReadAs
+pub mod Growing

@@ -1,0 +1,70 @@
+-- Live packets, by their numbers.
+use Rattle.std.specs.Prelude.{◌≡◌, ◌≤◌, ◌⊎◌, ℕ, ◌+◌, Bool, not, List, [], ◌∷◌, ◌++◌, length, filter, find, Option, Some, None, nat_eq}
+use Rattle.std.specs.List.{list_any}
+use Rattle.elan_names.specs.declared.interface.Interface.{Interface}
+use Rattle.elan_scope.specs.declared.env.Env.{Env}
+use Rattle.elan_check.specs.Packets.{nothing, after}
+use Rattle.packet_store.specs.declared.library.Live.{Live}
+use Rattle.packet_store.specs.declared.library.TheConstants.{PACKETS, LAST_NUMBER}
+use Rattle.packet_store.specs.declared.unit.Compiled.{Compiled}
+
+-- the live packets in the order in which they were installed, and the last number that was given
+pub record Library : Type 0 where
+  pub live : List Live
+  pub last : ℕ
+
+abbrev pub none_live : Library
+none_live = record { live = []; last = 0 }
+
+abbrev pub has_number : ℕ → Live → Bool
+has_number n l = nat_eq l.number n
+
+abbrev pub live_as : ℕ → Library → Option Live
+live_as n lib = find (has_number n) lib.live
+
+abbrev pub lives : ℕ → Library → Bool
+lives n lib = list_any (has_number n) lib.live
+
+-- what stands behind a packet: it, and the packets behind which it was compiled
+abbrev pub behind : Option Live → Env → Env
+behind None env = env
+behind (Some l) env = l.after
+
+abbrev pub env_behind : Library → Env → List ℕ → Env
+env_behind lib env [] = env
+env_behind lib env (n ∷ ns) = env_behind lib (behind (live_as n lib) env) ns
+
+-- the packets of a task as texts see them, by their numbers in order. Each was compiled behind those before it, so these are those that
+-- stand behind the last
+abbrev pub env_of : Library → List ℕ → Env
+env_of lib ns = env_behind lib nothing ns
+
+-- The live packet is a packet, and behind it stand the packets before it, and it under its number in place of 0.
+abbrev pub IsLive : ℕ → Live → Type 0
+IsLive last l = (l.number ≤ last) × (i : Interface) × (l.unit.shown ≡ Some i) × (l.after ≡ after l.unit.packets i l.unit.core l.number)
+
+abbrev pub AllLive : ℕ → List Live → Type 0
+AllLive last [] = Unit {0}
+AllLive last (l ∷ ls) = IsLive last l × AllLive last ls
+
+pub record IsLibrary (lib : Library) : Type 0 where
+  pub few : length lib.live ≤ PACKETS
+  pub all : AllLive lib.last lib.live
+
+-- ---- what calls leave
+
+-- As many packets live as can, or the last number was given.
+abbrev pub IsFull : Library → Type 0
+IsFull lib = (length lib.live ≡ PACKETS) ⊎ (lib.last ≡ LAST_NUMBER)
+
+-- The packet lives behind the others, under the next number.
+abbrev pub IsInstalled : Library → Compiled → Library → Type 0
+IsInstalled old u new =
+    (i : Interface) × (u.shown ≡ Some i)
+    × (new ≡ record {
+      live = old.live ++ record { number = old.last + 1; unit = u; after = after u.packets i u.core (old.last + 1) } ∷ [];
+      last = old.last + 1;
+    })
+
+abbrev pub released : ℕ → Library → Library
+released n lib = record { live = filter (λ l. not (has_number n l)) lib.live; last = lib.last }

@@ -1,0 +1,97 @@
+//! From a text to its unit.
+
+ghost use Rattle.std.specs.Prelude.{◌≡◌, ◌<◌, ◌^◌, Bool, List, length, is_some, IfOk, IfErr};
+ghost use Rattle.elan_tree.specs.declared.token.Token.{Token as Spelled};
+ghost use Rattle.elan_grammar.specs.Reads.{Reads};
+ghost use Rattle.elan_scope.specs.declared.env.Env.{Env};
+ghost use Rattle.packet_store.specs.Meaning.{HasTokens, IsCause};
+ghost use Rattle.packet_store.specs.Units as spec;
+
+use crate::error::CompileError;
+use crate::unit::{Compiled, Unit};
+use code_gen::generate;
+use elan_check::{Packets, check, interface_of};
+use elan_lexer::tokens;
+use elan_names::interface::Interface;
+use elan_parser::parse;
+use elan_tree::{Token, Tree};
+use eu_base::{Bytes, NoMemory, Shared};
+use std::alloc::Global;
+
+// The tree of a text. Tokens and trees are let go by calls, so that how their parts are let go is proved in the crate of their
+// types alone.
+fn tree_of(alloc: Global, text: &[u8], packet: bool) -> Result<Tree, CompileError>
+    requires { length text.now < 2 ^ 32 }
+    ensures tree { IfOk result (λ tree. (ts : List Spelled) × HasTokens text.now ts × Reads packet ts tree) }
+    ensures refused { (env : Env) → IfErr result (IsCause env packet text.now) }
+{
+    let tokens = tokens(alloc, text)?;
+    let parsed = parse(alloc, tokens.as_slice(), packet);
+    Token::all_let_go(tokens);
+    Ok(parsed?)
+}
+
+// What later texts see of a text: of a packet what it shows, of a program nothing.
+fn shown_by(
+    alloc: Global,
+    packets: &Packets,
+    tree: &Tree,
+) -> Result<Option<Shared<Interface>>, NoMemory>
+    ensures { IfOk result (λ shown. shown ≡ spec.shown_by packets.now tree.now) }
+{
+    match tree {
+        Tree::Program(_) => Ok(None),
+        Tree::Packet { .. } => {
+            let interface = interface_of(alloc, packets, tree)?;
+            Ok(Some(Shared::new(alloc, interface)?))
+        }
+    }
+}
+
+// What a text with this tree means behind packets.
+fn compiled(
+    alloc: Global,
+    packets: Shared<Packets>,
+    text: &[u8],
+    tree: &Tree,
+) -> Result<Compiled, CompileError>
+    ensures unit { (packet : Bool) (ts : List Spelled) → HasTokens text.now ts → Reads packet ts tree.now
+        → IfOk result (spec.IsUnitOf packets packet text.now) }
+    ensures refused { (packet : Bool) (ts : List Spelled) → HasTokens text.now ts → Reads packet ts tree.now
+        → IfErr result (IsCause packets packet text.now) }
+{
+    let shown = shown_by(alloc, packets.get(), tree)?;
+    let kept = Bytes::from(alloc, text)?;
+    let core = check(alloc, tree, packets.get())?;
+    Ok(Compiled {
+        text: kept,
+        packets,
+        core,
+        shown,
+    })
+}
+
+fn with_code(alloc: Global, compiled: Compiled) -> Result<Unit, NoMemory>
+    requires { spec.IsUnitOf compiled.packets (is_some compiled.shown) compiled.text compiled }
+    ensures { IfOk result (λ unit. unit ≡ compiled) }
+{
+    let code = generate(alloc, &compiled.core)?;
+    Ok(Unit::of(compiled, code))
+}
+
+/// The unit of a text behind packets, read as a packet or as a program.
+pub fn compile_behind(
+    alloc: Global,
+    packets: Shared<Packets>,
+    text: &[u8],
+    packet: bool,
+) -> Result<Unit, CompileError>
+    requires { length text.now < 2 ^ 32 }
+    ensures unit { IfOk result (spec.IsUnitOf packets packet text.now) }
+    ensures refused { IfErr result (IsCause packets packet text.now) }
+{
+    let tree = tree_of(alloc, text, packet)?;
+    let compiled = compiled(alloc, packets, text, &tree);
+    tree.let_go();
+    Ok(with_code(alloc, compiled?)?)
+}

@@ -1,0 +1,27 @@
+//! A law of meaning: each text means something or is refused, and only so.
+
+ghost use Rattle.std.specs.Prelude.{◌≡◌, ℕ, Bool, List};
+ghost use Rattle.elan_types.specs.declared.core_phrase.Core.{Core};
+ghost use Rattle.elan_scope.specs.declared.env.Env.{Env};
+ghost use Rattle.elan_check.specs.Packets.{AreCompiled};
+ghost use Rattle.packet_store.specs.declared.error.Refusal.{Refusal};
+ghost use Rattle.packet_store.specs.Meaning.{Means, IsRefused, HasOutcome};
+
+use elan_check::{each_text_has_one_answer, meant_is_not_refused, one_core, one_refusal};
+use elan_parser::one_tree;
+
+/// Behind packets each text has a meaning or is refused, and only one of these.
+pub fn one_meaning()
+    ensures some { (env : Env) → AreCompiled env → (packet : Bool) → (text : List ℕ) → HasOutcome env packet text }
+    ensures one { (env : Env) → (packet : Bool) → (text : List ℕ) → (c : Core) → (d : Core) → Means env packet text c → Means env packet text d → c ≡ d }
+    ensures not_both { (env : Env) → AreCompiled env → (packet : Bool) → (text : List ℕ) → (c : Core) → (r : Refusal)
+        → Means env packet text c → IsRefused env packet text r → ⊥ }
+    ensures one_refusal { (env : Env) → AreCompiled env → (packet : Bool) → (text : List ℕ) → (q : Refusal) → (r : Refusal)
+        → IsRefused env packet text q → IsRefused env packet text r → q ≡ r }
+{
+    one_tree();
+    one_core();
+    one_refusal();
+    meant_is_not_refused();
+    each_text_has_one_answer();
+}

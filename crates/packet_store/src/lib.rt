@@ -1,0 +1,13 @@
+//! Packets by their numbers, and what texts mean behind them.
+#![tactic(auto)]
+
+mod compile;
+mod error;
+mod law;
+mod library;
+mod unit;
+
+pub use error::{CompileError, InstallError, Refusal};
+pub use law::one_meaning;
+pub use library::{Library, Live, PACKETS};
+pub use unit::{Compiled, Unit};

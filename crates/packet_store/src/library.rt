@@ -1,0 +1,177 @@
+//! The live packets.
+
+ghost use Rattle.std.specs.Prelude.{◌≡◌, ◌+◌, ◌<◌, ◌^◌, ◌↔◌, ◌++◌, ◌∷◌, [], true, Err, Some, length, option_map, is_some, IfErr, IfOk, OnErr, OnOk};
+ghost use Rattle.elan_names.specs.declared.interface.Interface as interfaces;
+ghost use Rattle.elan_check.specs.Packets.{after};
+ghost use Rattle.packet_store.specs.declared.error.InstallError.TheVariants as install_errors;
+ghost use Rattle.packet_store.specs.Meaning.{IsCause};
+ghost use Rattle.packet_store.specs.Units.{IsUnitOf};
+ghost use Rattle.packet_store.specs.Library as spec;
+
+use crate::compile::compile_behind;
+use crate::error::{CompileError, InstallError};
+use crate::unit::Unit;
+use elan_check::Packets;
+use eu_base::{NoMemory, Shared};
+use std::alloc::Global;
+use std::marker::Model;
+
+/// So many packets can live.
+pub const PACKETS: usize = 64;
+
+/// The last number that a packet can have.
+const LAST_NUMBER: u32 = u32::MAX;
+
+/// A live packet.
+#[derive(Drop)]
+pub struct Live {
+    /// Its number, from 1.
+    pub number: u32,
+    pub unit: Unit,
+    /// The packets behind which it was compiled, and it under its number.
+    pub after: Shared<Packets>,
+}
+
+/// The live packets, and the last number that was given.
+#[derive(Drop)]
+pub struct Library {
+    live: Vec<Live>,
+    last: u32,
+}
+
+impl Model for Library {
+    ghost use Rattle.packet_store.specs.Library as spec;
+    ghost use Rattle.std.specs.Coded.{codes};
+    ghost use Rattle.elan_names.specs.contracts.interface.Interface as interfaces;
+    ghost use Rattle.elan_scope.specs.contracts.env.Env as envs;
+    ghost use Rattle.elan_types.specs.contracts.core_phrase.Core as cores;
+
+    ghost Value = { spec.Library };
+
+    ghost coded = { Prim.hlevel (codes, envs.the_row.coded, cores.the_row.coded, interfaces.the_row.coded) };
+
+    ghost view = { λ library. record { live = library.live.items; last = library.last } };
+
+    ghost invariant = { λ library. spec.IsLibrary (record { live = library.live.items; last = library.last }) };
+}
+
+// What stands behind a packet that gets this number.
+fn after_it(alloc: Global, unit: &Unit, number: u32) -> Result<Shared<Packets>, NoMemory>
+    requires { is_some unit.now.shown ≡ true }
+    ensures { (i : interfaces.Interface) → unit.now.shown ≡ Some i → IfOk result (λ made. made ≡ after unit.now.packets i unit.now.core number) }
+{
+    let compiled = unit.compiled();
+    match &compiled.shown {
+        None => unreachable!(),
+        Some(interface) => {
+            let packets = compiled.packets.get();
+            let after = packets.after(alloc, interface, &compiled.core, number)?;
+            Shared::new(alloc, after)
+        }
+    }
+}
+
+fn add(list: &mut Vec<Live>, live: Live) -> Result<(), NoMemory>
+    ensures added { OnOk result (list.new.items ≡ list.old.items ++ live ∷ []) }
+    ensures refused { OnErr result (list.new.items ≡ list.old.items) }
+{
+    match list.push(live) {
+        Ok(()) => Ok(()),
+        Err(_refusal) => Err(NoMemory),
+    }
+}
+
+impl Library {
+    /// No packets.
+    pub fn new(alloc: Global) -> Library
+        ensures { result ≡ spec.none_live }
+    {
+        Library {
+            live: Vec::new(alloc),
+            last: 0,
+        }
+    }
+
+    /// Lets it go, with all its packets.
+    pub fn let_go(self) {}
+
+    /// The live packet with this number; `None` exactly where none has it.
+    pub fn get(&self, number: u32) -> Option<&Live>
+        ensures { option_map (λ l. l.now) result ≡ spec.live_as number self.now }
+    {
+        self.live.iter().find(|live| live.number == number)
+    }
+
+    // The packets of a task as texts see them, by their numbers in order.
+    fn packets_of(&self, alloc: Global, of: &[u32]) -> Result<Shared<Packets>, NoMemory>
+        ensures { IfOk result (λ packets. packets ≡ spec.env_of self.now of.now) }
+    {
+        let mut last = None;
+        for number in of {
+            let found = self.get(*number);
+            if found.is_some() {
+                last = found;
+            }
+        }
+        match last {
+            None => Shared::new(alloc, Packets::new(alloc)),
+            Some(live) => live.after.share(),
+        }
+    }
+
+    /// The unit of a text behind the packets with these numbers in order, read as a packet or as a program; a refusal in the order
+    /// of its cases. A text has less than 2^32 bytes.
+    pub fn compile(
+        &self,
+        alloc: Global,
+        of: &[u32],
+        text: &[u8],
+        packet: bool,
+    ) -> Result<Unit, CompileError>
+        requires { length text.now < 2 ^ 32 }
+        ensures unit { IfOk result (IsUnitOf (spec.env_of self.now of.now) packet text.now) }
+        ensures refused { IfErr result (IsCause (spec.env_of self.now of.now) packet text.now) }
+    {
+        let packets = self.packets_of(alloc, of)?;
+        compile_behind(alloc, packets, text, packet)
+    }
+
+    /// Installs a packet under the next number, which it gives: no number is given twice. A refusal changes nothing; the packet is
+    /// let go.
+    pub fn install(&mut self, alloc: Global, unit: Unit) -> Result<u32, InstallError>
+        requires { is_some unit.shown ≡ true }
+        ensures number { IfOk result (λ number. number ≡ self.old.last + 1) }
+        ensures installed { OnOk result (spec.IsInstalled self.old unit self.new) }
+        ensures full { (result ≡ Err install_errors.Full) ↔ spec.IsFull self.old }
+        ensures refused { OnErr result (self.new ≡ self.old) }
+    {
+        if self.live.len() == PACKETS || self.last == LAST_NUMBER {
+            return Err(InstallError::Full);
+        }
+        let number = self.last + 1;
+        let after = after_it(alloc, &unit, number)?;
+        let live = Live {
+            number,
+            unit,
+            after,
+        };
+        add(&mut self.live, live)?;
+        self.last = number;
+        Ok(number)
+    }
+
+    /// Lets a live packet go. Its number is not given again.
+    pub fn release(&mut self, number: u32)
+        requires { spec.lives number self.old ≡ true }
+        ensures { self.new ≡ spec.released number self.old }
+    {
+        self.live.retain(|live| live.number != number);
+    }
+
+    /// How many packets live.
+    pub fn count(&self) -> u32
+        ensures { result ≡ length self.now.live }
+    {
+        self.live.len() as u32
+    }
+}
