@@ -5,10 +5,8 @@ pub mod LevelRows
 pub mod WellTyped
 pub mod Checked
 pub mod Cores
-pub mod Routines
 pub mod Hanging
 pub mod Spots
-pub mod Over
 pub mod Clean
 pub mod Closed
 pub mod HeldTypes

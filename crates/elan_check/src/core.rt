@@ -10,9 +10,7 @@ ghost use Rattle.elan_check.specs.Text as texts;
 ghost use Rattle.elan_check.specs.Packets.{AreCompiled};
 
 use crate::error::CheckError;
-use crate::level::judge_level;
 use crate::packets::shared;
-use crate::text_scope::{exports_in, level_in, text_scope};
 use cell_kinds::{CellKinds, Packet};
 use elan_bodies::known_of;
 use elan_levels::bodies::held_kinds;
@@ -27,6 +25,8 @@ use elan_tree::Tree;
 use elan_types::{Action, Body, Core, Why};
 use eu_base::{List, NoMemory, Shared};
 use std::alloc::Global;
+use text_judge::level::judge_level;
+use text_judge::text_scope::{exports_in, level_in, text_scope};
 use type_names::fault::level_fault;
 use type_names::resolve::Around;
 use type_names::search::Fault;

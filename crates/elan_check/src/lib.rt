@@ -4,12 +4,8 @@
 mod core;
 mod error;
 mod laws;
-mod level;
 mod packets;
-mod routine;
-mod shown;
 mod text;
-mod text_scope;
 
 pub use error::CheckError;
 pub use laws::{

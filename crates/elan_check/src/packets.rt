@@ -1,12 +1,9 @@
 //! The packets of a task.
 
-ghost use Rattle.std.specs.Prelude.{◌≡◌, ◌+◌, ◌∷◌, [], IfOk, length};
-ghost use Rattle.cell_kinds.specs.Kinds.{packet_kinds};
+ghost use Rattle.std.specs.Prelude.{◌≡◌, ◌∷◌, IfOk};
 ghost use Rattle.elan_check.specs.Packets as spec;
 ghost use Rattle.elan_check.specs.Packets.{AreCompiled, IsPacket};
 
-use crate::shown::export_names;
-use crate::text_scope::{exports_in, level_in};
 use cell_kinds::Packet;
 use elan_levels::bodies::{level_names, level_types};
 use elan_levels::heading::headings;
@@ -17,6 +14,8 @@ use elan_types::{Body, Core};
 use eu_base::{List, NoMemory, Shared};
 use std::alloc::Global;
 use std::marker::Model;
+use text_judge::shown::export_names;
+use text_judge::text_scope::{cells_of, exports_in, level_in};
 use type_definitions::definition::level_definitions;
 use type_names::resolve::{Around, names_of};
 
@@ -38,17 +37,6 @@ impl Model for Packets {
     ghost view = { λ packets. packets.env };
 
     ghost invariant = { λ packets. AreCompiled packets.env };
-}
-
-/// How many cells the variables and constants of these packets have.
-pub fn cells_of(packets: &[Packet]) -> Result<usize, NoMemory>
-    ensures { IfOk result (λ cells. cells ≡ length (packet_kinds packets.now)) }
-{
-    let mut cells = 0_usize;
-    for packet in packets {
-        cells = cells.checked_add(packet.variables.len()).ok_or(NoMemory)?;
-    }
-    Ok(cells)
 }
 
 /// The same bodies once more.
