@@ -1,11 +1,11 @@
 //! What a text means: its names and types, and the first phrase that breaks a rule.
 #![tactic(auto)]
 
-mod core;
 mod error;
 mod laws;
 mod packets;
 mod text;
+mod text_core;
 
 pub use error::CheckError;
 pub use laws::{

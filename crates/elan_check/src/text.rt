@@ -8,9 +8,9 @@ ghost use Rattle.elan_check.specs.declared.error.CheckError.TheVariants as error
 ghost use Rattle.elan_scope.specs.Ruled.{Fault};
 ghost use Rattle.elan_check.specs.Text as text;
 
-use crate::core::core_of;
 use crate::error::CheckError;
 use crate::packets::Packets;
+use crate::text_core::core_of;
 use elan_tree::Tree;
 use elan_types::Core;
 use elan_unbuilt::has_unbuilt;

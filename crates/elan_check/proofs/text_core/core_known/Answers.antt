@@ -4,7 +4,7 @@ use Rattle.elan_scope.specs.Answer.{Is}
 use Rattle.elan_rules.specs.Meaning.{judged_all}
 use Rattle.elan_check.specs.Text.{faults}
 use Rattle.elan_check.proofs.Cores.{parts_are, seen_are, faults_are, refused_is, no_first}
-use Rattle.elan_check.proofs.core.core_known.Goals as goal
+use Rattle.elan_check.proofs.text_core.core_known.Goals as goal
 
 pub core_meant-requires-clause-types : goal.core_meant-requires-clause-types
 core_meant-requires-clause-types c =

@@ -7,7 +7,7 @@ use Rattle.elan_rules.specs.Meaning.{judged_all}
 use Rattle.elan_bodies.specs.Level.{exports, level_parts}
 use Rattle.elan_check.specs.Text.{Answers}
 use Rattle.elan_check.proofs.Cores.{parts_are, core_is, none_hangs}
-use Rattle.elan_check.proofs.core.core_meant.Goals as goal
+use Rattle.elan_check.proofs.text_core.core_meant.Goals as goal
 
 pub core_with-requires : goal.core_with-requires
 core_with-requires c = c.judge_level.ensures.kept ∙ c.requires.scope
