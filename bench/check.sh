@@ -17,17 +17,16 @@ for crate in $crates; do
     cp -a "$top/crates/$crate" "$work/crates/"
     grep "^$crate:" "$top/crates.txt" >>"$work/crates.txt"
 done
-echo "parts: elan_check elan_parser elan_lexer elan_types elan_tree eu_base" >>"$work/crates.txt"
+echo "parts: elan_check elan_parser elan_lexer elan_tree eu_base" >>"$work/crates.txt"
 cp "$top/HANDLES" "$work/"
 
 cat >"$work/crates/parts/src/main.rt" <<'END'
 //! The way of a text as far as a word says: `start` (nothing but reading it), `lex`, `parse` or `check`.
 #![tactic(auto)]
 
-use elan_check::check;
+use elan_check::{Packets, check};
 use elan_lexer::tokens;
 use elan_parser::parse;
-use elan_types::Env;
 use std::env;
 use std::fs;
 use std::process::ExitCode;
@@ -55,7 +54,8 @@ fn run(rt: &HostRuntime) -> Option<usize> {
     if part == "parse" {
         return Some(count);
     }
-    let _core = check(rt.alloc(), &tree, &Env).ok()?;
+    let packets = Packets::new(rt.alloc());
+    let _core = check(rt.alloc(), &tree, &packets).ok()?;
     Some(count)
 }
 

@@ -3,13 +3,8 @@
 use crate::rows::{Asked, put};
 use crate::typed;
 use code_form::{Code, listing};
-use code_gen::generate;
-use elan_check::{Packets, check};
-use elan_lexer::tokens;
-use elan_parser::parse;
-use elan_tree::{Token, Tree};
-use elan_types::Core;
 use eu_base::Bytes;
+use packet_store::Library;
 use std::alloc::Global;
 
 /// Programs 400 deep, in cells: forms around `put (1)`, which is one deep.
@@ -29,36 +24,17 @@ pub fn answer(alloc: Global, out: &mut Bytes, text: &[u8], row: &str, asked: Ask
     if text.len() > 20_000 {
         return;
     }
-    if let Ok(found) = tokens(alloc, text) {
-        of_tokens(alloc, out, found.as_slice(), row, asked);
-        Token::all_let_go(found);
+    let library = Library::new(alloc);
+    if let Ok(unit) = library.compile(alloc, &[], text, false) {
+        of_code(alloc, out, unit.code(), row, asked);
+        unit.let_go();
     }
+    library.let_go();
 }
 
-fn of_tokens(alloc: Global, out: &mut Bytes, tokens: &[Token], row: &str, asked: Asked) {
-    if let Ok(tree) = parse(alloc, tokens, false) {
-        of_tree(alloc, out, &tree, row, asked);
-        tree.let_go();
-    }
-}
-
-fn of_tree(alloc: Global, out: &mut Bytes, tree: &Tree, row: &str, asked: Asked) {
-    let packets = Packets::new(alloc);
-    let checked = check(alloc, tree, &packets);
-    packets.let_go();
-    if let Ok(core) = checked {
-        if let Ok(code) = generate(alloc, &core) {
-            of_code(alloc, out, &code, row, asked);
-            code.let_go();
-        }
-        core.let_go();
-    }
-}
-
-/// Adds what is asked of code.
-pub fn of_code(alloc: Global, out: &mut Bytes, code: &Code, row: &str, asked: Asked) {
+fn of_code(alloc: Global, out: &mut Bytes, code: &Code, row: &str, asked: Asked) {
     if let Asked::Typed(marks) = asked {
-        typed::run(alloc, out, code, row, marks, 1);
+        typed::run(alloc, out, code, row, marks);
     } else if let Ok(listed) = listing(alloc, code) {
         if matches!(asked, Asked::Listing) {
             put(out, listed.as_slice());

@@ -17,7 +17,7 @@ pub enum Asked {
     End,
     /// What it shows with the lines that are typed, where it has so many marks at a time.
     Typed(u32),
-    /// What a program over the variables of a packet has and shows, which has no text.
+    /// The answers to the steps of a scene with packets.
     Packets,
 }
 
@@ -55,7 +55,7 @@ fn answer(alloc: Global, out: &mut Bytes, program: &str, row: &str, asked: Asked
     match asked {
         Asked::Line(how) => outside::run(alloc, out, how, copied(alloc, program)),
         Asked::Outside => outside::run_row(alloc, out, program),
-        Asked::Packets => packets::answer(alloc, out),
+        Asked::Packets => packets::answer(alloc, out, row),
         Asked::End => code::answer(alloc, out, spelled(alloc, program).as_slice(), row, asked),
         Asked::Listing | Asked::Typed(_) => {
             code::answer(alloc, out, program.as_bytes(), row, asked);

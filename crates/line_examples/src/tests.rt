@@ -81,7 +81,7 @@ fn wrong_table(alloc: Global) -> &'static str {
         "typed"
     } else if !is_right(alloc, typed::TYPED, Asked::Typed(1)) {
         "typed, a mark at a time"
-    } else if !is_right(alloc, packets::PACKETS, Asked::Packets) {
+    } else if !is_right(alloc, packets::SCENES, Asked::Packets) {
         "packets"
     } else if !codes_are_right() {
         "codes"

@@ -177,16 +177,26 @@ FEHLER : typed
 /// How often a program comes to rest at most.
 const RESTS: u32 = 100_000;
 
-/// Runs code from its start, with so many marks at a time, as so many commands over one memory.
-pub fn run(alloc: Global, out: &mut Bytes, code: &Code, row: &str, marks: u32, commands: u32) {
+/// Runs code from its start over a memory, with so many marks at a time.
+pub fn run_over<M: Memory>(
+    alloc: Global,
+    out: &mut Bytes,
+    code: &Code,
+    row: &str,
+    marks: u32,
+    memory: &mut M,
+) {
+    if let Ok(command) = TaskRun::start(alloc, code, memory) {
+        serve(alloc, out, code, command, memory, row, marks);
+    }
+}
+
+/// Runs code from its start over a memory of its own.
+pub fn run(alloc: Global, out: &mut Bytes, code: &Code, row: &str, marks: u32) {
     let mut pool = Pool::new(alloc);
     let mut memory = SpaceMemory::new(alloc);
     let mut lent = memory.over(&mut pool);
-    for _ in 0..commands {
-        if let Ok(command) = TaskRun::start(alloc, code, &mut lent) {
-            serve(alloc, out, code, command, &mut lent, row, marks);
-        }
-    }
+    run_over(alloc, out, code, row, marks, &mut lent);
 }
 
 fn end_line(out: &mut Bytes) {

@@ -1,6 +1,5 @@
 -- Live packets, by their numbers.
-use Rattle.std.specs.Prelude.{◌≡◌, ◌≤◌, ◌⊎◌, ℕ, ◌+◌, Bool, not, List, [], ◌∷◌, ◌++◌, length, filter, find, Option, Some, None, nat_eq}
-use Rattle.std.specs.List.{list_any}
+use Rattle.std.specs.Prelude.{◌≡◌, ◌≤◌, ◌⊎◌, ℕ, ◌+◌, Bool, not, List, [], ◌∷◌, ◌++◌, length, filter, find, Option, Some, None, is_some, nat_eq}
 use Rattle.elan_names.specs.declared.interface.Interface.{Interface}
 use Rattle.elan_scope.specs.declared.env.Env.{Env}
 use Rattle.elan_check.specs.Packets.{nothing, after}
@@ -23,7 +22,7 @@ abbrev pub live_as : ℕ → Library → Option Live
 live_as n lib = find (has_number n) lib.live
 
 abbrev pub lives : ℕ → Library → Bool
-lives n lib = list_any (has_number n) lib.live
+lives n lib = is_some (live_as n lib)
 
 -- what stands behind a packet: it, and the packets behind which it was compiled
 abbrev pub behind : Option Live → Env → Env
