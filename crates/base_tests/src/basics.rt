@@ -1,6 +1,6 @@
 //! That memory suffices where there is enough.
 
-use eu_base::{Boxed, Bytes, List, decimal};
+use eu_base::{Boxed, Bytes, List, Shared, decimal};
 use std::alloc::Global;
 
 pub fn bytes_grow(alloc: Global) -> bool {
@@ -26,6 +26,17 @@ pub fn a_list_grows(alloc: Global) -> bool {
 pub fn a_box_holds(alloc: Global) -> bool {
     match Boxed::new(alloc, 7u8) {
         Ok(boxed) => *boxed.get() == 7,
+        Err(_) => false,
+    }
+}
+
+// A value stays as long as one owner has it.
+pub fn two_owners_share(alloc: Global) -> bool {
+    match Shared::new(alloc, 7u8) {
+        Ok(first) => match first.share() {
+            Ok(second) => *first.get() == 7 && *second.get() == 7,
+            Err(_) => false,
+        },
         Err(_) => false,
     }
 }

@@ -11,6 +11,8 @@ fn wrong_part(alloc: Global) -> &'static str {
         "list"
     } else if !basics::a_box_holds(alloc) {
         "box"
+    } else if !basics::two_owners_share(alloc) {
+        "two owners"
     } else if !basics::numbers_are_decimal(alloc) {
         "decimal"
     } else if !streams::source_is_right(alloc) {
