@@ -12,29 +12,29 @@ use Rattle.elan_names.specs.declared.interface.Inserted.{Inserted}
 use Rattle.elan_names.specs.declared.type_name.TypeName.{TypeName}
 use Rattle.elan_scope.specs.declared.env.Env.{Env}
 use Rattle.elan_scope.specs.Shown.{shown_types}
-use Rattle.type_definitions.specs.declared.definition.Definition.{Definition}
 use Rattle.type_names.specs.Types.{names_of, level_types, level_definitions}
 use Rattle.elan_levels.specs.Bodies.{names_in, headings_in}
 use Rattle.elan_bodies.specs.Level.{level_in, exports_in, export_name}
+use Rattle.elan_check.specs.walks.Shown.{shown_in}
 use Rattle.elan_check.specs.Packets.{nothing, interface}
 
-pub interface_is : (env : Env) (t : Tree) (w : Level) (es : List Export) (shown seen : List TypeName) (ds : List Definition) (xs : List (List ℕ))
-    (ns : List Entry) (hs : List Heading) (ts : List TypeName) → w ≡ level_in t → es ≡ exports_in t → shown ≡ shown_types env
-    → seen ≡ level_types env.types shown w → ds ≡ level_definitions w → xs ≡ map export_name es → ns ≡ names_in seen w → hs ≡ headings_in seen w
-    → ts ≡ names_of env.types shown ds → record { exports = xs; names = ns; headings = hs; types = ts } ≡ interface env t
-interface_is env t w es shown seen ds xs ns hs ts ew ee esh ese ed ex en eh et =
+pub shown_is : (first : ℕ) (us : List TypeName) (es : List Export) (w : Level) (xs : List (List ℕ)) (ns : List Entry) (hs : List Heading)
+    (ts : List TypeName) → xs ≡ map export_name es → ns ≡ names_in (level_types first us w) w → hs ≡ headings_in (level_types first us w) w
+    → ts ≡ names_of first us (level_definitions w) → record { exports = xs; names = ns; headings = hs; types = ts } ≡ shown_in first us es w
+shown_is first us es w xs ns hs ts ex en eh et =
     let whole : List (List ℕ) → List Entry → List Heading → List TypeName → Interface =
     λ x a b c. record { exports = x; names = a; headings = b; types = c } in
-    ap (λ x. whole x ns hs ts) (ex ∙ ap (λ (ys : List Export). map export_name ys) ee)
-    ∙ ap (λ a. whole (map export_name (exports_in t)) a hs ts) en
-    ∙ ap (λ b. whole (map export_name (exports_in t)) (names_in seen w) b ts) eh
-    ∙ ap (λ c. whole (map export_name (exports_in t)) (names_in seen w) (headings_in seen w) c)
-    (et ∙ ap (λ (d : List Definition). names_of env.types shown d) ed)
-    ∙ ap (λ (c : List TypeName). whole (map export_name (exports_in t)) (names_in c w) (headings_in c w) (names_of env.types shown (level_definitions w))) ese
-    ∙ ap (λ (us : List TypeName). whole (map export_name (exports_in t)) (names_in (level_types env.types us w) w) (headings_in (level_types env.types us w) w)
-    (names_of env.types us (level_definitions w))) esh
-    ∙ ap (λ (v : Level). let c = level_types env.types (shown_types env) v in
-    whole (map export_name (exports_in t)) (names_in c v) (headings_in c v) (names_of env.types (shown_types env) (level_definitions v))) ew
+    let seen : List TypeName = level_types first us w in
+    ap (λ x. whole x ns hs ts) ex ∙ ap (λ a. whole (map export_name es) a hs ts) en
+    ∙ ap (λ b. whole (map export_name es) (names_in seen w) b ts) eh
+    ∙ ap (λ c. whole (map export_name es) (names_in seen w) (headings_in seen w) c) et
+
+pub interface_is : (env : Env) (t : Tree) (w : Level) (es : List Export) (shown : List TypeName) → w ≡ level_in t → es ≡ exports_in t
+    → shown ≡ shown_types env → shown_in env.types shown es w ≡ interface env t
+interface_is env t w es shown ew ee esh =
+    ap (λ (us : List TypeName). shown_in env.types us es w) esh
+    ∙ ap (λ (ys : List Export). shown_in env.types (shown_types env) ys w) ee
+    ∙ ap (λ (v : Level). shown_in env.types (shown_types env) (exports_in t) v) ew
 
 pub nothing_is : (e : Env) → e.inserted ≡ [] → e.packets ≡ [] → e.bodies ≡ [] → e.types ≡ 0 → nothing ≡ e
 nothing_is e i p b t =

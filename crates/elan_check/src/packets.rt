@@ -1,15 +1,23 @@
 //! The packets of a task.
 
-ghost use Rattle.std.specs.Prelude.{◌≡◌, ◌∷◌, IfOk};
+ghost use Rattle.std.specs.Prelude.{◌≡◌, ◌∷◌, ◌++◌, [], length, IfOk};
+ghost use Rattle.elan_bodies.specs.Level.{packet_cells};
+ghost use Rattle.type_names.specs.Types.{names_of, level_types as types_in, level_definitions};
+ghost use Rattle.elan_levels.specs.Bodies.{names_in, headings_in};
 ghost use Rattle.elan_check.specs.Packets as spec;
+ghost use Rattle.elan_check.specs.walks.Shown as walks;
 ghost use Rattle.elan_check.specs.Packets.{AreCompiled, IsPacket};
 
 use cell_kinds::Packet;
 use elan_levels::bodies::{level_names, level_types};
 use elan_levels::heading::headings;
+use elan_meant::row::both;
+use elan_names::directory::Directory;
+use elan_names::headings::Headings;
 use elan_names::interface::{Inserted, Interface};
+use elan_names::type_directory::TypeDirectory;
 use elan_scope::env::Env;
-use elan_tree::Tree;
+use elan_tree::{Export, Level, Tree};
 use elan_types::{Body, Core};
 use eu_base::{List, NoMemory, Shared};
 use std::alloc::Global;
@@ -66,6 +74,34 @@ fn with_shown(
     Ok(list)
 }
 
+// The packet that shows this, behind these.
+fn inserted_behind(env: &Env, interface: &Shared<Interface>) -> Result<Inserted, NoMemory>
+    ensures { IfOk result (λ shown. shown ≡ record { interface = interface.now; bodies_before = length env.now.bodies; cells_before = length (packet_cells env.now) }) }
+{
+    let cells_before = cells_of(env.packets.as_slice())?;
+    Ok(Inserted {
+        interface: interface.share()?,
+        bodies_before: env.bodies.len(),
+        cells_before,
+    })
+}
+
+// The variables of these packets, and behind them those of one with this core.
+fn variables_after(
+    alloc: Global,
+    packets: &[Packet],
+    core: &Core,
+    number: u32,
+) -> Result<List<Packet>, NoMemory>
+    ensures { IfOk result (λ list. list ≡ packets.now ++ record { number = number; variables = core.now.inserted } ∷ []) }
+{
+    let variables = core.inserted.try_clone(alloc)?;
+    let packet = Packet { number, variables };
+    let mut packets = Packet::clone_all(packets, alloc)?;
+    packets.push(packet)?;
+    Ok(packets)
+}
+
 fn env_after(
     alloc: Global,
     env: &Env,
@@ -75,22 +111,63 @@ fn env_after(
 ) -> Result<Env, NoMemory>
     ensures { IfOk result (λ after. after ≡ spec.after env.now interface.now core.now number) }
 {
-    let shown = Inserted {
-        interface: interface.share()?,
-        bodies_before: env.bodies.len(),
-        cells_before: cells_of(env.packets.as_slice())?,
-    };
-    let mut packets = Packet::clone_all(env.packets.as_slice(), alloc)?;
-    packets.push(Packet {
-        number,
-        variables: core.inserted.try_clone(alloc)?,
-    })?;
     let names = interface.get().types.as_slice().len();
+    let types = env.types.checked_add(names).ok_or(NoMemory)?;
+    let shown = inserted_behind(env, interface)?;
+    let inserted = with_shown(alloc, shown, env.inserted.as_slice())?;
+    let packets = variables_after(alloc, env.packets.as_slice(), core, number)?;
+    let bodies = shared(alloc, core.bodies.as_slice())?;
     Ok(Env {
-        inserted: with_shown(alloc, shown, env.inserted.as_slice())?,
+        inserted,
         packets,
-        bodies: shared(alloc, core.bodies.as_slice())?,
-        types: env.types.checked_add(names).ok_or(NoMemory)?,
+        bodies,
+        types,
+    })
+}
+
+// The names of types that a level declares itself.
+fn own_types(alloc: Global, around: Around<'_>, level: &Level) -> Result<TypeDirectory, NoMemory>
+    ensures { IfOk result (λ types. types ≡ names_of around.entry.first around.entry.names.now (level_definitions level.now)) }
+{
+    let definitions = level_definitions(alloc, level)?;
+    names_of(alloc, around, definitions.as_slice())
+}
+
+// The names that a level declares, and its bodies.
+fn declared_in(
+    alloc: Global,
+    around: Around<'_>,
+    level: &Level,
+) -> Result<(Directory, Headings), NoMemory>
+    ensures { IfOk result (λ p. (p.0 ≡ names_in (types_in around.entry.first around.entry.names.now level.now) level.now)
+        × (p.1 ≡ headings_in (types_in around.entry.first around.entry.names.now level.now) level.now)) }
+{
+    let seen = level_types(alloc, around, level)?;
+    both(
+        level_names(alloc, &seen, level),
+        headings(alloc, &seen, level),
+    )
+}
+
+// What is shown of a level.
+fn shown_in(
+    alloc: Global,
+    around: Around<'_>,
+    exports: &[Export],
+    level: &Level,
+) -> Result<Interface, NoMemory>
+    ensures { IfOk result (λ interface. interface ≡ walks.shown_in around.entry.first around.entry.names.now exports.now level.now) }
+{
+    let (names, headings) = declared_in(alloc, around, level)?;
+    let (exports, types) = both(
+        export_names(alloc, exports),
+        own_types(alloc, around, level),
+    )?;
+    Ok(Interface {
+        exports,
+        names,
+        headings,
+        types,
     })
 }
 
@@ -104,15 +181,7 @@ pub fn interface_of(alloc: Global, packets: &Packets, tree: &Tree) -> Result<Int
         names: &shown,
         first: env.types,
     };
-    let level = level_in(tree);
-    let seen = level_types(alloc, around, level)?;
-    let definitions = level_definitions(alloc, level)?;
-    Ok(Interface {
-        exports: export_names(alloc, exports_in(tree))?,
-        names: level_names(alloc, &seen, level)?,
-        headings: headings(alloc, &seen, level)?,
-        types: names_of(alloc, around, definitions.as_slice())?,
-    })
+    shown_in(alloc, around, exports_in(tree), level_in(tree))
 }
 
 impl Packets {

@@ -161,14 +161,37 @@ fn core_known(
     }
 }
 
+// The core of a text in its scope.
+fn core_within(
+    alloc: Global,
+    scope: &mut Scope,
+    shown: &TypeDirectory,
+    text: Text<'_>,
+) -> Result<Core, CheckError>
+    requires scope { scope.old ≡ spec.text_scope text.env.now text.tree.now }
+    requires shown { shown.now ≡ shown_types text.env.now }
+    requires packets { AreCompiled text.env.now }
+    ensures { texts.Answers text.entry.env.now text.entry.tree.now result }
+{
+    let known = known_of(alloc, scope, level_in(text.tree))?;
+    core_known(alloc, &known, scope, shown, text)
+}
+
+// The core of a text behind packets that show these types.
+fn core_behind(alloc: Global, shown: &TypeDirectory, text: Text<'_>) -> Result<Core, CheckError>
+    requires shown { shown.now ≡ shown_types text.env.now }
+    requires packets { AreCompiled text.env.now }
+    ensures { texts.Answers text.entry.env.now text.entry.tree.now result }
+{
+    let mut scope = text_scope(alloc, text.env, shown, text.tree)?;
+    core_within(alloc, &mut scope, shown, text)
+}
+
 /// The core of a text behind packets.
 pub fn core_of(alloc: Global, env: &Env, tree: &Tree) -> Result<Core, CheckError>
     requires { AreCompiled env.now }
     ensures { texts.Answers env.now tree.now result }
 {
     let shown = env.shown_types(alloc)?;
-    let mut scope = text_scope(alloc, env, &shown, tree)?;
-    let known = known_of(alloc, &mut scope, level_in(tree))?;
-    let text = Text { env, tree };
-    core_known(alloc, &known, &mut scope, &shown, text)
+    core_behind(alloc, &shown, Text { env, tree })
 }
