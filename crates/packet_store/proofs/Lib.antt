@@ -3,3 +3,4 @@ pub mod Unique
 pub mod Total
 pub mod ReadAs
 pub mod Growing
+pub mod Standing

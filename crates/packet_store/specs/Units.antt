@@ -1,8 +1,9 @@
 -- What a text is compiled to.
-use Rattle.std.specs.Prelude.{◌≡◌, ℕ, Bool, List, Option, Some, None, is_some}
+use Rattle.std.specs.Prelude.{◌≡◌, ℕ, Bool, List, [], ◌∷◌, ◌++◌, Option, Some, None, is_some}
 use Rattle.elan_types.specs.Typing.{IsWellTyped}
 use Rattle.elan_names.specs.declared.interface.Interface.{Interface}
 use Rattle.elan_types.specs.declared.core_phrase.Core.{Core}
+use Rattle.elan_types.specs.declared.core_phrase.Body.{Body}
 use Rattle.elan_scope.specs.declared.env.Env.{Env}
 use Rattle.elan_tree.specs.declared.tree.Tree.{Tree}
 use Rattle.elan_tree.specs.declared.tree.Tree.TheVariants as tree
@@ -27,3 +28,9 @@ pub record IsUnitOf (env : Env) (packet : Bool) (text : List ℕ) (u : Compiled)
   pub means : Means env packet text u.core
   pub shows : Shows env u.core u.shown
   pub typed : IsWellTyped u.core
+
+-- A text behind a packet with this core has the packet's bodies as they were compiled, before its own, and the packet's variables under its
+-- number, behind those of the packets before it.
+abbrev pub HasPacket : Env → Core → ℕ → Core → Type 0
+HasPacket env c n later =
+    (later.packets ≡ env.packets ++ record { number = n; variables = c.inserted } ∷ []) × (own : List Body) × (later.bodies ≡ c.bodies ++ own)

@@ -1,11 +1,13 @@
-//! A law of meaning: each text means something or is refused, and only so.
+//! Laws of meaning: each text means something or is refused, and only so; and packets stand in later texts as they were compiled.
 
 ghost use Rattle.std.specs.Prelude.{◌≡◌, ℕ, Bool, List};
 ghost use Rattle.elan_types.specs.declared.core_phrase.Core.{Core};
 ghost use Rattle.elan_scope.specs.declared.env.Env.{Env};
-ghost use Rattle.elan_check.specs.Packets.{AreCompiled};
+ghost use Rattle.elan_names.specs.declared.interface.Interface.{Interface};
+ghost use Rattle.elan_check.specs.Packets.{AreCompiled, after};
 ghost use Rattle.packet_store.specs.declared.error.Refusal.{Refusal};
 ghost use Rattle.packet_store.specs.Meaning.{Means, IsRefused, HasOutcome};
+ghost use Rattle.packet_store.specs.Units.{HasPacket};
 
 use elan_check::{each_text_has_one_answer, meant_is_not_refused, one_core, one_refusal};
 use elan_parser::one_tree;
@@ -25,3 +27,10 @@ pub fn one_meaning()
     meant_is_not_refused();
     each_text_has_one_answer();
 }
+
+/// What is inserted under a number is what was compiled: the meaning of each text behind a packet has the packet's bodies unchanged, and
+/// its variables under that number. So code that does what this meaning does calls the packet, and reaches its variables, so.
+pub fn packets_stand_as_compiled()
+    ensures { (env : Env) → (i : Interface) → (c : Core) → (n : ℕ) → (packet : Bool) → (text : List ℕ) → (later : Core)
+        → Means (after env i c n) packet text later → HasPacket env c n later }
+{}
