@@ -35,9 +35,10 @@ use Rattle.code_form.specs.declared.instr.Instr.{Instr}
 use Rattle.code_form.specs.declared.instr.Instr.TheVariants.{Mark, Number, Truth, Text, Outer, Packet, Local, Param, Index, Field, Pick, Take, Load, Store, Do, Modify, Jump, False}
 use Rattle.code_form.specs.declared.instr.Instr.TheVariants.{When, Drop, Limit, Unlimit, Step, Ask, ErrorStop, Call, Refer, Back, Out, End}
 use Rattle.code_form.specs.declared.code.Entry.{Entry}
+use Rattle.code_form.specs.declared.code.Start.{Start}
 use Rattle.code_form.specs.declared.code.Layout.{Layout}
 use Rattle.code_form.specs.declared.code.Layout.TheVariants.{Own}
-use Rattle.code_form.specs.Program.{Program, kinds_in_packets, instr_of, CellUse, HoldsValue, HoldsPlace, layout_of, cells_at}
+use Rattle.code_form.specs.Program.{Program, kinds_in_packets, start_kinds, instr_of, CellUse, HoldsValue, HoldsPlace, layout_of, cells_at}
 
 -- a live call or refinement: the instruction to which it returns, its first cell, which is that of the frame below for a refinement,
 -- the cells that were in use before it, its body, and what is pending in the frame below
@@ -273,11 +274,12 @@ made_in area at kinds cells = cond (cells_fit (at + length kinds)) (written_in a
 -- no texts with blocks stand where variables are made
 abbrev pub CanBeMade : Program → Cells → Type 0
 CanBeMade p cells =
-    AreBare areas.Run 0 (length p.variables) cells × AreBare areas.Packets (length (packet_kinds p.packets)) (length p.inserted) cells
+    AreBare areas.Run 0 (length (start_kinds p)) cells × AreBare areas.Packets (length (packet_kinds p.packets)) (length p.inserted) cells
 
--- those of a command, and those of the packet that is inserted, behind those of the packets of the task
+-- those of a command, or those of the call of a start procedure, and those of the packet that is inserted, behind those of the packets of
+-- the task
 abbrev pub made : Program → Cells → Cells
-made p cells = made_in areas.Packets (length (packet_kinds p.packets)) p.inserted (made_in areas.Run 0 p.variables cells)
+made p cells = made_in areas.Packets (length (packet_kinds p.packets)) p.inserted (made_in areas.Run 0 (start_kinds p) cells)
 
 -- nothing is known of a cell, and of as many of the command's as these from one on
 abbrev pub is_free : Cell → Bool
@@ -518,13 +520,19 @@ abbrev pub exec : Program → ℕ → Control → Scene → Option Rest
 exec p zero c s = None
 exec p (suc n) c s = carry_on (advance p c s) (exec p n)
 
--- the variables of a command have room, and so have those of all packets
+-- the cells that a command has at its start have room, and so have those of all packets
 abbrev pub have_room : Program → Bool
-have_room p = cells_fit (length p.variables) && cells_fit (length (kinds_in_packets p))
+have_room p = cells_fit (length (start_kinds p)) && cells_fit (length (kinds_in_packets p))
 
--- where a command starts. Where variables have no room, it stops there
+-- the frame of a start procedure is made already
+abbrev pub start_frames : Option Start → List Frame
+start_frames None = []
+start_frames (Some s) =
+    record { back = s.back; base = 2; used = 0; refines = false; body = s.body; ops = [] } ∷ []
+
+-- where a command starts. Where its cells have no room, it stops there
 abbrev pub start : Program → Control
 start p = record {
-  position = record { pc = 0; ops = []; used = length p.variables; frames = [] };
+  position = record { pc = 0; ops = []; used = length (start_kinds p); frames = start_frames p.start };
   waits = cond (have_room p) Nothing (Refused CellRoom);
 }

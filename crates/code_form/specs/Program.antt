@@ -1,6 +1,7 @@
 -- Code as a list of instructions with its tables.
 use Rattle.std.specs.Prelude.{ℕ, suc, List, [], ◌∷◌, ◌++◌, map, flat_map, Option, Some, None, slice_get}
 use Rattle.eu_base.specs.declared.value.Kind.{Kind}
+use Rattle.eu_base.specs.declared.value.Kind.TheVariants as kinds
 use Rattle.eu_base.specs.Shapes.{cell_kinds}
 use Rattle.cell_kinds.specs.declared.packet.Packet.{Packet}
 use Rattle.cell_kinds.specs.Kinds.{packet_kinds}
@@ -12,13 +13,15 @@ use Rattle.code_form.specs.declared.code.Spot.{Spot}
 use Rattle.code_form.specs.declared.code.Layout.{Layout}
 use Rattle.code_form.specs.declared.code.Layout.TheVariants.{Own, Of, Level}
 use Rattle.code_form.specs.declared.code.Entry.{Entry}
+use Rattle.code_form.specs.declared.code.Start.{Start}
 
--- the packets of the task, the kinds of the variables of the packet that is inserted, and of the level's, the bodies, and the instructions with
--- what is pending at each
+-- the packets of the task, the kinds of the variables of the packet that is inserted, and of the level's, the call in which a start procedure
+-- starts, the bodies, and the instructions with what is pending at each
 pub record Program : Type 0 where
   pub packets : List Packet
   pub inserted : List Kind
   pub variables : List Kind
+  pub start : Option Start
   pub bodies : List Entry
   pub lines : List Line
 
@@ -76,6 +79,24 @@ owner_at n (Some l) = owner_in n l
 abbrev pub cells_at : Option Layout → List CellUse
 cells_at None = []
 cells_at (Some l) = cells_of l
+
+-- the kinds of the cells of a call of a PROC without parameters: two of the call, and its variables
+abbrev pub call_kinds : Option Layout → List Kind
+call_kinds (Some (Own parameters variables)) = kinds.Int ∷ kinds.Int ∷ variables
+call_kinds _ = []
+
+-- the kinds of the cells that are made when a command starts: those of the variables of its level, or of the call of a start procedure
+abbrev pub kinds_at : Program → Option Start → List Kind
+kinds_at p None = p.variables
+kinds_at p (Some s) = call_kinds (layout_of (slice_get p.bodies s.body))
+
+abbrev pub start_kinds : Program → List Kind
+start_kinds p = kinds_at p p.start
+
+-- what the first instruction is of: the level, or the body of a start procedure
+abbrev pub spot_at : Option Start → Spot
+spot_at None = at_level
+spot_at (Some s) = in_body s.body
 
 module _ (p : Program) where
   -- the PROC whose cells the instructions of a body use

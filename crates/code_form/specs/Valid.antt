@@ -22,9 +22,10 @@ use Rattle.code_form.specs.declared.instr.Instr.TheVariants.{When, Drop, Limit, 
 use Rattle.code_form.specs.declared.code.Line.{Line}
 use Rattle.code_form.specs.declared.code.Spot.{Spot}
 use Rattle.code_form.specs.declared.code.Entry.{Entry}
+use Rattle.code_form.specs.declared.code.Start.{Start}
 use Rattle.code_form.specs.declared.code.Layout.{Layout}
 use Rattle.code_form.specs.declared.code.Layout.TheVariants as layouts
-use Rattle.code_form.specs.Program.{Program, kinds_in_packets, line_of, instr_of, at_level, in_body, deeper, HoldsValue, HoldsPlace, cell_uses, owner, owner_in, frame_cells}
+use Rattle.code_form.specs.Program.{Program, kinds_in_packets, line_of, instr_of, at_level, spot_at, in_body, deeper, HoldsValue, HoldsPlace, cell_uses, owner, owner_in, frame_cells}
 use Rattle.code_form.specs.Machine.{Frame, Control, base_of, bytes_on, bytes_of, operand_of}
 use Rattle.code_form.specs.declared.waits.Waits.{Waits}
 use Rattle.code_form.specs.declared.waits.Waits.TheVariants.{Nothing, Asked, Given, Refused}
@@ -188,9 +189,27 @@ IsOwned p (layouts.Of q) =
     × ((variables : List Kind) × (slice_get p.bodies q ≡ Some e) × (e.layout ≡ layouts.Own parameters variables)))
 IsOwned p _ = Unit {0}
 
+-- the call of a start procedure, which takes and delivers nothing, stands in a level without variables, and is followed by the
+-- instruction to which it returns
+pub record IsStarted (p : Program) (s : Start) : Type 0 where
+  pub entry : Entry
+  pub has : slice_get p.bodies s.body ≡ Some entry
+  pub variables : List Kind
+  pub own : entry.layout ≡ layouts.Own [] variables
+  pub delivers : entry.delivers ≡ None
+  pub pc : ℕ
+  pub back : s.back ≡ pc + 1
+  pub call : slice_get p.lines pc ≡ Some (line_of (Call s.body) [] at_level)
+  pub level : p.variables ≡ []
+
+abbrev pub StartsSo : Program → Option Start → Type 0
+StartsSo p None = Unit {0}
+StartsSo p (Some s) = IsStarted p s
+
 pub record IsValid (p : Program) : Type 0 where
   -- nothing is pending at the start, and at the start of a body
-  pub first : Next p.lines 0 [] at_level
+  pub first : Next p.lines 0 [] (spot_at p.start)
+  pub starts : StartsSo p p.start
   pub bodies : (n : ℕ) (e : Entry) → slice_get p.bodies n ≡ Some e → Next p.lines e.first [] (in_body n)
   pub owned : (n : ℕ) (e : Entry) → slice_get p.bodies n ≡ Some e → IsOwned p e.layout
   pub each : (pc : ℕ) (l : Line) → slice_get p.lines pc ≡ Some l → IsFine p pc l.instr l.operands l.spot

@@ -54,6 +54,15 @@ pub enum Layout {
     Level,
 }
 
+/// The call in which a command starts that is a start procedure.
+#[derive(Clone, Copy, PartialEq, Eq)]
+pub struct Start {
+    /// The number of its PROC, whose first instruction is the first of the code.
+    pub body: usize,
+    /// The number of the instruction to which the call returns.
+    pub back: usize,
+}
+
 /// A list of instructions with its tables. Along each step the tables agree, and a jump back goes to an
 /// instruction that spends a mark.
 #[derive(Drop)]
@@ -61,6 +70,7 @@ pub struct Code {
     packets: List<Packet>,
     inserted: CellKinds,
     variables: CellKinds,
+    start: Option<Start>,
     bodies: List<Entry>,
     lines: List<Line>,
 }
@@ -81,6 +91,7 @@ impl Model for Code {
       packets = c.packets;
       inserted = c.inserted;
       variables = c.variables;
+      start = c.start;
       bodies = c.bodies;
       lines = c.lines;
     } };
@@ -89,6 +100,7 @@ impl Model for Code {
       packets = c.packets;
       inserted = c.inserted;
       variables = c.variables;
+      start = c.start;
       bodies = c.bodies;
       lines = c.lines;
     }) };
@@ -100,16 +112,18 @@ impl Code {
         packets: List<Packet>,
         inserted: CellKinds,
         variables: CellKinds,
+        start: Option<Start>,
         bodies: List<Entry>,
         lines: List<Line>,
     ) -> Code
-        requires { IsValid (record { packets = packets; inserted = inserted; variables = variables; bodies = bodies; lines = lines }) }
-        ensures { result ≡ record { packets = packets; inserted = inserted; variables = variables; bodies = bodies; lines = lines } }
+        requires { IsValid (record { packets = packets; inserted = inserted; variables = variables; start = start; bodies = bodies; lines = lines }) }
+        ensures { result ≡ record { packets = packets; inserted = inserted; variables = variables; start = start; bodies = bodies; lines = lines } }
     {
         Code {
             packets,
             inserted,
             variables,
+            start,
             bodies,
             lines,
         }
@@ -134,6 +148,14 @@ impl Code {
         ensures { result.now ≡ self.now.variables }
     {
         &self.variables
+    }
+
+    /// The call in which the command starts, where it is a start procedure.
+    pub fn start(&self) -> Option<Start>
+        ensures start { result ≡ self.now.start }
+        ensures valid { IsValid self.now }
+    {
+        self.start
     }
 
     /// The PROCs and refinements.

@@ -8,7 +8,7 @@ mod operand;
 mod text;
 mod waits;
 
-pub use code::{Code, Entry, Layout, Line, Spot};
+pub use code::{Code, Entry, Layout, Line, Spot, Start};
 pub use halt::Halt;
 pub use instr::Instr;
 pub use operand::{Operand, OperandKind};

@@ -105,7 +105,7 @@ module _ (p : Program) (L : Uses) where
   -- the cells of a call hold what its slots have
   pub frame_kept : (ks : List OperandKind) (as' : List Passed) (vs : List Kind) → TakeAll p ks L as'
       → AllKept (P p) L (length L) (call_uses (flat_map uses_of ks ++ map OfValue vs)) (frame (all_slots as') vs) (frame_contents (map passed_operand as') vs)
-  frame_kept ks as' vs t = ((refl, refl), ((refl, refl), rest_kept ks as' vs (suc (suc (length L))) (omega arith) t))
+  frame_kept ks as' vs t = ((0, refl, refl, tt), ((0, refl, refl, tt), rest_kept ks as' vs (suc (suc (length L))) (omega arith) t))
 
 pub kept_lengths : (P : List Kind) (L M : Uses) (at : ℕ) (more : List Slot) (ns : List Cell) → AllKept P L at M more ns → (length more ≡ length M) × (length ns ≡ length M)
 kept_lengths P L [] at [] [] h = (refl, refl)

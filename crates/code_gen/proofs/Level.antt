@@ -198,7 +198,7 @@ module _ (bodies : List Body) (p : Program) where
       → owner p (Some q) ≡ Some q
   owner_own q e ks vs is own = ap (λ o. tables.owner_at q (tables.layout_of o)) is ∙ ap (tables.owner_in q) own
 
-  frame_own : (q : ℕ) (e : Entry) (ks : List OperandKind) (vs : List Kind) → slice_get p.bodies q ≡ Some e → e.layout ≡ layouts.Own ks vs
+  pub frame_own : (q : ℕ) (e : Entry) (ks : List OperandKind) (vs : List Kind) → slice_get p.bodies q ≡ Some e → e.layout ≡ layouts.Own ks vs
       → frame_uses p (Some q) ≡ own_uses ks vs
   frame_own q e ks vs is own = ap (uses_in p) (owner_own q e ks vs is own) ∙ ap (λ o. uses_at (tables.layout_of o)) is ∙ ap layout_uses own
 
@@ -216,7 +216,7 @@ module _ (bodies : List Body) (p : Program) where
       by layouts.Level r = refl
 
   -- a PROC is left by both exits to where it was called
-  call_exits : (L : Uses) (q n b : ℕ) (e : Entry) (ks : List OperandKind) (vs : List Kind) (f : Frame) (fs : List Frame)
+  pub call_exits : (L : Uses) (q n b : ℕ) (e : Entry) (ks : List OperandKind) (vs : List Kind) (f : Frame) (fs : List Frame)
       (k : Option (List Value) → World → Ending) → slice_get p.bodies q ≡ Some e → e.layout ≡ layouts.Own ks vs → f.body ≡ q → f.refines ≡ false → n ≡ length L
       → f.used ≡ length L → ((v : Option (List Value)) (w : World) → Result e.delivers v → w.marks ≤ b
       → Ends p L (record { pc = f.back; ops = result_ops v ++ f.ops; used = f.used; frames = fs }) w (k v w))
@@ -258,7 +258,7 @@ module _ (bodies : List Body) (p : Program) where
           ((wider p L link_uses (tt, (tt, tt)) hl).by exits.Around d (subst (λ o. Delivers p o d) owned gives) more counts v w r le c used cells keeps)
 
   -- the cells in use behind the frame below are those of the call
-  stands_called : (L : Uses) (m : Spot) (c c' : Position) (q : ℕ) (us : Uses) → Stands p L m c → length (L ++ call_uses us) ≤ CELLS
+  pub stands_called : (L : Uses) (m : Spot) (c c' : Position) (q : ℕ) (us : Uses) → Stands p L m c → length (L ++ call_uses us) ≤ CELLS
       → c'.used ≡ length (L ++ call_uses us) → base_of c'.frames ≡ length L + 2 → frame_uses p (Some q) ≡ us
       → Stands p (L ++ call_uses us) (in_body q) c'
   stands_called L m c c' q us h room used base is = record {
@@ -339,7 +339,7 @@ module _ (bodies : List Body) (p : Program) where
         λ (w : World). content con (record { calls = level bodies n; turns = n; base = base_of c.frames; held = bytes_on ops (bytes_of c.frames) }) w in
         let f : Frame = record { back = pc + 1; base = base_of c.frames; used = c.used; refines = true; body = q; ops = ops } in
         enter_ends p h.packets L M link link_contents now e.first (base_of c.frames) true q ops (λ w. referred N (go w)) k l w cells h.used
-        ((refl, refl), ((refl, refl), tt)) keeps
+        ((0, refl, refl, tt), ((0, refl, refl, tt), tt)) keeps
         (λ room.
         let used : c.used + length link_contents ≡ length (L ++ M) = omega (arith, h.used, length-append L M) in
         let within : Within p (level bodies n) n b (L ++ M) (in_body q) inner =

@@ -1,15 +1,20 @@
 -- Code does what a command does.
 use Rattle.std.specs.Prelude.{◌≡◌, ℕ, Some}
 use Rattle.eu_base.specs.Cells.{Cells}
-use Rattle.code_form.specs.Program.{Program}
+use Rattle.code_form.specs.Program.{Program, start_kinds}
 use Rattle.code_form.specs.Machine.{Rest, exec, start}
 use Rattle.elan_types.specs.declared.core_phrase.Core.{Core}
 use Rattle.elan_types.specs.Eval.{World}
 use Rattle.elan_types.specs.Command.{evaluate_from}
+use Rattle.elan_types.specs.Command as command
 use Rattle.place_gen.specs.Correct.{HasAll, Shows, Comes, scene_of}
 
--- the code does what the command does, in any world with any marks and replies
+-- the code has the packets of the command and the cells that it starts with, and does what the command does, in any world with any marks
+-- and replies
 pub record Behaves (core : Core) (p : Program) : Type 0 where
+  pub packets : p.packets ≡ core.packets
+  pub inserted : p.inserted ≡ core.inserted
+  pub first : start_kinds p ≡ command.start_kinds core
   pub ends : (w : World) (cells : Cells) → HasAll p w cells → Comes p (start p) (scene_of w cells) (evaluate_from core w)
   -- and it comes to rest in no other way
   pub only : (w : World) (cells : Cells) (n : ℕ) (r : Rest) → HasAll p w cells → exec p n (start p) (scene_of w cells) ≡ Some r

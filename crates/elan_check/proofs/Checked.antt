@@ -39,6 +39,7 @@ module _ (env : Env) (compiled : AreCompiled env) (t : Tree) where
     packets = ap (λ (c : Core). c.packets) a.2;
     inserted = ap (λ (c : Core). c.inserted) a.2;
     variables = ap (λ (c : Core). c.variables) a.2;
+    start = ap (λ (c : Core). c.start) a.2;
     own = a.1;
     bodies = ap (λ (c : Core). c.bodies) a.2;
     phrases = subst (λ (k : Known). judged k (text env t) ≡ gives (means.Level core.units a.1)) (sym (known_is env t)) a.3;

@@ -15,3 +15,4 @@ pub mod Sound
 pub mod Weakening
 pub mod Inserted
 pub mod Scopes
+pub mod Starting

@@ -38,10 +38,10 @@ bodies_are as' bs ps qs e = cc
 pub one_core : (env : Env) (t : Tree) (c d : Core) → Means env t c → Means env t d → c ≡ d
 one_core env t c d h k =
     let e = first.one_meaning (known env t) (text env t) (Level c.units h.own) (Level d.units k.own) h.phrases k.phrases in
-    sym (core_made env t c h.own h.packets h.inserted h.variables h.bodies)
+    sym (core_made env t c h.own h.packets h.inserted h.variables h.bodies h.start)
     ∙ ap (λ (b : List Body). core_of env t c.units b) (bodies_are c.units d.units h.own k.own e)
     ∙ ap (λ (u : List Action). core_of env t u k.own) (units_are c.units d.units h.own k.own e)
-    ∙ core_made env t d k.own k.packets k.inserted k.variables k.bodies
+    ∙ core_made env t d k.own k.packets k.inserted k.variables k.bodies k.start
 
 -- a place is not before itself, nor before one that is before it
 not_both : (m n : ℕ) → m ≤ n → n < m → ⊥
@@ -136,6 +136,7 @@ module _ (env : Env) (compiled : AreCompiled env) (t : Tree) where
         packets = refl;
         inserted = refl;
         variables = refl;
+        start = refl;
         own = d.1;
         bodies = refl;
         phrases = e ∙ ap (λ (k : Meant). gives k) d.2;

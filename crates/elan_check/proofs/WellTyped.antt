@@ -489,6 +489,7 @@ module _ (env : Env) (sound : IsSound env) (t : Tree) (us : List Action) (own : 
             (refinements_typed after_units w.refinements q.1 q.3));
         scopes = all_scopes rs;
         bodies = all_typed rs;
+        starts = tt;
       }
 
   -- Its bodies are those that its headings tell of.
@@ -501,5 +502,5 @@ known_phrases env t c h = subst (λ (k : Known). judged k (l.text env t) ≡ giv
 
 pub well_typed : (env : Env) → IsSound env → (t : Tree) (c : Core) → Means env t c → IsWellTyped c
 well_typed env sound t c h =
-    subst IsWellTyped (core_made env t c h.own h.packets h.inserted h.variables h.bodies)
+    subst IsWellTyped (core_made env t c h.own h.packets h.inserted h.variables h.bodies h.start)
     (text_typed env sound t c.units h.own (known_phrases env t c h))

@@ -1,3 +1,4 @@
 pub mod Text
 pub mod Packets
+pub mod Starts
 pub mod walks

@@ -53,6 +53,7 @@ pub record Means (env : Env) (t : Tree) (c : Core) : Type 0 where
   pub packets : c.packets ≡ env.packets
   pub inserted : c.inserted ≡ inserted env t
   pub variables : c.variables ≡ declared env t
+  pub start : c.start ≡ None
   pub own : List Body
   pub bodies : c.bodies ≡ env.bodies ++ own
   pub phrases : phrase.Means (known env t) (text env t) (means.Level c.units own)
@@ -103,7 +104,7 @@ judged_text env t = phrase.judged (bodies_known env t) (text env t)
 -- the core of a text with these units and bodies
 abbrev pub core_of : Env → Tree → List Action → List Body → Core
 core_of env t us own =
-    record { packets = env.packets; inserted = inserted env t; variables = declared env t; bodies = env.bodies ++ own; units = us }
+    record { packets = env.packets; inserted = inserted env t; variables = declared env t; bodies = env.bodies ++ own; units = us; start = None }
 
 -- the meaning of a text, or its first fault
 abbrev pub Answers : Env → Tree → Result Core CheckError → Type 0

@@ -4,6 +4,7 @@
 mod error;
 mod laws;
 mod packets;
+mod start;
 mod text;
 mod text_core;
 

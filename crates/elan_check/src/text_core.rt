@@ -99,6 +99,7 @@ fn core_with(
         variables,
         bodies: all_bodies(alloc, text.env, own)?,
         units,
+        start: None,
     })
 }
 

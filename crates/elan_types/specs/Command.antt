@@ -1,16 +1,18 @@
 -- What a command does, from its start on.
-use Rattle.std.specs.Prelude.{ℕ, Bool, ◌&&◌, List, ◌++◌, length, map}
+use Rattle.std.specs.Prelude.{ℕ, Bool, ◌&&◌, List, [], ◌∷◌, ◌++◌, length, map, Option, Some, None, slice_get}
 use Rattle.eu_base.specs.declared.stop.Stop.{Stop}
 use Rattle.eu_base.specs.declared.stop.Stop.TheVariants.{CellRoom}
 use Rattle.eu_base.specs.declared.request.Request.{Request}
 use Rattle.eu_base.specs.declared.request.Reply.{Reply}
 use Rattle.eu_base.specs.declared.value.Kind.{Kind}
+use Rattle.eu_base.specs.declared.value.Kind.TheVariants as kinds
 use Rattle.eu_base.specs.Values.{blank_of}
 use Rattle.eu_base.specs.Room.{cells_fit}
+use Rattle.elan_types.specs.declared.core_phrase.Body.{Body}
 use Rattle.elan_types.specs.declared.core_phrase.Core.{Core}
 use Rattle.elan_types.specs.Typing.{all_packet_kinds}
 use Rattle.elan_types.specs.Eval as outcomes
-use Rattle.elan_types.specs.Eval.{Slot, Holds, World, Outcome, branch, Reach, level, all, act}
+use Rattle.elan_types.specs.Eval.{Slot, Holds, World, Outcome, bind, branch, Reach, level, all, act, content, called, own_variables}
 
 -- how a command stands with the marks and replies that it has, and the world there
 pub data Ending : Type 0 where
@@ -30,27 +32,50 @@ ending (outcomes.Asks q w) = Asks q w
 abbrev pub blanks : List Kind → List Slot
 blanks kinds = map (λ k. Holds (blank_of k)) kinds
 
+-- the kinds of the cells of a live call of a PROC without parameters: two of the call, and its variables
+abbrev pub call_kinds : Option Body → List Kind
+call_kinds None = []
+call_kinds (Some b) = kinds.Int ∷ kinds.Int ∷ own_variables b.scope
+
+-- the kinds of the cells that a command has at its start: those of the variables of its level, or of the call of a start procedure
+abbrev pub first_kinds : Option ℕ → Core → List Kind
+first_kinds None core = core.variables
+first_kinds (Some p) core = call_kinds (slice_get core.bodies p)
+
+abbrev pub start_kinds : Core → List Kind
+start_kinds core = first_kinds core.start core
+
 -- a command starts with the variables of the packets of its task. Its own are made, those of a packet that is inserted behind them
 abbrev pub at_start : Core → List Slot → ℕ → List Reply → World
 at_start core packets marks replies = record {
-  store = blanks core.variables;
+  store = blanks (start_kinds core);
   packets = packets ++ blanks core.inserted;
   marks = marks;
   replies = replies;
 }
 
--- the variables of the command have room, and those of all packets
+-- the cells of the command have room, and those of the variables of all packets
 abbrev pub start_fits : Core → Bool
-start_fits core = cells_fit (length core.variables) && cells_fit (length (all_packet_kinds core))
+start_fits core = cells_fit (length (start_kinds core)) && cells_fit (length (all_packet_kinds core))
 
 -- a phrase of the level's units, with as many calls and turns as there are marks, and nothing pending
 abbrev pub from_level : Core → ℕ → Reach
 from_level core marks = record { calls = level core.bodies marks; turns = marks; base = 0; held = 0 }
 
--- the units of a command, where all variables have room
+-- the body of a start procedure, whose call is live from the beginning. There is always one
+abbrev pub run_started : Core → ℕ → Option Body → World → Outcome (Unit {0})
+run_started core marks None w = outcomes.OutOfMarks w
+run_started core marks (Some b) w =
+    bind (called 0 (content b.content (record { calls = level core.bodies marks; turns = marks; base = 2; held = 0 }) w)) (λ _. outcomes.Gives tt)
+
+-- what a command does: its units, or the body of a start procedure
+abbrev pub run_from : Option ℕ → Core → ℕ → World → Outcome (Unit {0})
+run_from None core marks w = all (map act core.units) (from_level core marks) w
+run_from (Some p) core marks w = run_started core marks (slice_get core.bodies p) w
+
+-- a command, where all variables have room
 abbrev pub evaluate_from : Core → World → Ending
-evaluate_from core w =
-    ending (branch (start_fits core) (all (map act core.units) (from_level core w.marks)) (outcomes.Stopped CellRoom) w)
+evaluate_from core w = ending (branch (start_fits core) (run_from core.start core w.marks) (outcomes.Stopped CellRoom) w)
 
 -- a command with these variables of packets, with so many marks and with these replies
 abbrev pub evaluate : Core → List Slot → ℕ → List Reply → Ending

@@ -347,8 +347,20 @@ IsScope bodies (Of p) =
     (b : Body) × ((parameters : List Formal) × ((variables : List Kind) × (slice_get bodies p ≡ Some b) × (b.scope ≡ Own parameters variables)))
 IsScope bodies _ = Unit {0}
 
--- the core of a text: each phrase has the kinds that it asks for
+-- a start procedure takes and delivers nothing, and no variables of a level stand beside its own
+pub record IsStart (core : Core) (p : ℕ) : Type 0 where
+  pub level : core.variables ≡ []
+  pub variables : List Kind
+  pub units : List Action
+  pub body : slice_get core.bodies p ≡ Some (record { scope = Own [] variables; content = contents.Units units })
+
+abbrev pub StartsSo : Core → Option ℕ → Type 0
+StartsSo core None = Unit {0}
+StartsSo core (Some p) = IsStart core p
+
+-- the core of a command: each phrase has the kinds that it asks for
 pub record IsWellTyped (core : Core) : Type 0 where
   pub typed : all_true (map (is_typed (outside_of core) core.bodies None) core.units) ≡ true
   pub scopes : (n : ℕ) (b : Body) → slice_get core.bodies n ≡ Some b → IsScope core.bodies b.scope
   pub bodies : (n : ℕ) (b : Body) → slice_get core.bodies n ≡ Some b → is_content_typed (outside_of core) core.bodies (Some n) b.content ≡ true
+  pub starts : StartsSo core core.start

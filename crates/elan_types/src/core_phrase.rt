@@ -1,10 +1,10 @@
-//! What a text means. Every name is resolved and every phrase has the shape of its value, so evaluation and
-//! the making of code go by structure alone. Of types a core knows nothing else.
+//! What a command means: a text, or a PROC of a packet with which a task starts. Every name is resolved and every phrase has the
+//! shape of its value, so evaluation and the making of code go by structure alone. Of types a core knows nothing else.
 
 use cell_kinds::{CellKinds, Packet};
 use eu_base::{Boxed, Bytes, Change, List, Operation, RequestName, Shape, Shared, Way};
 
-/// The meaning of a program.
+/// The meaning of a command.
 #[derive(Drop)]
 pub struct Core {
     /// The packets of the task, in the order in which they were inserted.
@@ -12,13 +12,15 @@ pub struct Core {
     /// The kinds of the cells of the variables and constants of the packet that the text is, in the order of their declarations; a
     /// program has none here. They stand behind those of the packets of the task.
     pub inserted: CellKinds,
-    /// The kinds of the cells of a program's variables and constants; a packet has none here.
+    /// The kinds of the cells of a program's variables and constants; a packet has none here, and a start procedure neither.
     pub variables: CellKinds,
     /// The PROCs and refinements, those of the packets first. Phrases name them by their numbers here. A body of a packet is one
     /// for all texts that are compiled after it.
     pub bodies: List<Shared<Body>>,
-    /// What the command does, in text order.
+    /// What a text does, in text order.
     pub units: List<Action>,
+    /// The PROC, without parameters and value, in whose call the command starts, where it is a start procedure. It then has no units.
+    pub start: Option<usize>,
 }
 
 /// A PROC, or a refinement.

@@ -12,14 +12,15 @@ use Rattle.eu_base.specs.Cells.{Cell, Free, Cells, held_of, area_cell, run_cell,
 use Rattle.eu_base.proofs.Places.{same_there}
 use Rattle.cell_kinds.specs.declared.packet.Packet.{Packet}
 use Rattle.cell_kinds.specs.Kinds.{packet_kinds}
-use Rattle.code_form.specs.Program.{Program}
+use Rattle.code_form.specs.Program.{Program, start_kinds}
 use Rattle.code_form.specs.Machine.{written_in, made_in, made, CanBeMade}
 use Rattle.elan_types.specs.declared.core_phrase.Core.{Core}
 use Rattle.elan_types.specs.Eval.{Slot}
+use Rattle.elan_types.specs.Command as command
 use Rattle.elan_types.specs.Command.{blanks}
 use Rattle.place_gen.specs.Correct.{StandsFor, HasVariables, HasSlots}
 use Rattle.zero_calls.proofs.Written.{at_other, behind}
-use Rattle.code_gen.specs.Program.{program_of}
+use Rattle.code_gen.specs.Correct.{Behaves}
 use Rattle.code_gen.proofs.Plays.{has_blank}
 
 module _ (area : Area) where
@@ -90,28 +91,35 @@ none = λ _. Free
 abbrev pub begun : Program → Cells
 begun p = made p none
 
-pub has_begun : (core : Core) → core.packets ≡ [] → HasSlots (program_of core) (blanks core.variables) (blanks core.inserted) (begun (program_of core))
-has_begun core alone = record {
+has_made : (p : Program) → p.packets ≡ [] → HasSlots p (blanks (start_kinds p)) (blanks p.inserted) (begun p)
+has_made p alone = record {
   command =
-      same_variables Run core.variables (blanks core.variables) own (made_in Packets (length (packet_kinds core.packets)) core.inserted own)
-      (λ x. still (cells_fit (length (packet_kinds core.packets) + length core.inserted)) x) (area_begun Run core.variables none (λ x. refl));
+      same_variables Run (start_kinds p) (blanks (start_kinds p)) own (made_in Packets (length (packet_kinds p.packets)) p.inserted own)
+      (λ x. still (cells_fit (length (packet_kinds p.packets) + length p.inserted)) x) (area_begun Run (start_kinds p) none (λ x. refl));
   packets =
-      subst (λ (ps : List Packet). HasVariables Packets (packet_kinds ps ++ core.inserted) (blanks core.inserted)
-      (made_in Packets (length (packet_kinds ps)) core.inserted own)) (sym alone)
-      (area_begun Packets core.inserted own (λ x. unmade (cells_fit (0 + length core.variables)) x));
+      subst (λ (ps : List Packet). HasVariables Packets (packet_kinds ps ++ p.inserted) (blanks p.inserted)
+      (made_in Packets (length (packet_kinds ps)) p.inserted own)) (sym alone)
+      (area_begun Packets p.inserted own (λ x. unmade (cells_fit (0 + length (start_kinds p))) x));
 }
   where
     own : Cells
-    own = made_in Run 0 core.variables none
+    own = made_in Run 0 (start_kinds p) none
 
     still : (t : Bool) (x : ℕ)
-        → cond t (written_in Packets (length (packet_kinds core.packets)) (map (λ k. held_of (blank_of k)) core.inserted) own) own (run_cell x) ≡ own (run_cell x)
-    still true x = beside_packets (map (λ k. held_of (blank_of k)) core.inserted) (length (packet_kinds core.packets)) x own
+        → cond t (written_in Packets (length (packet_kinds p.packets)) (map (λ k. held_of (blank_of k)) p.inserted) own) own (run_cell x) ≡ own (run_cell x)
+    still true x = beside_packets (map (λ k. held_of (blank_of k)) p.inserted) (length (packet_kinds p.packets)) x own
     still false x = refl
 
-    unmade : (t : Bool) (x : ℕ) → cond t (written_in Run 0 (map (λ k. held_of (blank_of k)) core.variables) none) none (packet_cell x) ≡ Free
-    unmade true x = beside_command (map (λ k. held_of (blank_of k)) core.variables) 0 x none
+    unmade : (t : Bool) (x : ℕ) → cond t (written_in Run 0 (map (λ k. held_of (blank_of k)) (start_kinds p)) none) none (packet_cell x) ≡ Free
+    unmade true x = beside_command (map (λ k. held_of (blank_of k)) (start_kinds p)) 0 x none
     unmade false x = refl
+
+-- so has the code of a command without packets
+pub has_begun : (core : Core) (p : Program) → Behaves core p → core.packets ≡ []
+    → HasSlots p (blanks (command.start_kinds core)) (blanks core.inserted) (begun p)
+has_begun core p b alone =
+    subst (λ ks. HasSlots p (blanks ks) (blanks core.inserted) (begun p)) b.first
+    (subst (λ ks. HasSlots p (blanks (start_kinds p)) (blanks ks) (begun p)) b.inserted (has_made p (b.packets ∙ alone)))
 
 -- memory holds it when the variables were made
 pub holds_begun : (p : Program) (before after : Cells → Type 0) → before none → ((cells : Cells) → before cells → CanBeMade p cells → after (made p cells))

@@ -108,7 +108,7 @@ module _ (core : Core) (typed : IsWellTyped core) (alone : core.packets ≡ []) 
   fewer_replies replies = by (evaluate core [] marks replies) comes.shows
     where
       comes : Comes (program_of core) (start (program_of core)) (scene_of (at_start core [] marks replies) first) (evaluate core [] marks replies)
-      comes = (behaves core typed).ends (at_start core [] marks replies) first (has_begun core alone)
+      comes = (behaves core typed).ends (at_start core [] marks replies) first (has_begun core (program_of core) (behaves core typed) alone)
 
       by : (e : Ending) → Shows e comes.rest → AsksOnly e (λ _. length replies + 1 ≤ marks)
       by (Ended w) h = tt

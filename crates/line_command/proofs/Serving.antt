@@ -21,7 +21,7 @@ use Rattle.zero_state.specs.Stepping.{scene_of}
 use Rattle.zero_machine.specs.Running.{RestsSo}
 use Rattle.elan_types.specs.declared.core_phrase.Core.{Core}
 use Rattle.elan_types.specs.Eval.{World}
-use Rattle.elan_types.specs.Command.{Ending, Ended, Stopped, OutOfMarks, Asks, evaluate, at_start, blanks}
+use Rattle.elan_types.specs.Command.{Ending, Ended, Stopped, OutOfMarks, Asks, evaluate, at_start, blanks, start_kinds}
 use Rattle.line_command.specs.Screen as screen
 use Rattle.line_command.specs.Screen.{Screen, Written, written_by, blank, put, final}
 use Rattle.line_command.specs.Program as text
@@ -98,7 +98,7 @@ took p w c q r cells marks more last is h =
     by (suc n, e) = (n, e)
 
 module _ (core : Core) (p : Program) (first : Cells) (control : Control) (cells : Cells) (marks : ℕ) (s : Screen)
-    (served : IsServed core p first control cells marks s) (b : Behaves core p) (has : HasSlots p (blanks core.variables) (blanks core.inserted) first) where
+    (served : IsServed core p first control cells marks s) (b : Behaves core p) (has : HasSlots p (blanks (start_kinds core)) (blanks core.inserted) first) where
   -- the evaluation with the replies so far, and the rest to which the run comes next
   pub comes : Comes p (start p) (place.scene_of (at_start core [] line_marks served.replies) first) (evaluate core [] line_marks served.replies)
   comes = b.ends (at_start core [] line_marks served.replies) first has

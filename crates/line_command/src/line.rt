@@ -1,7 +1,6 @@
 //! The command `line`.
 ghost use Rattle.std.specs.Prelude.{◌≡◌, ◌≤◌, ◌<◌, ◌^◌, [], false, length, IfErr, IfOk, MatchOption};
 ghost use Rattle.code_gen.specs.Correct.{Behaves};
-ghost use Rattle.code_gen.specs.Program.{program_of};
 ghost use Rattle.elan_types.specs.declared.core_phrase.Core.{Core};
 ghost use Rattle.elan_check.specs.Packets.{nothing};
 ghost use Rattle.packet_store.specs.Meaning.{IsCause};
@@ -51,7 +50,7 @@ pub fn run_line<S: Source, K: Sink>(alloc: Global, source: &mut S, sink: &mut K)
 
 /// What code writes that runs as a line.
 fn written(alloc: Global, code: &Code) -> Result<Bytes, NoMemory>
-    ensures { (core : Core) → core.packets ≡ [] → code.now ≡ program_of core → Behaves core code.now → IfOk result (Shows core) }
+    ensures { (core : Core) → core.packets ≡ [] → Behaves core code.now → IfOk result (Shows core) }
 {
     let mut pool = Pool::new(alloc);
     let mut memory = SpaceMemory::new(alloc);

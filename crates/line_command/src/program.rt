@@ -4,10 +4,9 @@ ghost use Rattle.eu_base.specs.Cells.{Free, Cells, HasFaultCause};
 ghost use Rattle.code_form.specs.Machine.{start};
 ghost use Rattle.code_form.specs.Valid.{Fits};
 ghost use Rattle.place_gen.specs.Correct.{HasSlots};
-ghost use Rattle.code_gen.specs.Program.{program_of};
 ghost use Rattle.code_gen.specs.Correct.{Behaves};
 ghost use Rattle.elan_types.specs.declared.core_phrase.Core.{Core};
-ghost use Rattle.elan_types.specs.Command.{blanks};
+ghost use Rattle.elan_types.specs.Command.{blanks, start_kinds};
 ghost use Rattle.line_command.specs.Program.{reply_to, Shows};
 
 use crate::screen::Screen;
@@ -22,7 +21,7 @@ const MARKS: u32 = 100_000;
 /// What a program shows with the marks of a line, run from its start, its variables in this memory, of which nothing need be known.
 pub(crate) fn run<M: Memory>(alloc: Global, code: &Code, memory: &mut M) -> Result<Bytes, MemFault>
     requires nothing { M.holds memory.old (λ _. Free) }
-    ensures shows { (core : Core) → core.packets ≡ [] → code.now ≡ program_of core → Behaves core code.now → IfOk result (Shows core) }
+    ensures shows { (core : Core) → core.packets ≡ [] → Behaves core code.now → IfOk result (Shows core) }
     ensures cause { HasFaultCause (M.faults memory.old) (M.faults memory.new) result }
 {
     let mut command = TaskRun::start(alloc, code, memory)?;
@@ -39,7 +38,7 @@ fn serve<M: Memory>(
     requires starts { command.old ≡ start code.now }
     requires fits { Fits code.now command.old }
     ensures shows { (core : Core) (first : Cells) → M.holds memory.old first → Behaves core code.now →
-        HasSlots code.now (blanks core.variables) (blanks core.inserted) first → IfOk result (Shows core) }
+        HasSlots code.now (blanks (start_kinds core)) (blanks core.inserted) first → IfOk result (Shows core) }
     ensures cause { HasFaultCause (M.faults memory.old) (M.faults memory.new) result }
 {
     let mut marks = MARKS;

@@ -12,7 +12,7 @@ use std::alloc::Global;
 
 /// Scenes of one task, each behind its name. A step stands behind `< `, and behind it its answer. A packet is compiled behind those
 /// of the task and installed: its number, and what its units show; a refused one stays away. Another text is a program: what it
-/// shows, or its listing. `release` lets a packet go that the task has last, and `fill` installs packets until one is refused: how many
+/// shows, or its listing. `start` has the number of a packet, and that of a start procedure in it. `release` lets a packet go that the task has last, and `fill` installs packets until one is refused: how many
 /// live then, and the last number.
 pub const SCENES: &str = "\
 > what a packet shows, and what its variables keep
@@ -157,6 +157,86 @@ Full
 < PACKET r: INT VAR i; put (1) END PACKET r
 3
 FEHLER : Stapelueberlauf
+> start procedures
+< PACKET o DEFINES one: INT PROC one: 1 END PROC one END PACKET o
+1
+< PACKET p: INT VAR n :: 1; PROC run: INT VAR i; TEXT VAR t; t CAT \"ab\"; FOR i UPTO n REP show (i) PER; n INCR one; put (t); IF n = 3 THEN LEAVE run FI; put (0) END PROC run; PROC show (INT CONST i): put (i) END PROC show; INT PROC count: n END PROC count; PROC deep: ROW 16383 INT VAR r; r [1] := 1 END PROC deep; PROC wide: ROW 16382 INT VAR r; r [16382] := 5; put (r [16382]) END PROC wide; PROC again: again END PROC again; PROC empty: END PROC empty END PACKET p
+2
+< start 2 0
+1 ab 0 
+< start 2 0
+1 2 ab 
+< start 2 1
+None
+< start 2 2
+None
+< start 2 3
+FEHLER : Stapelueberlauf
+< start 2 4
+5 
+< start 2 5
+FEHLER : Stapelueberlauf
+< start 2 6
+< start 2 7
+None
+< start 1 0
+None
+< start 3 0
+None
+< release
+1
+< start 2 0
+None
+> code of what is reached
+< PACKET p DEFINES go, other: PROC go: INT VAR i; help; i := 2 END PROC go; PROC help: put (1) END PROC help; PROC other: put (3); other END PROC other; INT PROC value: 4 END PROC value END PACKET p
+1
+< listing start 1 0
+0 MARK
+1 MARK
+2 CALL 18 0
+3 MARK
+4 LOCAL 0
+5 INT 2
+6 STORE INT
+7 BACK
+8 CALL 10 1
+9 END
+10 MARK
+11 MARK
+12 CALL 18 0
+13 MARK
+14 LOCAL 0
+15 INT 2
+16 STORE INT
+17 BACK
+18 MARK
+19 INT 1
+20 ASK put(INT)
+21 BACK
+22 BACK
+23 MARK
+24 JUMP 23
+25 BACK
+< listing go
+0 MARK
+1 CALL 3 1
+2 END
+3 MARK
+4 MARK
+5 CALL 11 0
+6 MARK
+7 LOCAL 0
+8 INT 2
+9 STORE INT
+10 BACK
+11 MARK
+12 INT 1
+13 ASK put(INT)
+14 BACK
+15 BACK
+16 MARK
+17 JUMP 16
+18 BACK
 ";
 
 // Why a text is refused, in the words of the types.
@@ -274,15 +354,38 @@ impl Task {
         put(out, b"\n");
     }
 
+    // The unit of a start procedure, by the numbers of its packet and in it.
+    fn starting(&self, alloc: Global, out: &mut Bytes, numbers: &str) -> Option<Unit> {
+        let (packet, number) = numbers.split_once(' ')?;
+        let packet = packet.parse::<u32>().ok()?;
+        let number = number.parse::<u16>().ok()?;
+        let unit = self
+            .library
+            .starting(alloc, self.packets.as_slice(), packet, number)
+            .ok()?;
+        if unit.is_none() {
+            put(out, b"None\n");
+        }
+        unit
+    }
+
+    // The unit of a program, or of a start procedure.
+    fn command(&self, alloc: Global, out: &mut Bytes, step: &str) -> Option<Unit> {
+        match step.strip_prefix("start ") {
+            Some(numbers) => self.starting(alloc, out, numbers),
+            None => self.compile(alloc, out, step, false),
+        }
+    }
+
     fn program<M: Memory>(&self, alloc: Global, out: &mut Bytes, text: &str, memory: &mut M) {
-        if let Some(unit) = self.compile(alloc, out, text, false) {
+        if let Some(unit) = self.command(alloc, out, text) {
             typed::run_over(alloc, out, unit.code(), "", 100_000, memory);
             unit.let_go();
         }
     }
 
     fn list(&self, alloc: Global, out: &mut Bytes, text: &str) {
-        if let Some(unit) = self.compile(alloc, out, text, false) {
+        if let Some(unit) = self.command(alloc, out, text) {
             if let Ok(listed) = listing(alloc, unit.code()) {
                 put(out, listed.as_slice());
             }

@@ -1,11 +1,13 @@
 -- Live packets, by their numbers.
-use Rattle.std.specs.Prelude.{◌≡◌, ◌≤◌, ◌⊎◌, ℕ, ◌+◌, Bool, not, List, [], ◌∷◌, ◌++◌, length, filter, find, Option, Some, None, is_some, nat_eq}
+use Rattle.std.specs.Prelude.{◌≡◌, ◌≤◌, ◌⊎◌, ℕ, ◌+◌, Bool, not, List, [], ◌∷◌, ◌++◌, length, filter, find, Option, Some, None, is_some, nat_eq, nat_lt, ◌==◌, if◌then◌else◌}
+use Rattle.std.specs.List.{list_any}
 use Rattle.elan_names.specs.declared.interface.Interface.{Interface}
 use Rattle.elan_scope.specs.declared.env.Env.{Env}
 use Rattle.elan_check.specs.Packets.{nothing, after}
 use Rattle.packet_store.specs.declared.library.Live.{Live}
 use Rattle.packet_store.specs.declared.library.TheConstants.{PACKETS, LAST_NUMBER}
 use Rattle.packet_store.specs.declared.unit.Compiled.{Compiled}
+use Rattle.packet_store.specs.Units.{start_unit}
 
 -- the live packets in the order in which they were installed, and the last number that was given
 pub record Library : Type 0 where
@@ -37,6 +39,23 @@ env_behind lib env (n ∷ ns) = env_behind lib (behind (live_as n lib) env) ns
 -- stand behind the last
 abbrev pub env_of : Library → List ℕ → Env
 env_of lib ns = env_behind lib nothing ns
+
+-- the number of a PROC of a packet among the bodies of the packets: those of the packets before stand before its own
+abbrev pub body_in : Option Live → ℕ → Option ℕ
+body_in None k = None
+body_in (Some l) k = if nat_lt (length l.unit.packets.bodies + k) (length l.unit.core.bodies) then Some (length l.unit.packets.bodies + k) else None
+
+-- of a packet that stands among those with these numbers
+abbrev pub start_number : Library → List ℕ → ℕ → ℕ → Option ℕ
+start_number lib ns packet k = if list_any (λ n. n == packet) ns then body_in (live_as packet lib) k else None
+
+abbrev pub start_unit_at : Env → ℕ → ℕ → Option ℕ → Option Compiled
+start_unit_at env packet k None = None
+start_unit_at env packet k (Some n) = start_unit env packet k n
+
+-- the unit of a start procedure, for a task with these packets
+abbrev pub started : Library → List ℕ → ℕ → ℕ → Option Compiled
+started lib ns packet k = start_unit_at (env_of lib ns) packet k (start_number lib ns packet k)
 
 -- The live packet is a packet, and behind it stand the packets before it, and it under its number in place of 0.
 abbrev pub IsLive : ℕ → Live → Type 0

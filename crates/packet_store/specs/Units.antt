@@ -1,5 +1,5 @@
--- What a text is compiled to.
-use Rattle.std.specs.Prelude.{◌≡◌, ℕ, Bool, List, [], ◌∷◌, ◌++◌, Option, Some, None, is_some}
+-- What a text, or a start procedure, is compiled to.
+use Rattle.std.specs.Prelude.{◌≡◌, ℕ, Bool, List, [], ◌∷◌, ◌++◌, Option, Some, None, is_some, option_map}
 use Rattle.elan_types.specs.Typing.{IsWellTyped}
 use Rattle.elan_names.specs.declared.interface.Interface.{Interface}
 use Rattle.elan_types.specs.declared.core_phrase.Core.{Core}
@@ -8,6 +8,9 @@ use Rattle.elan_scope.specs.declared.env.Env.{Env}
 use Rattle.elan_tree.specs.declared.tree.Tree.{Tree}
 use Rattle.elan_tree.specs.declared.tree.Tree.TheVariants as tree
 use Rattle.elan_check.specs.Packets.{IsPacket, interface}
+use Rattle.elan_check.specs.Starts.{start_at, start_core}
+use Rattle.packet_store.specs.declared.unit.Source.{Source}
+use Rattle.packet_store.specs.declared.unit.Source.TheVariants.{Text, Start}
 use Rattle.packet_store.specs.declared.unit.Compiled.{Compiled}
 use Rattle.packet_store.specs.Meaning.{Means}
 
@@ -22,12 +25,25 @@ shown_by env (tree.Packet at name exports l) = Some (interface env (tree.Packet 
 
 -- This is the unit of the text behind these packets, read as a packet or as a program.
 pub record IsUnitOf (env : Env) (packet : Bool) (text : List ℕ) (u : Compiled) : Type 0 where
-  pub text_is : u.text ≡ text
+  pub source_is : u.source ≡ Text text
   pub packets_are : u.packets ≡ env
   pub kind_is : is_some u.shown ≡ packet
   pub means : Means env packet text u.core
   pub shows : Shows env u.core u.shown
   pub typed : IsWellTyped u.core
+
+-- the unit of a start procedure behind these packets, which has this number among their bodies; none where it is no PROC that takes and
+-- delivers nothing
+abbrev pub start_unit_of : Env → ℕ → ℕ → Core → Compiled
+start_unit_of env packet number core = record { source = Start packet number; packets = env; core = core; shown = None }
+
+abbrev pub start_unit : Env → ℕ → ℕ → ℕ → Option Compiled
+start_unit env packet number n = option_map (start_unit_of env packet number) (start_at env n)
+
+-- Each unit is that of a text, or that of a start procedure.
+pub data IsUnit (u : Compiled) : Type 0 where
+  of_text : (packet : Bool) (text : List ℕ) → IsUnitOf u.packets packet text u → IsUnit u
+  of_start : (packet number n : ℕ) → start_unit u.packets packet number n ≡ Some u → IsUnit u
 
 -- A text behind a packet with this core has the packet's bodies as they were compiled, before its own, and the packet's variables under its
 -- number, behind those of the packets before it.

@@ -1,6 +1,8 @@
-//! From a text to its unit.
+//! From a text, or a start procedure, to its unit.
 
-ghost use Rattle.std.specs.Prelude.{◌≡◌, ◌<◌, ◌^◌, Bool, List, length, is_some, IfOk, IfErr};
+ghost use Rattle.std.specs.Prelude.{◌≡◌, ◌<◌, ◌^◌, Bool, List, length, IfOk, IfErr, OnOk};
+ghost use Rattle.elan_types.specs.Typing.{IsWellTyped};
+ghost use Rattle.code_gen.specs.Correct.{Behaves};
 ghost use Rattle.elan_tree.specs.declared.token.Token.{Token as Spelled};
 ghost use Rattle.elan_grammar.specs.Reads.{Reads};
 ghost use Rattle.elan_scope.specs.declared.env.Env.{Env};
@@ -8,15 +10,19 @@ ghost use Rattle.packet_store.specs.Meaning.{HasTokens, IsCause};
 ghost use Rattle.packet_store.specs.Units as spec;
 
 use crate::error::CompileError;
-use crate::unit::{Compiled, Unit};
+use crate::unit::{Compiled, Source, Unit};
+use code_form::Code;
 use code_gen::generate;
 use elan_check::{Packets, check, interface_of};
 use elan_lexer::tokens;
 use elan_names::interface::Interface;
 use elan_parser::parse;
 use elan_tree::{Token, Tree};
+use elan_types::Core;
 use eu_base::{Bytes, NoMemory, Shared};
+use reached_bodies::reached;
 use std::alloc::Global;
+use std::mem;
 
 // The tree of a text. Tokens and trees are let go by calls, so that how their parts are let go is proved in the crate of their
 // types alone.
@@ -64,18 +70,32 @@ fn compiled(
     let kept = Bytes::from(alloc, text)?;
     let core = check(alloc, tree, packets.get())?;
     Ok(Compiled {
-        text: kept,
+        source: Source::Text(kept),
         packets,
         core,
         shown,
     })
 }
 
-fn with_code(alloc: Global, compiled: Compiled) -> Result<Unit, NoMemory>
-    requires { spec.IsUnitOf compiled.packets (is_some compiled.shown) compiled.text compiled }
+// The code of a command, in which bodies that it does not reach do nothing.
+fn code_of(alloc: Global, core: &mut Core) -> Result<Code, NoMemory>
+    requires { IsWellTyped core.old }
+    ensures core { OnOk result (core.new ≡ core.old) }
+    ensures behaves { IfOk result (Behaves core.old) }
+{
+    let bodies = reached(alloc, core)?;
+    let all = mem::replace(&mut core.bodies, bodies);
+    let code = generate(alloc, core);
+    core.bodies = all;
+    code
+}
+
+fn with_code(alloc: Global, mut compiled: Compiled) -> Result<Unit, NoMemory>
+    requires unit { spec.IsUnit compiled }
+    requires typed { IsWellTyped compiled.core }
     ensures { IfOk result (λ unit. unit ≡ compiled) }
 {
-    let code = generate(alloc, &compiled.core)?;
+    let code = code_of(alloc, &mut compiled.core)?;
     Ok(Unit::of(compiled, code))
 }
 
@@ -94,4 +114,29 @@ pub fn compile_behind(
     let compiled = compiled(alloc, packets, text, &tree);
     tree.let_go();
     Ok(with_code(alloc, compiled?)?)
+}
+
+/// The unit of the PROC with this number among all bodies of packets, as the start procedure that is named so; `None` exactly where it
+/// is no PROC that takes and delivers nothing.
+pub fn start_behind(
+    alloc: Global,
+    packets: Shared<Packets>,
+    packet: u32,
+    number: u16,
+    body: usize,
+) -> Result<Option<Unit>, NoMemory>
+    ensures { IfOk result (λ unit. unit ≡ spec.start_unit packets packet number body) }
+{
+    match packets.get().start(alloc, body)? {
+        None => Ok(None),
+        Some(core) => {
+            let compiled = Compiled {
+                source: Source::Start { packet, number },
+                packets,
+                core,
+                shown: None,
+            };
+            Ok(Some(with_code(alloc, compiled)?))
+        }
+    }
 }

@@ -10,4 +10,4 @@ mod unit;
 pub use error::{CompileError, InstallError, Refusal};
 pub use law::{one_meaning, packets_stand_as_compiled};
 pub use library::{Library, Live, PACKETS};
-pub use unit::{Compiled, Unit};
+pub use unit::{Compiled, Source, Unit};

@@ -1,6 +1,7 @@
 //! The live packets.
 
-ghost use Rattle.std.specs.Prelude.{◌≡◌, ◌+◌, ◌<◌, ◌^◌, ◌↔◌, ◌++◌, ◌∷◌, [], true, Err, Some, length, option_map, is_some, IfErr, IfOk, OnErr, OnOk};
+ghost use Rattle.std.specs.List.{list_any};
+ghost use Rattle.std.specs.Prelude.{◌≡◌, ◌==◌, ◌+◌, ◌<◌, ◌^◌, ◌↔◌, ◌++◌, ◌∷◌, [], true, Err, Some, length, option_map, is_some, IfErr, IfOk, OnErr, OnOk};
 ghost use Rattle.elan_names.specs.declared.interface.Interface as interfaces;
 ghost use Rattle.elan_check.specs.Packets.{after};
 ghost use Rattle.packet_store.specs.declared.error.InstallError.TheVariants as install_errors;
@@ -8,7 +9,7 @@ ghost use Rattle.packet_store.specs.Meaning.{IsCause};
 ghost use Rattle.packet_store.specs.Units.{IsUnitOf};
 ghost use Rattle.packet_store.specs.Library as spec;
 
-use crate::compile::compile_behind;
+use crate::compile::{compile_behind, start_behind};
 use crate::error::{CompileError, InstallError};
 use crate::unit::Unit;
 use elan_check::Packets;
@@ -69,6 +70,17 @@ fn after_it(alloc: Global, unit: &Unit, number: u32) -> Result<Shared<Packets>, 
             Shared::new(alloc, after)
         }
     }
+}
+
+fn is_among(numbers: &[u32], packet: u32) -> bool
+    ensures { result ≡ list_any (λ n. n == packet) numbers.now }
+{
+    for number in numbers {
+        if *number == packet {
+            return true;
+        }
+    }
+    false
 }
 
 fn add(list: &mut Vec<Live>, live: Live) -> Result<(), NoMemory>
@@ -134,6 +146,42 @@ impl Library {
     {
         let packets = self.packets_of(alloc, of)?;
         compile_behind(alloc, packets, text, packet)
+    }
+
+    // The number of a PROC of a packet that stands among these, among all bodies of packets.
+    fn start_number(&self, of: &[u32], packet: u32, number: u16) -> Option<usize>
+        ensures { result ≡ spec.start_number self.now of.now packet number }
+    {
+        if !is_among(of, packet) {
+            return None;
+        }
+        let compiled = self.get(packet)?.unit.compiled();
+        let before = compiled.packets.get().env().bodies.len();
+        let body = before.saturating_add(usize::from(number));
+        if body < compiled.core.bodies.len() {
+            Some(body)
+        } else {
+            None
+        }
+    }
+
+    /// The unit of a start procedure, for a task with the packets with these numbers in order: of the PROC with this number, from 0,
+    /// among the PROCs, operators and refinements of a packet. `None` exactly where the packet does not stand among these, or this is no
+    /// PROC of it without parameters that delivers nothing.
+    pub fn starting(
+        &self,
+        alloc: Global,
+        of: &[u32],
+        packet: u32,
+        number: u16,
+    ) -> Result<Option<Unit>, NoMemory>
+        ensures { IfOk result (λ unit. unit ≡ spec.started self.now of.now packet number) }
+    {
+        let packets = self.packets_of(alloc, of)?;
+        match self.start_number(of, packet, number) {
+            None => Ok(None),
+            Some(body) => start_behind(alloc, packets, packet, number, body),
+        }
     }
 
     /// Installs a packet under the next number, which it gives: no number is given twice. A refusal changes nothing; the packet is

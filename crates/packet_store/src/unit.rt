@@ -1,10 +1,8 @@
-//! What a text is compiled to.
+//! What a text, or a start procedure, is compiled to.
 
 ghost use Rattle.std.specs.Prelude.{◌≡◌};
 ghost use Rattle.code_gen.specs.Correct.{Behaves};
-ghost use Rattle.code_gen.specs.Program.{program_of};
 ghost use Rattle.packet_store.specs.Units as spec;
-ghost use Rattle.std.specs.Prelude.{is_some};
 
 use code_form::Code;
 use elan_check::Packets;
@@ -13,10 +11,19 @@ use elan_types::Core;
 use eu_base::{Bytes, Shared};
 use std::marker::Model;
 
-/// A text and what it means.
+/// What is compiled.
+#[derive(Drop)]
+pub enum Source {
+    /// A text.
+    Text(Bytes),
+    /// A PROC of a packet, in which a task starts: the packet's number, and the number of the PROC among the packet's bodies, from 0.
+    Start { packet: u32, number: u16 },
+}
+
+/// A text or a start procedure, and what it means.
 #[derive(Drop)]
 pub struct Compiled {
-    pub text: Bytes,
+    pub source: Source,
     /// The packets behind which it stands.
     pub packets: Shared<Packets>,
     pub core: Core,
@@ -24,7 +31,7 @@ pub struct Compiled {
     pub shown: Option<Shared<Interface>>,
 }
 
-/// A text that has a meaning, with its code.
+/// What has a meaning, with its code.
 #[derive(Drop)]
 pub struct Unit {
     compiled: Compiled,
@@ -32,15 +39,13 @@ pub struct Unit {
 }
 
 impl Model for Unit {
-    ghost use Rattle.std.specs.Prelude.{◌≡◌, is_some};
     ghost use Rattle.code_gen.specs.Correct.{Behaves};
-    ghost use Rattle.code_gen.specs.Program.{program_of};
     ghost use Rattle.packet_store.specs.declared.unit.Compiled.{Compiled};
     ghost use Rattle.std.specs.Coded.{codes};
     ghost use Rattle.elan_names.specs.contracts.interface.Interface as interfaces;
     ghost use Rattle.elan_scope.specs.contracts.env.Env as envs;
     ghost use Rattle.elan_types.specs.contracts.core_phrase.Core as cores;
-    ghost use Rattle.packet_store.specs.Units.{IsUnitOf};
+    ghost use Rattle.packet_store.specs.Units.{IsUnit};
 
     ghost Value = { Compiled };
 
@@ -48,15 +53,13 @@ impl Model for Unit {
 
     ghost view = { λ unit. unit.compiled };
 
-    ghost invariant = { λ unit. IsUnitOf unit.compiled.packets (is_some unit.compiled.shown) unit.compiled.text unit.compiled
-        × (unit.code ≡ program_of unit.compiled.core) × Behaves unit.compiled.core unit.code };
+    ghost invariant = { λ unit. IsUnit unit.compiled × Behaves unit.compiled.core unit.code };
 }
 
 impl Unit {
-    /// The unit of what a text means, with its code.
+    /// The unit of what has this meaning, with its code.
     pub(crate) fn of(compiled: Compiled, code: Code) -> Unit
-        requires unit { spec.IsUnitOf compiled.packets (is_some compiled.shown) compiled.text compiled }
-        requires code { code ≡ program_of compiled.core }
+        requires unit { spec.IsUnit compiled }
         requires behaves { Behaves compiled.core code }
         ensures { result ≡ compiled }
     {
@@ -69,15 +72,14 @@ impl Unit {
     /// What it is compiled from and to, lent.
     pub fn compiled(&self) -> &Compiled
         ensures compiled { result.now ≡ self.now }
-        ensures unit { spec.IsUnitOf result.now.packets (is_some result.now.shown) result.now.text result.now }
+        ensures unit { spec.IsUnit result.now }
     {
         &self.compiled
     }
 
     /// Its code, lent: it does what the core does.
     pub fn code(&self) -> &Code
-        ensures code { result.now ≡ program_of self.now.core }
-        ensures behaves { Behaves self.now.core result.now }
+        ensures { Behaves self.now.core result.now }
     {
         &self.code
     }

@@ -48,7 +48,7 @@ kept_blocks : (P : List Kind) (L : Uses) (at : ℕ) (k : Use) (s : Slot) (n : Ce
 kept_blocks P L at (OfValue k) s n g = ap cell_blocks g.3 ∙ held_blocks g.0 ∙ ap slot_blocks (sym g.1)
 kept_blocks P L at (OfPlace ks) s n g = ap cell_blocks g.4 ∙ ap slot_blocks (sym g.1)
 kept_blocks P L at (OfLimit l) s n g = ap cell_blocks g.2 ∙ ap slot_blocks (sym g.0)
-kept_blocks P L at OfNothing s n g = ap cell_blocks g.1 ∙ ap slot_blocks (sym g.0)
+kept_blocks P L at OfNothing s n g = ap cell_blocks g.1 ∙ sym g.2
 
 -- the store, and the cells that keep it
 same_in : (area : Area) (P : List Kind) (L : Uses) (store : List Slot) (cells : Cells) → length L ≤ CELLS → KeepsIn area P L store cells

@@ -24,7 +24,7 @@ use Rattle.eu_base.specs.Cells.{Cell, Free, Word, Cells, held_of, IsCell, area_c
 use Rattle.eu_base.specs.Cells.{place_number, place_in}
 use Rattle.eu_base.proofs.Places.{place_back, same_there}
 use Rattle.code_form.specs.Machine.{Move, on_word, on_number, on_cell, takes, written_from, is_free, are_free}
-use Rattle.elan_types.specs.Eval.{Place, Slot, Holds, Refers, Taken, World, slots_in, slot_at, value_of, place_of}
+use Rattle.elan_types.specs.Eval.{Place, Slot, Holds, Refers, Taken, World, slot_blocks, slots_in, slot_at, value_of, place_of}
 use Rattle.place_gen.specs.Correct.{addr_of, StandsFor, Image}
 
 bits : (z : ℤ) → FitsSigned w16 z → cast_unsigned w16 z < 65536
@@ -117,7 +117,7 @@ Kept P L at (OfValue k) s n = (v : Value) × (s ≡ Holds v) × IsOf k v × (n �
 Kept P L at (OfPlace ks) s n =
     (x : Place) × (s ≡ Refers x) × StandsBefore at x.area (x.variable + length ks) × AtPlace P ks L x × (n ≡ Word (place_number (addr_of x)))
 Kept P L at (OfLimit l) s n = (s ≡ Taken) × FitsSigned w16 l × (n ≡ held_of (Int l))
-Kept P L at OfNothing s n = (s ≡ Taken) × (n ≡ Word 0)
+Kept P L at OfNothing s n = (m : ℕ) × (n ≡ Word m) × (slot_blocks s ≡ 0) × StandsFor n s
 
 -- slots have what the cells in use of an area are for, the cells hold it, and nothing is known of the others
 pub record KeepsIn (area : Area) (P : List Kind) (L : Uses) (slots : List Slot) (cells : Cells) : Type 0 where
@@ -180,7 +180,7 @@ image area P L slots cells h room x s e =
     by (OfValue k) g = subst (StandsFor (cells (area_cell area x))) (sym g.1) g.3
     by (OfPlace ks) g = subst (StandsFor (cells (area_cell area x))) (sym g.1) g.4
     by (OfLimit l) g = subst (StandsFor (cells (area_cell area x))) (sym g.0) tt
-    by OfNothing g = subst (StandsFor (cells (area_cell area x))) (sym g.0) tt
+    by OfNothing g = g.3
 
 -- what a variable holds is read out of its cell
 pub reads : (area : Area) (P : List Kind) (L : Uses) (slots : List Slot) (cells : Cells) (x : ℕ) (k : Kind) (go : Value → Move) → KeepsIn area P L slots cells

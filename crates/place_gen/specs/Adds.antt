@@ -3,7 +3,8 @@ use Rattle.std.specs.Prelude.{◌≡◌, ℕ, ◌+◌, List, [], ◌∷◌, ◌+
 use Rattle.code_form.specs.declared.operand.OperandKind.{OperandKind}
 use Rattle.code_form.specs.declared.instr.Instr.{Instr}
 use Rattle.code_form.specs.declared.instr.Instr.TheVariants.{Jump}
-use Rattle.code_form.specs.Program.{line_of, in_body}
+use Rattle.code_form.specs.Program.{line_of}
+use Rattle.code_form.specs.declared.code.Spot.{Spot}
 use Rattle.elan_types.specs.Eval.{Labelled}
 use Rattle.place_gen.specs.declared.draft.Draft.{Draft}
 use Rattle.place_gen.specs.Stretch.{Stretch, Exit, whens}
@@ -33,9 +34,9 @@ AddsExit f end old new =
 abbrev pub Restores : List OperandKind → Draft → Draft → Type 0
 Restores ks old new = (new.lines ≡ old.lines) × (new.pending ≡ ks) × (new.spot ≡ old.spot)
 
--- nothing was added, and the code of a body begins
-abbrev pub Begins : ℕ → Draft → Draft → Type 0
-Begins n old new = (new.lines ≡ old.lines) × (new.pending ≡ []) × (new.spot ≡ in_body n)
+-- nothing was added, and the code of the level or of a body begins
+abbrev pub Begins : Spot → Draft → Draft → Type 0
+Begins spot old new = (new.lines ≡ old.lines) × (new.pending ≡ []) × (new.spot ≡ spot)
 
 -- a part of a SELECT was added, with a jump to the end behind it
 abbrev pub AddsArm : Labelled Stretch → ℕ → Draft → Draft → Type 0

@@ -10,7 +10,7 @@ use Rattle.eu_base.specs.declared.address.Addr.{Addr}
 use Rattle.eu_base.specs.Cells.{Cell, Free, Word, Cells, held_of, area_cell, place_number}
 use Rattle.code_form.specs.declared.halt.Halt.{Halt}
 use Rattle.code_form.specs.declared.halt.Halt.TheVariants as halts
-use Rattle.code_form.specs.Program.{Program, kinds_in_packets}
+use Rattle.code_form.specs.Program.{Program, kinds_in_packets, start_kinds}
 use Rattle.code_form.specs.Machine.{Control, Scene, Rest, exec}
 use Rattle.elan_types.specs.Eval.{Place, Slot, Holds, Refers, Taken, World}
 use Rattle.elan_types.specs.Command.{Ending, Ended, Stopped, OutOfMarks, Asks}
@@ -37,9 +37,9 @@ pub record HasVariables (area : Area) (variables : List Kind) (slots : List Slot
   pub image : Image area slots cells
   pub beyond : (x : ℕ) → length variables ≤ x → cells (area_cell area x) ≡ Free
 
--- so it is with the variables of a command and those of packets
+-- so it is with the cells that a command has at its start, and with the variables of packets
 pub record HasSlots (p : Program) (store others : List Slot) (cells : Cells) : Type 0 where
-  pub command : HasVariables Run p.variables store cells
+  pub command : HasVariables Run (start_kinds p) store cells
   pub packets : HasVariables Packets (kinds_in_packets p) others cells
 
 abbrev pub HasAll : Program → World → Cells → Type 0

@@ -1,6 +1,6 @@
 //! Code that is being made.
 ghost use Rattle.std.specs.Prelude.{◌≡◌, ◌+◌, [], ◌∷◌, ◌++◌, false, ℕ, length, IfOk, OnOk};
-ghost use Rattle.code_form.specs.Program.{at_level, deeper};
+ghost use Rattle.code_form.specs.Program.{at_level, in_body, deeper};
 ghost use Rattle.place_gen.specs.Counted.{counted};
 ghost use Rattle.place_gen.specs.Stretch.{one};
 ghost use Rattle.place_gen.specs.Adds.{left, Adds, Begins};
@@ -44,11 +44,22 @@ impl Draft {
 
     /// Goes on with the code of the body with this number.
     pub fn begin_body(&mut self, number: usize)
-        ensures { Begins number self.old self.new }
+        ensures { Begins (in_body number) self.old self.new }
     {
         self.pending = List::new(self.alloc);
         self.spot = Spot {
             body: Some(number),
+            limits: 0,
+        };
+    }
+
+    /// Goes on with the code of the level.
+    pub fn begin_level(&mut self)
+        ensures { Begins at_level self.old self.new }
+    {
+        self.pending = List::new(self.alloc);
+        self.spot = Spot {
+            body: None,
             limits: 0,
         };
     }

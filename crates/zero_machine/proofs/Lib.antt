@@ -2,4 +2,4 @@ pub mod Finds
 pub mod Executing
 pub mod Fitting
 pub mod Running
-pub mod Starting
+pub mod Begun

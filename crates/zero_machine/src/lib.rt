@@ -3,7 +3,9 @@
 
 mod instruction;
 mod machine;
+mod starting;
 
 pub use code_form::Halt;
-pub use machine::{laws, reply, run, start};
+pub use machine::{laws, reply, run};
+pub use starting::start;
 pub use zero_state::{Stack, State};

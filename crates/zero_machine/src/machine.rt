@@ -1,26 +1,20 @@
 //! Runs of code.
-ghost use Rattle.std.specs.Prelude.{◌≡◌, ◌≤◌, ◌<◌, ◌+◌, ◌-◌, ◌^◌, min, ℕ, length, true, cond, IfOk, OnOk, IsSome, Some, None};
-ghost use Rattle.eu_base.specs.Room.{cells_fit};
-ghost use Rattle.eu_base.specs.Cells.{Cells, AreBare, HasFaultCause};
-ghost use Rattle.cell_kinds.specs.Kinds.{packet_kinds};
-ghost use Rattle.eu_base.specs.declared.stop.Stop.TheVariants as stop;
+ghost use Rattle.std.specs.Prelude.{◌≡◌, ◌≤◌, ◌<◌, ℕ, length, IfOk, OnOk, IsSome, None};
+ghost use Rattle.eu_base.specs.Cells.{Cells, HasFaultCause};
 ghost use Rattle.eu_base.specs.declared.request.Request.{Request};
 ghost use Rattle.eu_base.specs.declared.request.Reply.{Reply};
 ghost use Rattle.code_form.specs.declared.halt.Halt.TheVariants as halts;
 ghost use Rattle.code_form.specs.declared.waits.Waits.TheVariants as waits;
-ghost use Rattle.code_form.specs.Machine.{Rest, start, advance, answered, made_in, made, CanBeMade};
+ghost use Rattle.code_form.specs.Machine.{Rest, advance, answered};
 ghost use Rattle.code_form.specs.Valid.{Fits};
 ghost use Rattle.code_form.specs.Runs.{Rests, Resumes, Replies, IsOne, StaysFit, asked, steps_left};
 ghost use Rattle.zero_state.specs.Stepping.{position_of, control_of, scene_of, halt_of, due, Does};
 ghost use Rattle.zero_machine.specs.Running.{Spends, RestsSo};
 
 use crate::instruction::execute;
-use cell_kinds::{CellKinds, Packet};
 use code_form::{Code, Halt, Instr, Waits};
-use eu_base::{Area, CELLS, MemFault, Memory, Reply, Stop};
-use std::alloc::Global;
-use zero_calls::write_variables;
-use zero_state::{Next, Stack, State};
+use eu_base::{MemFault, Memory, Reply};
+use zero_state::{Next, State};
 use zero_steps::reply::take_reply;
 
 // One step, where nothing is waited for.
@@ -86,72 +80,6 @@ fn advance<M: Memory>(
         Waits::Given(_) => reply_step(code, s, m),
         Waits::Asked(_) | Waits::Refused(_) => unreachable!(),
     }
-}
-
-/// Starts a command: its variables are made, and behind those of the packets of the task those of the packet that is inserted, each where
-/// they have room; and nothing is pending. Where some have none, it stops at once.
-pub fn start<M: Memory>(alloc: Global, code: &Code, m: &mut M) -> Result<State, MemFault>
-    ensures control { IfOk result (λ s. control_of s ≡ start code.now) }
-    ensures fits { IfOk result (λ s. Fits code.now (control_of s)) }
-    ensures made { OnOk result ((cells : Cells) → M.holds m.old cells → CanBeMade code.now cells → M.holds m.new (made code.now cells)) }
-    ensures cause { HasFaultCause (M.faults m.old) (M.faults m.new) result }
-    ensures follows { M.follows m.old m.new }
-{
-    let _size = code.len();
-    let own = make_variables(alloc, m, Area::Run, 0, code.variables())?;
-    let before = cells_before(code.packets());
-    let inserted = make_variables(alloc, m, Area::Packets, before, code.inserted())?;
-    Ok(State {
-        alloc,
-        pc: 0,
-        stack: Stack::new(alloc),
-        used: code.variables().len(),
-        waits: unless_full(own && inserted),
-    })
-}
-
-// A command whose variables have no room is refused.
-fn unless_full(fits: bool) -> Waits
-    ensures { result ≡ cond fits waits.Nothing (waits.Refused stop.CellRoom) }
-{
-    if fits {
-        Waits::Nothing
-    } else {
-        Waits::Refused(Stop::CellRoom)
-    }
-}
-
-// The cells of packets. More than can be counted have no room anyway.
-fn cells_before(packets: &[Packet]) -> usize
-    ensures { result ≡ min (length (packet_kinds packets.now)) (2 ^ 64 - 1) }
-{
-    let mut cells = 0usize;
-    for packet in packets {
-        cells = cells.saturating_add(packet.variables.len());
-    }
-    cells
-}
-
-// Makes variables in the cells of an area from one on, and answers whether they have room.
-fn make_variables<M: Memory>(
-    alloc: Global,
-    m: &mut M,
-    area: Area,
-    at: usize,
-    variables: &CellKinds,
-) -> Result<bool, MemFault>
-    ensures fits { IfOk result (λ fits. fits ≡ cells_fit (at + length variables.now)) }
-    ensures made { OnOk result ((cells : Cells) → M.holds m.old cells →
-        (cells_fit (at + length variables.now) ≡ true → AreBare area at (length variables.now) cells) →
-        M.holds m.new (made_in area at variables.now cells)) }
-    ensures cause { HasFaultCause (M.faults m.old) (M.faults m.new) result }
-    ensures follows { M.follows m.old m.new }
-{
-    if at.saturating_add(variables.len()) > usize::from(CELLS) {
-        return Ok(false);
-    }
-    write_variables(alloc, m, area, at, variables.shapes())?;
-    Ok(true)
 }
 
 /// Answers the request that the machine waits for. Its instruction goes on with the reply in the next run.

@@ -13,6 +13,7 @@ new-requires c =
       packets = c.in_ok-packets.packets;
       inserted = c.in_ok-inserted.inserted;
       variables = c.in_ok-variables.variables;
+      start = c.in_ok-start.start;
       bodies = c.in_ok-bodies.bodies;
       lines = c.emit_bodies.new.out.lines;
     } in

@@ -20,7 +20,7 @@ returns-in-Ok c =
     let text = c.args.text.now in
     let core = c.in-Ok.unit.core in
     let m = c.in-Ok.ensures.unit.means in
-    shows_text text core c.written-out.result m (c.written-out.ensures core (without text core m) c.code.ensures.code c.code.ensures.behaves)
+    shows_text text core c.written-out.result m (c.written-out.ensures core (without text core m) c.code.ensures)
 
 pub returns-in-Err-Refused : goal.returns-in-Err-Refused
 returns-in-Err-Refused c =

@@ -4,7 +4,7 @@ use Rattle.code_form.specs.Runs.{asked}
 use Rattle.place_gen.specs.Correct.{HasSlots}
 use Rattle.code_gen.specs.Correct.{Behaves}
 use Rattle.elan_types.specs.declared.core_phrase.Core.{Core}
-use Rattle.elan_types.specs.Command.{blanks}
+use Rattle.elan_types.specs.Command.{blanks, start_kinds}
 use Rattle.code_form.specs.Valid.{Fits}
 use Rattle.line_command.proofs.Served.{IsServed}
 use Rattle.line_command.proofs.program.serve.Given as goal
@@ -13,7 +13,7 @@ use Rattle.line_command.proofs.program.serve.Given as goal
 abbrev pub invariant-loop-screen : goal.invariant-loop-screen
 invariant-loop-screen g l = record {
   served : (core : Core) (first : Cells) → g.M.Memory.holds l.fn.memory first → Behaves core l.code
-      → HasSlots l.code (blanks core.variables) (blanks core.inserted) first
+      → HasSlots l.code (blanks (start_kinds core)) (blanks core.inserted) first
       → (cells : Cells) × (g.M.Memory.holds l.memory cells × IsServed core l.code first l.command cells l.marks l.screen);
   free : asked l.command.waits ≡ None;
   fits : Fits l.code l.command;

@@ -1,8 +1,9 @@
-use Rattle.std.proofs.Common.{Err, refl, ap, sym, subst, ◌∙◌}
+use Rattle.std.proofs.Common.{Err, ℕ, List, refl, ap, sym, subst, ◌∙◌}
 use Rattle.std.specs.Prelude.{is_some}
 use Rattle.elan_scope.specs.declared.env.Env.{Env}
 use Rattle.elan_check.specs.Text as tree
 use Rattle.packet_store.specs.Meaning.{means, of_check}
+use Rattle.packet_store.specs.declared.unit.Source.TheVariants.{Text}
 use Rattle.packet_store.specs.Units.{Shows, shown_by}
 use Rattle.packet_store.proofs.Refusing.{handed_on, check_refuses}
 use Rattle.packet_store.proofs.ReadAs.{kind_read, shown_is}
@@ -25,7 +26,7 @@ returns-clause-unit c = λ packet ts has reads.
     let shown = c.in_ok-shown.ensures ∙ ap (λ (e : Env). shown_by e t) c.get.ensures in
     let meant = subst (λ (e : Env). tree.Means e t core) c.get-2.ensures c.in_ok-core.ensures.meaning in
     record {
-      text_is = c.in_ok-kept.ensures;
+      source_is = ap (λ (t : List ℕ). Text t) c.in_ok-kept.ensures;
       packets_are = refl;
       kind_is = ap is_some shown ∙ kind_read env packet ts t reads;
       means = means t has reads meant;

@@ -1,6 +1,6 @@
 use Rattle.std.proofs.Common.{◌≡◌, min, length, take}
 use Rattle.cell_kinds.specs.Kinds.{packet_kinds}
-use Rattle.zero_machine.proofs.machine.cells_before.Given as goal
+use Rattle.zero_machine.proofs.starting.cells_before.Given as goal
 
 -- the cells of the packets so far
 abbrev pub invariant-loop-packet : goal.invariant-loop-packet
