@@ -1,9 +1,9 @@
 -- A step from a state that fits can be made, and leads to one that fits. One induction over the instructions, so it stands in one file.
 use Rattle.std.proofs.Common.{◌≡◌, ℕ, suc, ◌+◌, ◌-◌, ◌*◌, ◌<◌, ◌≤◌, ◌%◌, List, [], ◌∷◌, ◌++◌, map, length, Option, Some, None, Bool, true, false, cond, refl, sym}
 use Rattle.std.proofs.Common.{ap, ◌∙◌, subst, arith, length-append, append_assoc, append-nil}
-use Rattle.std.specs.Prelude.{slice_get, take, drop, flat_map, Ok, Err}
+use Rattle.std.specs.Prelude.{slice_get, take, drop, flat_map, Ok, Err, ℤ, pos, negsuc, nat_le, ◌&&◌}
 use Rattle.std.specs.Ordering.{int_eq}
-use Rattle.std.proofs.lemmas.List.{length-map}
+use Rattle.std.proofs.lemmas.List.{length-map, take-map, drop-map}
 use Rattle.std.proofs.lemmas.Option.{slice_get_within}
 use Rattle.std.proofs.lemmas.Bool.{le-leb, leb-true}
 use Rattle.eu_base.specs.declared.address.Addr.{Addr}
@@ -15,17 +15,17 @@ use Rattle.eu_base.specs.declared.value.Value.{Value}
 use Rattle.eu_base.specs.declared.value.Value.TheVariants as item
 use Rattle.eu_base.specs.declared.operation.Way.{Way}
 use Rattle.eu_base.specs.declared.stop.Stop.TheVariants.{CellRoom, TextRoom}
-use Rattle.eu_base.specs.Values.{kind_of, number_of, truth_of, blank_of, number_in, truth_in}
+use Rattle.eu_base.specs.Values.{kind_of, number_of, truth_of, blank_of, number_in, truth_in, task_in}
 use Rattle.eu_base.specs.declared.shape.Shape.{Shape}
 use Rattle.eu_base.specs.declared.shape.Shape.TheVariants.{Cell as OneCell}
 use Rattle.eu_base.specs.Shapes.{cell_kinds}
 use Rattle.eu_base.specs.Room.{values_blocks, cells_fit, bytes_fit, texts_fit}
-use Rattle.eu_base.specs.Operations.{Given as GivenValue, operand_kinds, result_kind, result_of, change_kind, changed, is_past, has_reached}
+use Rattle.eu_base.specs.Operations.{Given as GivenValue, operand_kinds, result_kind, result_of, change_kind, changed, is_past, has_reached, in_row}
 use Rattle.eu_base.specs.declared.request.RequestName.{RequestName}
 use Rattle.eu_base.specs.declared.request.Request.{Request}
 use Rattle.eu_base.specs.declared.request.Reply.{Reply}
 use Rattle.eu_base.specs.declared.request.Reply.TheVariants as replies
-use Rattle.eu_base.specs.Requests.{request_kinds, request_places, request_size, request_of, reply_text, read_as}
+use Rattle.eu_base.specs.Requests.{request_kinds, request_places, request_result, request_size, request_of, reply_text, read_as, answer_of}
 use Rattle.eu_base.specs.Cells.{Cell, Free, Word, Letters, Cells, held_of, IsCell, run_cell, packet_cell, place_in, written, cell_blocks, area_blocks, blocks_in, freed}
 use Rattle.code_form.specs.declared.operand.Operand.{Operand}
 use Rattle.code_form.specs.declared.operand.Operand.TheVariants.{Value as Of, Place as At, Aggregate}
@@ -41,22 +41,17 @@ use Rattle.code_form.specs.declared.code.Spot.{Spot}
 use Rattle.code_form.specs.declared.code.Entry.{Entry}
 use Rattle.code_form.specs.declared.code.Layout.{Layout}
 use Rattle.code_form.specs.declared.code.Layout.TheVariants as layouts
-use Rattle.code_form.specs.Program.{Program, line_of, instr_of, in_body, deeper, owner, owner_in, owner_at, layout_of, cells_of, cells_in, cells_at}
-use Rattle.code_form.specs.Program.{CellUse, HoldsValue, cell_uses, frame_cells}
-use Rattle.code_form.specs.Machine.{value_in, keeps, takes_reply, asking, given, answered}
+use Rattle.code_form.specs.Program.{Program, line_of, instr_of, in_body, deeper, owner, owner_in, owner_at, layout_of, cells_of, cells_in, cells_at, CellUse, HoldsValue, cell_uses, frame_cells}
+use Rattle.code_form.specs.Machine.{value_in, keeps, settles, takes_reply, asking, given, answered}
 use Rattle.code_form.specs.Machine.{Frame, Position, free, To, Stops, Unsaid, Move, Goes, Spends, operand_of, least_bytes, operand_bytes, bytes_on, bytes_of, base_of, at}
 use Rattle.code_form.specs.Machine.{using, goes, pushes, on_value, on_all, on_place, on_values, on_operands, on_result, or_halt, on_word, on_cell, on_cells, is_free, are_free}
 use Rattle.code_form.specs.Machine.{limit_cell, held_cells, frame_contents, link_contents, written_from, enters, calls_to, call_move, refer_move}
-use Rattle.eu_base.specs.Operations.{in_row}
 use Rattle.code_form.specs.Machine.{on_item, further, next, takes, puts, written_all, takes_all, puts_all, content_blocks, is_framed, Unknown, goes, Halts, back_into, back_to, out_to, limit_to, instruction, step}
-use Rattle.code_form.specs.Valid.{Next, cell_value, cell_place, HasKinds, pushed_kinds, pushed_operands, with_result, HasResult, IsRefinement, IsCalled, IsReferred, IsFine, IsValid, FitsKind}
-use Rattle.code_form.specs.Valid.{is_ask, is_asking, request_operands}
-use Rattle.code_form.specs.Valid.{FitsKinds, MadeSo, IsMade, FitsFrames, Fits}
+use Rattle.code_form.specs.Valid.{Next, cell_value, cell_place, HasKinds, pushed_kinds, pushed_operands, with_answer, with_result, HasResult, IsRefinement, IsCalled, IsReferred, IsFine, IsValid, FitsKind}
+use Rattle.code_form.specs.Valid.{is_ask, is_asking, request_operands, FitsKinds, MadeSo, IsMade, FitsFrames, Fits}
 use Rattle.code_form.specs.Runs.{IsSafe, StaysFit}
-use Rattle.eu_base.proofs.Results.{result_gives, kind_is}
+use Rattle.eu_base.proofs.Results.{result_gives, answer_gives, kind_is}
 use Rattle.eu_base.proofs.Shapes.{kinds_of_cell}
-use Rattle.std.specs.Prelude.{ℤ, pos, negsuc, nat_le, ◌&&◌}
-use Rattle.std.proofs.lemmas.List.{take-map, drop-map}
 
 -- so many operands a request has
 pub request_many : (q : RequestName) → length (request_operands q) ≡ request_size q
@@ -397,6 +392,7 @@ module _ (p : Program) (valid : IsValid p) (pc : ℕ) (ops : List Operand) (used
     cell_safe kinds.Text Free f h = tt
     cell_safe kinds.Text (Word n) f h = tt
     cell_safe kinds.Text (Letters t) f h = h (item.Text t) refl
+    cell_safe kinds.Task x f h = word_safe x (λ n. f (item.Task (task_in n))) (λ n. h (item.Task (task_in n)) refl)
 
     cells_safe : (ks : List Kind) (a : Addr) (f : List Value → Move) → ((vs : List Value) → map kind_of vs ≡ ks → Safe (f vs)) → Safe (on_cells ks a cells f)
     cells_safe [] a f h = h [] refl
@@ -650,14 +646,23 @@ module _ (p : Program) (valid : IsValid p) (pc : ℕ) (ops : List Operand) (used
     keep_safe (k ∷ ks) (At a ∷ os) v rest r is next g = put_safe a v rest r next g
     keep_safe (k ∷ ks) (Aggregate vs ∷ os) v rest r is next g = absurd is.0
 
+    -- what a request does with its reply
+    settle_safe : (q : RequestName) (t : Reply) (o : Option Kind) → request_result q ≡ o → (os r : List Operand) (rest : List OperandKind)
+        → FitsKinds (drop (length (request_kinds q)) os) (map cell_place (request_places q) ++ []) → Next p.lines (pc + 1) (with_answer o rest) m
+        → Has r rest → Safe (settles q o t now os r cells)
+    settle_safe q t None e os r rest is next g =
+        or_safe (read_as q (reply_text t)) _ (λ v _. keep_safe (request_places q) (drop (length (request_kinds q)) os) v rest r is next g)
+    settle_safe q t (Some k) e os r rest is next g =
+        or_safe (answer_of q t) _
+        (λ v h. push_safe (Of v) (cell_value k) r rest (as_one v k (kind_is k v (answer_gives q k t e v h))) next g.0)
+
     -- a request goes on with its reply
     reply_safe : (q : RequestName) (t : Reply) (ks : List OperandKind) → IsFine p pc (Ask q) ks m → Has ops ks → Safe (takes_reply (Some (Ask q)) t now cells)
     reply_safe q t ks f k =
         taken_safe q f.0 ops _ (subst (Has ops) f.1 k) (λ os r is g.
-        or_safe (read_as q (reply_text t)) _ (λ v _.
-        keep_safe (request_places q) (drop (length (request_kinds q)) os) v f.0 r
+        settle_safe q t (request_result q) refl os r f.0
         (fits_behind (request_kinds q) (map cell_place (request_places q) ++ []) os
-        (subst (FitsKinds os) (append_assoc (map cell_value (request_kinds q)) (map cell_place (request_places q)) []) is)) f.2 g))
+        (subst (FitsKinds os) (append_assoc (map cell_value (request_kinds q)) (map cell_place (request_places q)) []) is)) f.2 g)
 
     safe : (i : Instr) (ks : List OperandKind) → slice_get p.lines pc ≡ Some (line_of i ks m) → IsFine p pc i ks m → Has ops ks
         → Safe (instruction p (Some i) now cells)
@@ -787,6 +792,8 @@ answered_fits p c q r fits = by r
     by (replies.Stopped stop) = so (Refused stop) (λ e. absurd (cc e))
     by replies.Done = so (Given replies.Done) (λ _. fits.asks refl)
     by (replies.Text t) = so (Given (replies.Text t)) (λ _. fits.asks refl)
+    by (replies.Task n) = so (Given (replies.Task n)) (λ _. fits.asks refl)
+    by (replies.Truth b) = so (Given (replies.Truth b)) (λ _. fits.asks refl)
 
 pub stays_fit : StaysFit
 stays_fit = record { steps = step_safe; replies = answered_fits; takes = takes_safe }

@@ -50,7 +50,7 @@ move_shifts rs Ends d s = λ paused. (refl, refl)
 move_shifts rs Unknown d s = tt
 move_shifts rs Stuck d s = tt
 
-stage_shifts : (p : Program) (rs : List Reply) (w : Waits) (c : Position) (s : Scene)
+pub stage_shifts : (p : Program) (rs : List Reply) (w : Waits) (c : Position) (s : Scene)
     → Shifts rs (stage_at w p c s) (record { position = c; waits = w }) s (λ n. stage_at w p c (at_marks rs n s))
 stage_shifts p rs Nothing c s = move_shifts rs (step p c s.cells) (free c) s
 stage_shifts p rs (Given r) c s = move_shifts rs (takes_reply (instr_of (slice_get p.lines c.pc)) r c s.cells) (given c r) s

@@ -9,6 +9,7 @@ use Rattle.std.proofs.lemmas.Bool.{cases_lt}
 use Rattle.eu_base.specs.declared.address.Addr.{Addr}
 use Rattle.eu_base.specs.declared.address.TheConstants.{CELLS}
 use Rattle.eu_base.specs.declared.value.Kind.{Kind}
+use Rattle.eu_base.specs.declared.request.RequestName.{RequestName}
 use Rattle.eu_base.specs.declared.stop.Stop.TheVariants.{CellRoom, TextRoom}
 use Rattle.eu_base.specs.declared.value.Kind.TheVariants as kinds
 use Rattle.eu_base.specs.Cells.{Cell, Free, Word, Letters, run_cell, packet_cell, place_in, held_of, written, cell_blocks, area_blocks, blocks_in, freed}
@@ -17,10 +18,10 @@ use Rattle.eu_base.specs.Shapes.{cell_kinds}
 use Rattle.eu_base.specs.Room.{values_blocks, cells_fit, bytes_fit, texts_fit}
 use Rattle.eu_base.specs.declared.value.Value.{Value}
 use Rattle.eu_base.specs.declared.value.Value.TheVariants as item
-use Rattle.eu_base.specs.Values.{number_of, truth_of, number_in, truth_in}
+use Rattle.eu_base.specs.Values.{number_of, truth_of, number_in, truth_in, task_in}
 use Rattle.eu_base.specs.Operations.{Given, operand_kinds, result_of, change_kind, changed, is_past, has_reached}
 use Rattle.eu_base.specs.declared.request.Reply.{Reply}
-use Rattle.eu_base.specs.Requests.{request_kinds, request_size, reply_text, read_as}
+use Rattle.eu_base.specs.Requests.{request_kinds, request_result, request_size, reply_text, read_as, answer_of}
 use Rattle.code_form.specs.declared.operand.Operand.{Operand}
 use Rattle.code_form.specs.declared.operand.Operand.TheVariants.{Value as Of, Place as At, Aggregate}
 use Rattle.code_form.specs.declared.instr.Instr.{Instr}
@@ -37,7 +38,7 @@ use Rattle.code_form.specs.Machine.{operand_of, least_bytes, bytes_on, bytes_of,
 use Rattle.eu_base.specs.Operations.{in_row}
 use Rattle.code_form.specs.Machine.{on_item, further, next, takes, puts, written_all, takes_all, puts_all, content_blocks, is_framed, back_into, Goes, Unknown, goes, Halts, are_free, limit_cell, frame_contents}
 use Rattle.code_form.specs.Machine.{link_contents, written_from, enters, calls_to, call_move, refer_move, back_to}
-use Rattle.code_form.specs.Machine.{out_to, instruction, keeps, takes_reply, step, free, given, mark_stage, move_stage, stage, advance, carry_on, exec}
+use Rattle.code_form.specs.Machine.{out_to, instruction, keeps, settles, takes_reply, step, free, given, mark_stage, move_stage, stage, advance, carry_on, exec}
 use Rattle.code_form.specs.Valid.{is_mark, IsFine, IsValid}
 use Rattle.code_form.specs.Runs.{Rests, ahead, steps_left}
 
@@ -157,6 +158,7 @@ module _ (p : Program) (valid : IsValid p) where
     near_cell f h kinds.Text Free = tt
     near_cell f h kinds.Text (Word n) = tt
     near_cell f h kinds.Text (Letters t) = h (item.Text t)
+    near_cell f h kinds.Task x = near_word (λ n. f (item.Task (task_in n))) (λ n. h (item.Task (task_in n))) x
 
     near_cells : (f : List Value → Move) → ((vs : List Value) → Near (f vs)) → (ks : List Kind) (a : Addr) → Near (on_cells ks a s.cells f)
     near_cells f h [] a = h []
@@ -330,10 +332,14 @@ module _ (p : Program) (valid : IsValid p) where
     keep_near l e is (At a ∷ os) v r = put_near l e is a v r
     keep_near l e is (Aggregate vs ∷ os) v r = tt
 
+    settle_near : (l : Line) → slice_get p.lines c.pc ≡ Some l → is_mark (Some l.instr) ≡ false → (q : RequestName) (t : Reply) (o : Option Kind)
+        → (os r : List Operand) → Near (settles q o t c os r s.cells)
+    settle_near l e is q t None os r = near_or _ (λ v. keep_near l e is (drop (length (request_kinds q)) os) v r) (read_as q (reply_text t))
+    settle_near l e is q t (Some k) os r = near_or _ (λ v. push_near l e is (Of v) r) (answer_of q t)
+
     reply_near : (l : Line) → slice_get p.lines c.pc ≡ Some l → (t : Reply) (i : Instr) → l.instr ≡ i → Near (takes_reply (Some i) t c s.cells)
     reply_near l e t (Ask q) is =
-        near_operands (request_size q) _ (λ os r. near_or _ (λ v.
-        keep_near l e (ap (λ i. is_mark (Some i)) is) (drop (length (request_kinds q)) os) v r) (read_as q (reply_text t))) [] c.ops
+        near_operands (request_size q) _ (settle_near l e (ap (λ i. is_mark (Some i)) is) q t (request_result q)) [] c.ops
     reply_near l e t _ is = tt
 
     reply_line : (t : Reply) (o : Option Line) → slice_get p.lines c.pc ≡ o → Near (takes_reply (instr_of o) t c s.cells)

@@ -8,7 +8,7 @@ use Rattle.eu_base.specs.declared.shape.Shape.TheOpen.{Shape-F, Cell, Row, Struc
 use Rattle.eu_base.specs.declared.shape.Shape.TheFolds.{fold-Shape}
 use Rattle.eu_base.specs.declared.operation.Operation.{Operation}
 use Rattle.eu_base.specs.declared.operation.Operation.TheVariants.{Plus, Negate, Add, Subtract, Multiply, Divide, Modulo, Equal, Unequal, Less, LessEqual}
-use Rattle.eu_base.specs.declared.operation.Operation.TheVariants.{Greater, GreaterEqual, Same, Different, And, Or, Not, Absolute, Minimum, Maximum, Largest, OnTexts}
+use Rattle.eu_base.specs.declared.operation.Operation.TheVariants.{Greater, GreaterEqual, Same, Different, And, Or, Not, Absolute, Minimum, Maximum, Largest, NoTask, SameTask, OtherTask, OnTexts}
 use Rattle.eu_base.specs.declared.text_operation.TextOperation.{TextOperation}
 use Rattle.eu_base.specs.declared.text_operation.TextOperation.TheVariants as texts
 use Rattle.eu_base.specs.declared.operation.Change.{Change}
@@ -33,6 +33,7 @@ abbrev pub kind_word : Kind → List ℕ
 kind_word kinds.Int = codes "INT"
 kind_word kinds.Truth = codes "BOOL"
 kind_word kinds.Text = codes "TEXT"
+kind_word kinds.Task = codes "TASK"
 
 -- with commas between
 abbrev pub listed : List (List ℕ) → List ℕ
@@ -93,7 +94,15 @@ operation_name Absolute = codes "abs"
 operation_name Minimum = codes "min"
 operation_name Maximum = codes "max"
 operation_name Largest = codes "maxint"
+operation_name NoTask = codes "TASK"
+operation_name SameTask = codes "="
+operation_name OtherTask = codes "<>"
 operation_name (OnTexts op) = text_operation_name op
+
+-- the word before it: niltask is the nil value of its type, and all else is done
+abbrev pub operation_word : Operation → List ℕ
+operation_word NoTask = codes "NIL "
+operation_word _ = codes "DO "
 
 abbrev pub change_name : Change → List ℕ
 change_name Increase = codes "INCR"
@@ -109,6 +118,17 @@ request_name requests.Line = codes "line"
 request_name requests.GetNumber = codes "get(INT)"
 request_name requests.GetText = codes "get(TEXT)"
 request_name requests.GetLine = codes "getline(TEXT)"
+request_name requests.Myself = codes "myself"
+request_name requests.Father = codes "father"
+request_name requests.FatherOf = codes "father(TASK)"
+request_name requests.Son = codes "son(TASK)"
+request_name requests.Brother = codes "brother(TASK)"
+request_name requests.Named = codes "task(TEXT)"
+request_name requests.NameOf = codes "name(TASK)"
+request_name requests.Exists = codes "exists(TASK)"
+request_name requests.EndOf = codes "end(TASK)"
+request_name requests.End = codes "end"
+request_name requests.Break = codes "break"
 
 -- where a body begins, and how many cells its frame has for its parameters and variables
 abbrev pub first_of : Option Entry → ℕ
@@ -142,7 +162,7 @@ instr_text packets bodies texts (Pick n c) = codes "PICK " ++ decimal n ++ codes
 instr_text packets bodies texts (Take m c k) = codes "TAKE " ++ decimal m ++ codes " " ++ decimal c ++ codes " " ++ decimal k
 instr_text packets bodies texts (Load s) = codes "LOAD " ++ shape_text s
 instr_text packets bodies texts (Store s) = codes "STORE " ++ shape_text s
-instr_text packets bodies texts (Do op) = codes "DO " ++ operation_name op
+instr_text packets bodies texts (Do op) = operation_word op ++ operation_name op
 instr_text packets bodies texts (Modify change) = codes "DO " ++ change_name change
 instr_text packets bodies texts (Jump a) = codes "JUMP " ++ decimal a
 instr_text packets bodies texts (False a) = codes "FALSE " ++ decimal a

@@ -15,13 +15,14 @@ use Rattle.eu_base.specs.declared.stop.Stop.TheVariants.{Index as OutsideRow, Ce
 use Rattle.eu_base.specs.declared.operation.Way.{Way}
 use Rattle.eu_base.specs.declared.request.Request.{Request}
 use Rattle.eu_base.specs.declared.request.Reply.{Reply}
+use Rattle.eu_base.specs.declared.request.RequestName.{RequestName}
 use Rattle.eu_base.specs.declared.request.Reply.TheVariants as replies
-use Rattle.eu_base.specs.Values.{number_of, truth_of, text_of, blank_of, number_in, truth_in}
+use Rattle.eu_base.specs.Values.{number_of, truth_of, text_of, blank_of, number_in, truth_in, task_in}
 use Rattle.eu_base.specs.Room.{value_bytes, values_bytes, place_bytes, values_blocks, cells_fit, bytes_fit, texts_fit}
 use Rattle.eu_base.specs.declared.shape.Shape.{Shape}
 use Rattle.eu_base.specs.Shapes.{cell_kinds}
 use Rattle.eu_base.specs.Operations.{Given, operand_kinds, result_of, change_kind, changed, is_past, has_reached, next_number, in_row}
-use Rattle.eu_base.specs.Requests.{request_kinds, request_size, request_of, reply_text, read_as}
+use Rattle.eu_base.specs.Requests.{request_kinds, request_result, request_size, request_of, reply_text, read_as, answer_of}
 use Rattle.eu_base.specs.Cells.{Cell, Free, Word, Letters, Cells, held_of, area_cell, run_cell, packet_cell, place_number, place_in, written, without, freed, cell_blocks}
 use Rattle.eu_base.specs.Cells.{AreBare, area_blocks, blocks_in}
 use Rattle.eu_base.specs.declared.address.TheConstants.{CELLS}
@@ -188,6 +189,7 @@ abbrev pub on_cell : Kind → Cell → (Value → Move) → Move
 on_cell kinds.Int cell go = on_number cell (λ z. go (item.Int z))
 on_cell kinds.Truth cell go = on_word cell (λ n. go (item.Truth (truth_in n)))
 on_cell kinds.Text cell go = on_text cell (λ t. go (item.Text t))
+on_cell kinds.Task cell go = on_word cell (λ n. go (item.Task (task_in n)))
 
 -- the place so many cells further on in its area
 abbrev pub further : Addr → ℕ → Addr
@@ -339,6 +341,7 @@ abbrev pub is_of : CellUse → Cell → Bool
 is_of (HoldsValue kinds.Int) cell = is_word cell
 is_of (HoldsValue kinds.Truth) cell = is_word cell
 is_of (HoldsValue kinds.Text) cell = is_text cell
+is_of (HoldsValue kinds.Task) cell = is_word cell
 is_of HoldsPlace cell = is_word cell
 
 -- so many of the command's cells from one on are known to hold what they are used for, and the others of them numbers
@@ -387,10 +390,16 @@ keeps c [] v ops cells = goes c ops cells
 keeps c (At a ∷ os) v ops cells = puts c a v ops cells
 keeps c _ v ops cells = Stuck
 
--- what an instruction does that made a request, with the reply: it takes its operands, its variable behind its values. No other makes one
+-- what a request does with the reply, where it took these operands: what it delivers is pushed; where it delivers nothing, its variable
+-- behind its values gets what it reads
+abbrev pub settles : RequestName → Option Kind → Reply → Position → List Operand → List Operand → Cells → Move
+settles name None r c os ops cells = or_halt (read_as name (reply_text r)) (λ v. keeps c (drop (length (request_kinds name)) os) v ops cells)
+settles name (Some k) r c os ops cells = or_halt (answer_of name r) (λ v. pushes c (Of v) ops cells)
+
+-- what an instruction does that made a request, with the reply. No other makes one
 abbrev pub takes_reply : Option Instr → Reply → Position → Cells → Move
 takes_reply (Some (Ask name)) r c cells =
-    on_operands (request_size name) [] c.ops (λ os ops. or_halt (read_as name (reply_text r)) (λ v. keeps c (drop (length (request_kinds name)) os) v ops cells))
+    on_operands (request_size name) [] c.ops (λ os ops. settles name (request_result name) r c os ops cells)
 takes_reply _ r c cells = Stuck
 
 -- the cell of the innermost limit
@@ -463,6 +472,8 @@ abbrev pub answered : Request → Reply → Position → Control
 answered q (replies.Stopped stop) c = refused c stop
 answered q replies.Done c = given c replies.Done
 answered q (replies.Text t) c = given c (replies.Text t)
+answered q (replies.Task n) c = given c (replies.Task n)
+answered q (replies.Truth b) c = given c (replies.Truth b)
 
 -- what a step leads to: a next state, rest, or nothing
 pub data Stage : Type 0 where

@@ -10,7 +10,7 @@ use Rattle.eu_base.specs.Values.{kind_of}
 use Rattle.eu_base.specs.Room.{cells_fit, bytes_fit}
 use Rattle.eu_base.specs.Operations.{operand_kinds, result_kind, change_kind}
 use Rattle.eu_base.specs.declared.request.RequestName.{RequestName}
-use Rattle.eu_base.specs.Requests.{request_kinds, request_places}
+use Rattle.eu_base.specs.Requests.{request_kinds, request_places, request_result}
 use Rattle.eu_base.specs.Cells.{IsCell}
 use Rattle.code_form.specs.declared.operand.Operand.{Operand}
 use Rattle.code_form.specs.declared.operand.Operand.TheVariants.{Place as At}
@@ -39,7 +39,7 @@ is_mark (Some Mark) = true
 is_mark _ = false
 
 abbrev pub is_ask : Option Instr → Bool
-is_ask (Some (Ask name)) = true
+is_ask (Some (Ask _)) = true
 is_ask _ = false
 
 -- and a jump from here back to it goes to a mark
@@ -66,6 +66,11 @@ pushed_operands (k ∷ more) ks = pushed_operands more (k ∷ ks)
 -- the operands of a request: values, and then places
 abbrev pub request_operands : RequestName → List OperandKind
 request_operands name = map cell_value (request_kinds name) ++ map cell_place (request_places name)
+
+-- what is pending behind a request
+abbrev pub with_answer : Option Kind → List OperandKind → List OperandKind
+with_answer None ks = ks
+with_answer (Some k) ks = cell_value k ∷ ks
 
 -- with a result, where there is one
 abbrev pub with_result : Option Shape → List OperandKind → List OperandKind
@@ -174,7 +179,8 @@ IsFine p pc (Limit way a) ks m =
 IsFine p pc Unlimit ks m = (outer : Spot) × (m ≡ deeper outer) × Next p.lines (pc + 1) ks outer
 IsFine p pc (Step way a) ks m =
     (outer : Spot) × (m ≡ deeper outer) × ((rest : List OperandKind) × (ks ≡ cell_place kinds.Int ∷ rest) × Next p.lines (pc + 1) rest m × Lands p.lines pc a rest m)
-IsFine p pc (Ask name) ks m = (rest : List OperandKind) × (ks ≡ pushed_operands (request_operands name) rest) × Next p.lines (pc + 1) rest m
+IsFine p pc (Ask name) ks m =
+    (rest : List OperandKind) × (ks ≡ pushed_operands (request_operands name) rest) × Next p.lines (pc + 1) (with_answer (request_result name) rest) m
 IsFine p pc ErrorStop ks m = (rest : List OperandKind) × (ks ≡ cell_value kinds.Text ∷ rest) × Next p.lines (pc + 1) rest m
 IsFine p pc (Call n) ks m = IsCalled p pc n ks m
 IsFine p pc (Refer n) ks m = IsReferred p pc n ks m

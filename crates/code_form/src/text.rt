@@ -1,7 +1,7 @@
 //! Code as text.
 ghost use Rattle.std.specs.Prelude.{◌≡◌, ◌++◌, IfOk, OnOk, map, flat_map, length, slice_get, codes};
 ghost use Rattle.std.specs.Fmt.{decimal, signed_decimal};
-ghost use Rattle.code_form.specs.Listing.{truth_word, kind_word, listed, shape_text, way_word, operation_name, text_operation_name, change_name, request_name, first_of, cells_of_frame, cell_in_packet, packet_text, instr_text, texts_with};
+ghost use Rattle.code_form.specs.Listing.{truth_word, kind_word, listed, shape_text, way_word, operation_word, operation_name, text_operation_name, change_name, request_name, first_of, cells_of_frame, cell_in_packet, packet_text, instr_text, texts_with};
 ghost use Rattle.code_form.specs.Listing.{line_text, listing_text};
 ghost use Rattle.code_form.specs.Program.{cell_uses, cells_of};
 
@@ -108,7 +108,7 @@ fn append_instr(
             append_shape(out, shape)
         }
         Instr::Do(operation) => {
-            out.append(b"DO ")?;
+            out.append(operation_word(*operation))?;
             out.append(operation_name(*operation))
         }
         Instr::Modify(change) => {
@@ -265,6 +265,7 @@ fn kind_word(kind: Kind) -> &'static [u8]
         Kind::Int => b"INT",
         Kind::Truth => b"BOOL",
         Kind::Text => b"TEXT",
+        Kind::Task => b"TASK",
     }
 }
 
@@ -310,6 +311,16 @@ fn way_word(way: Way) -> &'static [u8]
     }
 }
 
+// The word before the name: niltask is the nil value of its type, and all else is done.
+fn operation_word(operation: Operation) -> &'static [u8]
+    ensures { result.now ≡ operation_word operation }
+{
+    match operation {
+        Operation::NoTask => b"NIL ",
+        _ => b"DO ",
+    }
+}
+
 fn operation_name(operation: Operation) -> &'static [u8]
     ensures { result.now ≡ operation_name operation }
 {
@@ -319,8 +330,8 @@ fn operation_name(operation: Operation) -> &'static [u8]
         Operation::Multiply => b"*",
         Operation::Divide => b"DIV",
         Operation::Modulo => b"MOD",
-        Operation::Equal | Operation::Same => b"=",
-        Operation::Unequal | Operation::Different => b"<>",
+        Operation::Equal | Operation::Same | Operation::SameTask => b"=",
+        Operation::Unequal | Operation::Different | Operation::OtherTask => b"<>",
         Operation::Less => b"<",
         Operation::LessEqual => b"<=",
         Operation::Greater => b">",
@@ -332,6 +343,7 @@ fn operation_name(operation: Operation) -> &'static [u8]
         Operation::Minimum => b"min",
         Operation::Maximum => b"max",
         Operation::Largest => b"maxint",
+        Operation::NoTask => b"TASK",
         Operation::OnTexts(operation) => text_operation_name(operation),
     }
 }
@@ -380,5 +392,16 @@ fn request_name(name: RequestName) -> &'static [u8]
         RequestName::GetNumber => b"get(INT)",
         RequestName::GetText => b"get(TEXT)",
         RequestName::GetLine => b"getline(TEXT)",
+        RequestName::Myself => b"myself",
+        RequestName::Father => b"father",
+        RequestName::FatherOf => b"father(TASK)",
+        RequestName::Son => b"son(TASK)",
+        RequestName::Brother => b"brother(TASK)",
+        RequestName::Named => b"task(TEXT)",
+        RequestName::NameOf => b"name(TASK)",
+        RequestName::Exists => b"exists(TASK)",
+        RequestName::EndOf => b"end(TASK)",
+        RequestName::End => b"end",
+        RequestName::Break => b"break",
     }
 }

@@ -32,6 +32,7 @@ blank_is : (k : Kind) → IsOf k (blank_of k)
 blank_is kinds.Int = fits_in_range _ refl
 blank_is kinds.Truth = tt
 blank_is kinds.Text = omega arith
+blank_is kinds.Task = omega arith
 
 -- the cells of a value are those of the values of its cells
 cells_held : (vs : List Value) → map held_of vs ≡ held_cells (operand_of vs)

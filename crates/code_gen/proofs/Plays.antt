@@ -24,6 +24,7 @@ blank_is : (k : Kind) → IsOf k (blank_of k)
 blank_is kinds.Int = fits_in_range _ refl
 blank_is kinds.Truth = tt
 blank_is kinds.Text = omega arith
+blank_is kinds.Task = omega arith
 
 blank_each : (us : List Kind) (x : ℕ) (k : Kind) → slice_get us x ≡ Some k
     → (v : Value) × (slice_get (blanks us) x ≡ Some (Holds v)) × IsOf k v
@@ -55,7 +56,7 @@ has_blank area kinds cells blank beyond =
 -- it has from there, and with the replies that were given
 pub plays : (core : Core) (p : Program) (packets : List Slot) (cells now : Cells) (spent left : ℕ) (replies : List Reply) (c : Control) (last : Rest)
     → Behaves core p → HasAll p (at_start core packets (spent + left) replies) cells → Stands p (start p) cells spent replies c now
-    → Rests p c (record { cells = now; marks = left; replies = [] }) last → Shows (evaluate core packets (spent + left) replies) last
+    → Rests p c (record { cells = now; marks = left; replies = [] }) last → Shows p (evaluate core packets (spent + left) replies) last
 plays core p packets cells now spent left replies c last b has k h =
     let r = k.goes left [] last h in
     let r' = subst (λ rs. Rests p (start p) (record { cells = cells; marks = spent + left; replies = rs }) last) (append-[] replies) r in

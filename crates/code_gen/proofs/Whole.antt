@@ -8,7 +8,7 @@ use Rattle.eu_base.specs.declared.address.TheConstants.{CELLS}
 use Rattle.eu_base.specs.declared.stop.Stop.TheVariants.{CellRoom}
 use Rattle.eu_base.specs.declared.value.Kind.{Kind}
 use Rattle.eu_base.specs.declared.value.Kind.TheVariants as kinds
-use Rattle.eu_base.specs.declared.value.Value.TheVariants.{Int, Truth, Text}
+use Rattle.eu_base.specs.declared.value.Value.TheVariants.{Int, Truth, Text, Task}
 use Rattle.eu_base.specs.Values.{IsOf}
 use Rattle.eu_base.specs.declared.shape.Shape.{Shape}
 use Rattle.eu_base.specs.declared.value.Value.{Value}
@@ -105,6 +105,7 @@ counts P L at s n g = by g.0 g.1 g.2 g.3
     by (Int z) e f h = (word_in (held_of (Int z)), h, ap slot_blocks e, subst (StandsFor n) (sym e) h)
     by (Truth b) e f h = absurd f
     by (Text t) e f h = absurd f
+    by (Task n) e f h = absurd f
 
 -- what holds a value does so whatever other cells are for
 value_kept : (P : List Kind) (L M : Uses) (at : ℕ) (k : Option Kind) (u : Use) (s : Slot) (n : Cell) → option_map OfValue k ≡ Some u → Kept P L at u s n → Kept P M at u s n
@@ -333,7 +334,7 @@ module _ (core : Core) (typed : IsWellTyped core) where
     steps = 1;
     rest = record { how = halts.Stopped CellRoom; control = record { position = top o; waits = Refused CellRoom }; scene = scene_of w cells };
     comes = refl;
-    shows = record { how = refl; marks = refl; replies = refl; command = h.0.image; packets = h.1.image };
+    shows = record { how = refl; marks = refl; replies = refl; command = h.0.image; packets = h.1 };
   }
 
   by_room : (o : Option ℕ) → StartsSo core o → HasFirst o → (w : World) (cells : Cells) → Has o w cells → (s t : Bool)
@@ -366,5 +367,5 @@ module _ (core : Core) (typed : IsWellTyped core) where
     ends = ends;
     only = λ w cells n r h e.
         let a = ends w cells h in
-        subst (Shows (evaluate_from core w)) (one_rest p (start p) (scene_of w cells) a.rest r (a.steps, a.comes) (n, e)) a.shows;
+        subst (Shows p (evaluate_from core w)) (one_rest p (start p) (scene_of w cells) a.rest r (a.steps, a.comes) (n, e)) a.shows;
   }

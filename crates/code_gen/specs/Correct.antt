@@ -18,4 +18,4 @@ pub record Behaves (core : Core) (p : Program) : Type 0 where
   pub ends : (w : World) (cells : Cells) → HasAll p w cells → Comes p (start p) (scene_of w cells) (evaluate_from core w)
   -- and it comes to rest in no other way
   pub only : (w : World) (cells : Cells) (n : ℕ) (r : Rest) → HasAll p w cells → exec p n (start p) (scene_of w cells) ≡ Some r
-      → Shows (evaluate_from core w) r
+      → Shows p (evaluate_from core w) r

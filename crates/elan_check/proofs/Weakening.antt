@@ -318,6 +318,7 @@ module _ (few many : Outside) (packets : Before few.packets many.packets) (varia
   value_here (t.ValuePhrase::Refer p s) = only_if_stays (refer_holds p (has_shape s)) (λ x e. e)
   value_here (t.Pick a i items s) = only_if_stays (both_hold (has_holds _ a.1) (both_hold (has_holds _ i.1) (λ e. e))) (λ x e. e)
   value_here (t.Take a part s) = only_if_stays (test_holds (has_part part (cell_kinds s)) a.1 refl) (λ x e. e)
+  value_here (t.ValuePhrase::Ask name as') = only_if_stays (take_hold _ _ (request_formals name) as') (λ x e. e)
 
   actual_here : (y : Below Actual-F)
       → Stays (actual_layer few bodies home (map-Actual _ _ _ _ _ _ _ _ _ _ _ _ fst fst fst fst fst fst y))
@@ -356,7 +357,7 @@ module _ (few many : Outside) (packets : Before few.packets many.packets) (varia
   action_here (t.Count p from way (Some a) None us (Some u)) = counted p from (has_holds _ a.1) left_out (all_hold _ _ us) (has_holds _ u.1)
   action_here (t.Count p from way (Some a) (Some c) us None) = counted p from (has_holds _ a.1) (has_holds _ c.1) (all_hold _ _ us) left_out
   action_here (t.Count p from way (Some a) (Some c) us (Some u)) = counted p from (has_holds _ a.1) (has_holds _ c.1) (all_hold _ _ us) (has_holds _ u.1)
-  action_here (t.Ask name as') = take_hold _ _ (request_formals name) as'
+  action_here (t.Action::Ask name as') = both_hold (take_hold _ _ (request_formals name) as') (λ e. e)
   action_here (t.ErrorStop a) = has_holds _ a.1
   action_here (t.Action::Call p as') = call_holds p as' is_none
   action_here (t.Action::Refer p) = refer_holds p is_none

@@ -201,7 +201,8 @@ module _ (ns : List ℕ) where
     performed_placed (Predefined (Change d)) t (actual.Place x y ∷ actual.Place z w ∷ as') = here
     performed_placed (Predefined (Change d)) t (actual.Place x y ∷ actual.Value z ∷ []) = tt
     performed_placed (Predefined (Change d)) t (actual.Place x y ∷ actual.Value z ∷ a ∷ as') = here
-    performed_placed (Predefined (Request q)) t as' = tt
+    performed_placed (Predefined (Request q)) (Some t) as' = here
+    performed_placed (Predefined (Request q)) None as' = tt
     performed_placed (Predefined ErrorStop) t [] = here
     performed_placed (Predefined ErrorStop) t (actual.Place x y ∷ as') = here
     performed_placed (Predefined ErrorStop) t (actual.Value z ∷ []) = tt

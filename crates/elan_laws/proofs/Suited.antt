@@ -8,6 +8,9 @@ use Rattle.elan_types.specs.declared.core_phrase.Action.TheVariants as action
 use Rattle.elan_types.specs.declared.core_phrase.ValuePhrase.TheVariants as value
 use Rattle.eu_base.specs.declared.operation.Change.{Change as Changed}
 use Rattle.eu_base.specs.Operations.{change_kind}
+use Rattle.eu_base.specs.declared.value.Kind.{Kind}
+use Rattle.eu_base.specs.declared.request.RequestName.{RequestName}
+use Rattle.eu_base.specs.Requests.{request_result}
 use Rattle.elan_types.specs.Types.{type_in, shape_in, held_const, held_var}
 use Rattle.elan_names.specs.declared.heading.Sort.{Sort}
 use Rattle.elan_names.specs.declared.heading.What.{What}
@@ -85,6 +88,11 @@ module _ (at : ℕ) (ms : List Meant) where
       (Done (action.ErrorStop (value_of m) ∷ []), refl)
   stops (m ∷ n ∷ ks) as' f g = let e : false ≡ true = both (delivers Text m) false f in absurd cc
 
+  requests : (q : RequestName) (o : Option Kind) (as' : List Actual)
+      → (m : Meant) × (performed at (Predefined (Request q)) (option_map type_in o) as' ≡ gives m)
+  requests q None as' = (Done (action.Ask q as' ∷ []), refl)
+  requests q (Some k) as' = (Value at (type_in k) (value.Ask q as'), refl)
+
   named_suits : (r : Row) → Suits (predefined_callable r)
   named_suits r = by_name r.2
     where
@@ -92,7 +100,7 @@ module _ (at : ℕ) (ms : List Meant) where
           → (m : Meant) × (performed at (Predefined o) (result o) as' ≡ gives m)
       by_name (Operation o) as' f g = (Value at _ (value.Apply o (values_in as')), refl)
       by_name (Change c) as' f g = changes c (type_in (change_kind c)) ms as' f g
-      by_name (Request q) as' f g = (Done (action.Ask q as' ∷ []), refl)
+      by_name (Request q) as' f g = requests q (request_result q) as'
       by_name ErrorStop as' f g = stops ms as' f g
 
   rows_suit : (rs : List Row) → AllSuit (map predefined_callable rs)

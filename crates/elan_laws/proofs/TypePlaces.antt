@@ -174,7 +174,7 @@ module _ (seen : List TypeName) (rs : List Refinement) where
   written_here (type.Int a) b = ends []
   written_here (type.Bool a) b = ends []
   written_here (type.Text a) b = ends []
-  written_here (type.Task a) b = absurd cc
+  written_here (type.Task a) b = ends []
   written_here (type.Dataspace a) b = absurd cc
   written_here (type.Named n) b = name_follows n (look seen n.text)
   written_here (type.Row a size of) b =

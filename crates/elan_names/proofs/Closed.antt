@@ -1,8 +1,9 @@
 -- What is predefined has types with meaning.
-use Rattle.std.proofs.Common.{◌≡◌, Bool, false, ◌||◌, List, [], ◌∷◌, ◌++◌, map, refl, ap, ◌∙◌}
+use Rattle.std.proofs.Common.{◌≡◌, Bool, false, ◌||◌, List, [], ◌∷◌, ◌++◌, map, Some, None, refl, ap, ◌∙◌}
+use Rattle.std.specs.Prelude.{Option, option_map}
 use Rattle.eu_base.specs.declared.value.Kind.{Kind}
 use Rattle.eu_base.specs.declared.value.Kind.TheVariants as kinds
-use Rattle.eu_base.specs.Requests.{request_kinds, request_places}
+use Rattle.eu_base.specs.Requests.{request_kinds, request_places, request_result}
 use Rattle.eu_base.specs.Operations.{operand_kinds, result_kind, change_kind}
 use Rattle.elan_types.specs.Types.{type_in, held_var, values_of}
 use Rattle.elan_types.proofs.Types.{type_closed}
@@ -28,8 +29,12 @@ parameters_closed (Change c) =
 parameters_closed (Request name) = values_closed (request_kinds name) (request_places name)
 parameters_closed ErrorStop = plain_closed (kinds.Text ∷ [])
 
+answer_closed : (answer : Option Kind) → is_open_result (option_map type_in answer) ≡ false
+answer_closed None = refl
+answer_closed (Some k) = type_closed k
+
 pub result_closed : (p : Predefined) → is_open_result (result p) ≡ false
 result_closed (Operation o) = type_closed (result_kind o)
 result_closed (Change c) = refl
-result_closed (Request name) = refl
+result_closed (Request name) = answer_closed (request_result name)
 result_closed ErrorStop = refl

@@ -1,5 +1,5 @@
 -- The table of the predefined operators and procedures, requests among them.
-use Rattle.std.specs.Prelude.{ℕ, List, [], ◌∷◌, Option, Some, None, codes}
+use Rattle.std.specs.Prelude.{ℕ, List, [], ◌∷◌, Option, Some, None, option_map, codes}
 use Rattle.eu_base.specs.declared.value.Kind.TheVariants as kinds
 use Rattle.eu_base.specs.declared.operation.Operation.TheVariants as op
 use Rattle.eu_base.specs.declared.text_operation.TextOperation.{TextOperation}
@@ -7,6 +7,7 @@ use Rattle.eu_base.specs.declared.text_operation.TextOperation.TheVariants as te
 use Rattle.eu_base.specs.declared.operation.Change.TheVariants as change
 use Rattle.eu_base.specs.declared.request.RequestName.TheVariants as request
 use Rattle.eu_base.specs.Operations.{operand_kinds, result_kind, change_kind}
+use Rattle.eu_base.specs.Requests.{request_result}
 use Rattle.elan_types.specs.declared.elan_type.ElanType.{ElanType}
 use Rattle.elan_types.specs.declared.elan_type.Parameter.{Parameter}
 use Rattle.elan_types.specs.Types.{type_in, held_var, values_of, request_parameters}
@@ -30,7 +31,9 @@ predefined =
     ∷ (Operator, codes "DIV", Operation op.Divide) ∷ (Operator, codes "MOD", Operation op.Modulo)
     ∷ (Operator, codes "INCR", Change change.Increase) ∷ (Operator, codes "DECR", Change change.Decrease) ∷ (Operator, codes "CAT", Change change.Append)
     ∷ (Operator, codes "=", Operation op.Equal) ∷ (Operator, codes "=", Operation op.Same) ∷ (Operator, codes "=", on_texts texts.Equal)
+    ∷ (Operator, codes "=", Operation op.SameTask)
     ∷ (Operator, codes "<>", Operation op.Unequal) ∷ (Operator, codes "<>", Operation op.Different) ∷ (Operator, codes "<>", on_texts texts.Unequal)
+    ∷ (Operator, codes "<>", Operation op.OtherTask)
     ∷ (Operator, codes "<", Operation op.Less) ∷ (Operator, codes "<", on_texts texts.Less)
     ∷ (Operator, codes "<=", Operation op.LessEqual) ∷ (Operator, codes "<=", on_texts texts.LessEqual)
     ∷ (Operator, codes ">", Operation op.Greater) ∷ (Operator, codes ">", on_texts texts.Greater)
@@ -42,10 +45,21 @@ predefined =
     ∷ (Procedure, codes "code", on_texts texts.CodeOf) ∷ (Procedure, codes "code", on_texts texts.TextOfCode)
     ∷ (Procedure, codes "text", on_texts texts.TextOfNumber) ∷ (Procedure, codes "int", on_texts texts.NumberIn)
     ∷ (Procedure, codes "abs", Operation op.Absolute) ∷ (Procedure, codes "min", Operation op.Minimum) ∷ (Procedure, codes "max", Operation op.Maximum)
-    ∷ (Procedure, codes "maxint", Operation op.Largest) ∷ (Procedure, codes "errorstop", ErrorStop)
+    ∷ (Procedure, codes "maxint", Operation op.Largest) ∷ (Procedure, codes "niltask", Operation op.NoTask) ∷ (Procedure, codes "errorstop", ErrorStop)
     ∷ (Procedure, codes "put", Request request.PutNumber) ∷ (Procedure, codes "put", Request request.PutText)
     ∷ (Procedure, codes "write", Request request.Write) ∷ (Procedure, codes "putline", Request request.PutLine) ∷ (Procedure, codes "line", Request request.Line)
     ∷ (Procedure, codes "get", Request request.GetNumber) ∷ (Procedure, codes "get", Request request.GetText) ∷ (Procedure, codes "getline", Request request.GetLine)
+    ∷ (Procedure, codes "myself", Request request.Myself)
+    ∷ (Procedure, codes "father", Request request.Father)
+    ∷ (Procedure, codes "father", Request request.FatherOf)
+    ∷ (Procedure, codes "son", Request request.Son)
+    ∷ (Procedure, codes "brother", Request request.Brother)
+    ∷ (Procedure, codes "task", Request request.Named)
+    ∷ (Procedure, codes "name", Request request.NameOf)
+    ∷ (Procedure, codes "exists", Request request.Exists)
+    ∷ (Procedure, codes "end", Request request.EndOf)
+    ∷ (Procedure, codes "end", Request request.End)
+    ∷ (Procedure, codes "break", Request request.Break)
     ∷ []
 
 -- what each is given: operations values, a change its variable first, a request its variables last
@@ -58,4 +72,5 @@ parameters ErrorStop = values_of (kinds.Text ∷ [])
 -- the type that each delivers, or nothing
 abbrev pub result : Predefined → Option ElanType
 result (Operation o) = Some (type_in (result_kind o))
+result (Request name) = option_map type_in (request_result name)
 result _ = None

@@ -33,7 +33,7 @@ pub struct Operand {
 /// Whether it is an operator or a procedure, its name, and what it is.
 pub type Row = (Sort, &'static [u8], Predefined);
 
-const PREDEFINED: [Row; 52] = [
+const PREDEFINED: [Row; 66] = [
     (Sort::Operator, b"+", Predefined::Operation(Operation::Plus)),
     (Sort::Operator, b"+", Predefined::Operation(Operation::Add)),
     (
@@ -95,6 +95,11 @@ const PREDEFINED: [Row; 52] = [
     ),
     (
         Sort::Operator,
+        b"=",
+        Predefined::Operation(Operation::SameTask),
+    ),
+    (
+        Sort::Operator,
         b"<>",
         Predefined::Operation(Operation::Unequal),
     ),
@@ -107,6 +112,11 @@ const PREDEFINED: [Row; 52] = [
         Sort::Operator,
         b"<>",
         Predefined::Operation(Operation::OnTexts(TextOperation::Unequal)),
+    ),
+    (
+        Sort::Operator,
+        b"<>",
+        Predefined::Operation(Operation::OtherTask),
     ),
     (Sort::Operator, b"<", Predefined::Operation(Operation::Less)),
     (
@@ -225,6 +235,11 @@ const PREDEFINED: [Row; 52] = [
         b"maxint",
         Predefined::Operation(Operation::Largest),
     ),
+    (
+        Sort::Procedure,
+        b"niltask",
+        Predefined::Operation(Operation::NoTask),
+    ),
     (Sort::Procedure, b"errorstop", Predefined::ErrorStop),
     (
         Sort::Procedure,
@@ -266,6 +281,61 @@ const PREDEFINED: [Row; 52] = [
         b"getline",
         Predefined::Request(RequestName::GetLine),
     ),
+    (
+        Sort::Procedure,
+        b"myself",
+        Predefined::Request(RequestName::Myself),
+    ),
+    (
+        Sort::Procedure,
+        b"father",
+        Predefined::Request(RequestName::Father),
+    ),
+    (
+        Sort::Procedure,
+        b"father",
+        Predefined::Request(RequestName::FatherOf),
+    ),
+    (
+        Sort::Procedure,
+        b"son",
+        Predefined::Request(RequestName::Son),
+    ),
+    (
+        Sort::Procedure,
+        b"brother",
+        Predefined::Request(RequestName::Brother),
+    ),
+    (
+        Sort::Procedure,
+        b"task",
+        Predefined::Request(RequestName::Named),
+    ),
+    (
+        Sort::Procedure,
+        b"name",
+        Predefined::Request(RequestName::NameOf),
+    ),
+    (
+        Sort::Procedure,
+        b"exists",
+        Predefined::Request(RequestName::Exists),
+    ),
+    (
+        Sort::Procedure,
+        b"end",
+        Predefined::Request(RequestName::EndOf),
+    ),
+    (
+        Sort::Procedure,
+        b"end",
+        Predefined::Request(RequestName::End),
+    ),
+    (
+        Sort::Procedure,
+        b"break",
+        Predefined::Request(RequestName::Break),
+    ),
 ];
 
 /// A row for each predefined operator and procedure.
@@ -291,6 +361,11 @@ const TEXT: Operand = Operand {
     access: Access::Const,
 };
 
+const TASK: Operand = Operand {
+    kind: Kind::Task,
+    access: Access::Const,
+};
+
 const INT_VAR: Operand = Operand {
     kind: Kind::Int,
     access: Access::Var,
@@ -306,10 +381,11 @@ fn operands(operation: Operation) -> &'static [Operand]
     ensures { map seen.operand result.now ≡ values_of (operand_kinds operation) }
 {
     match operation {
-        Operation::Largest => &[],
+        Operation::Largest | Operation::NoTask => &[],
         Operation::Plus | Operation::Negate | Operation::Absolute => &[INT],
         Operation::Not => &[BOOL],
         Operation::Same | Operation::Different | Operation::And | Operation::Or => &[BOOL, BOOL],
+        Operation::SameTask | Operation::OtherTask => &[TASK, TASK],
         Operation::Add
         | Operation::Subtract
         | Operation::Multiply
@@ -354,7 +430,18 @@ fn request_operands(name: RequestName) -> &'static [Operand]
     match name {
         RequestName::PutNumber => &[INT],
         RequestName::PutText | RequestName::Write | RequestName::PutLine => &[TEXT],
-        RequestName::Line => &[],
+        RequestName::Line
+        | RequestName::Myself
+        | RequestName::Father
+        | RequestName::End
+        | RequestName::Break => &[],
+        RequestName::Named => &[TEXT],
+        RequestName::FatherOf
+        | RequestName::Son
+        | RequestName::Brother
+        | RequestName::NameOf
+        | RequestName::Exists
+        | RequestName::EndOf => &[TASK],
         RequestName::GetNumber => &[INT_VAR],
         RequestName::GetText | RequestName::GetLine => &[TEXT_VAR],
     }

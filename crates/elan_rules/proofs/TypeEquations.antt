@@ -35,7 +35,7 @@ use Rattle.elan_types.specs.declared.core_phrase.Action.TheFolds.{fold-roll-Valu
 use Rattle.elan_types.specs.Typing.{Typed, Taken, Home, Held, given_as, taken_by, scope_of, delivered_by, refines, owner, is_none, leaves_without, leaves_with}
 use Rattle.elan_types.specs.Typing.{left_from, frame_in, values_held, place_held, starts, actual_kind_step, has, has_shape, agree, only_if, have, all_agree}
 use Rattle.elan_types.specs.Typing.{Outside, all_true, place_kinds, phrase_shape, is_typed, if_true, item_kinds, has_part}
-use Rattle.elan_types.specs.Typing.{request_formals, take_all, action_typed_step, place_kinds_step, value_kind_step, arm_typed_step, value_arm_kind_step}
+use Rattle.elan_types.specs.Typing.{request_formals, request_type, take_all, action_typed_step, place_kinds_step, value_kind_step, arm_typed_step, value_arm_kind_step}
 
 -- where a phrase stands: the variables of the level, all bodies, and the body
 pub record Stand : Type 0 where
@@ -164,6 +164,10 @@ module _ (here : Stand) where
   pub take_is : (a : ValuePhrase) (part : Part) (s : Shape) → shape (value.Take a part s) ≡ only_if (has_part part (cell_kinds s) (shape a)) (Some s)
   take_is a part s = ap shape (sym (value.rolls-Take a part s)) ∙ of_value (t.Take a part s)
 
+  pub answer_is : (q : RequestName) (as' : List Actual)
+      → shape (value.Ask q as') ≡ only_if (take_all (request_formals q) (map actual_taken as')) (request_type q)
+  answer_is q as' = ap shape (sym (value.rolls-Ask q as')) ∙ of_value (t.ValuePhrase::Ask q as')
+
   pub call_is : (n : ℕ) (as' : List Actual) (s : Shape)
       → shape (value.Call n as' s)
       ≡ only_if (taken_by (scope_of (slice_get here.bodies n)) (map actual_taken as') && has_shape s (delivered_by (slice_get here.bodies n))) (Some s)
@@ -197,8 +201,9 @@ module _ (here : Stand) where
       → typed (action.Select a arms ws) ≡ (has Int (shape a) && (all_true (map arm_typed arms) && all_true (map typed ws)))
   select_is a arms ws = ap typed (sym (action.rolls-Select a arms ws)) ∙ of_action (t.Action::Select a arms ws)
 
-  pub ask_is : (q : RequestName) (as' : List Actual) → typed (action.Ask q as') ≡ take_all (request_formals q) (map actual_taken as')
-  ask_is q as' = ap typed (sym (action.rolls-Ask q as')) ∙ of_action (t.Ask q as')
+  pub ask_is : (q : RequestName) (as' : List Actual)
+      → typed (action.Ask q as') ≡ (take_all (request_formals q) (map actual_taken as') && is_none (request_type q))
+  ask_is q as' = ap typed (sym (action.rolls-Ask q as')) ∙ of_action (t.Action::Ask q as')
 
   pub error_stop_is : (a : ValuePhrase) → typed (action.ErrorStop a) ≡ has Letters (shape a)
   error_stop_is a = ap typed (sym (action.rolls-ErrorStop a)) ∙ of_action (t.ErrorStop a)

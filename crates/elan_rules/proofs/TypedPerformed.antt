@@ -19,7 +19,7 @@ use Rattle.elan_types.specs.declared.core_phrase.Scope.{Scope as Owner}
 use Rattle.elan_types.specs.declared.core_phrase.Scope.TheVariants as owner
 use Rattle.elan_types.specs.declared.core_phrase.Body.{Body}
 use Rattle.elan_types.specs.Typing.{Typed, Taken, same_access, formal, starts, only_if, have, has_shape, takes, take_all, taken_by, given_as}
-use Rattle.elan_types.specs.Typing.{result_of_content, delivered_by, scope_of, is_none}
+use Rattle.elan_types.specs.Typing.{result_of_content, delivered_by, scope_of, is_none, request_formals}
 use Rattle.elan_types.specs.Types.{shape_in, type_in, formal_of, held_var, values_of}
 use Rattle.elan_scope.specs.declared.delivery.Delivery.{Delivery}
 use Rattle.elan_scope.specs.declared.delivery.Delivery.TheVariants.{Open, Nothing, Of}
@@ -34,7 +34,8 @@ use Rattle.eu_base.specs.declared.shape.Shape.{Shape}
 use Rattle.eu_base.specs.declared.shape.Shape.TheVariants.{Cell}
 use Rattle.eu_base.specs.Shapes.{cell_kinds, same_shape}
 use Rattle.eu_base.specs.Operations.{operand_kinds, result_kind, change_kind}
-use Rattle.eu_base.specs.Requests.{request_kinds, request_places}
+use Rattle.eu_base.specs.Requests.{request_kinds, request_places, request_result}
+use Rattle.eu_base.specs.declared.request.RequestName.{RequestName}
 use Rattle.elan_names.specs.Callees.{Callee}
 use Rattle.elan_names.specs.Callees as Callees
 use Rattle.elan_names.specs.declared.predefined.Predefined.{Predefined}
@@ -46,7 +47,7 @@ use Rattle.elan_rules.proofs.Typed as ty
 use Rattle.elan_rules.proofs.Typed.{type_shape, has_self, agree_self, only_if_holds, both, and_true, Gives, on_if, on_bind}
 use Rattle.elan_meant.specs.Parts as p
 use Rattle.value_rules.specs.Calls as r
-use Rattle.elan_rules.proofs.TypeEquations.{Stand, shape, cells, actual_taken, apply_is, modify_is, ask_is, error_stop_is, call_is, action_call_is}
+use Rattle.elan_rules.proofs.TypeEquations.{Stand, shape, cells, actual_taken, apply_is, modify_is, ask_is, answer_is, error_stop_is, call_is, action_call_is}
 use Rattle.elan_rules.proofs.TypeEquations.{given_value_is, given_place_is}
 
 -- ---- bodies as their headings tell
@@ -220,6 +221,14 @@ module _ (here : Stand) where
   given_by : (fs gs : List Formal) (as' : List Actual) → fs ≡ gs → AllGiven fs as' → AllGiven gs as'
   given_by fs gs as' e h = subst (λ (hs : List Formal). AllGiven hs as') e h
 
+  request_performs : (q : RequestName) (as' : List Actual) (at : ℕ) → AllGiven (request_formals q) as' → (o : Option Kind) → request_result q ≡ o
+      → Gives Good (r.performed at (Callees.Predefined (Request q)) (option_map type_in o) as')
+  request_performs q as' at k None e =
+      ty.single_typed here (action.Ask q as') (ask_is here q as' ∙ and_true _ _ k (ap (λ (o : Option Kind). is_none (option_map Cell o)) e))
+  request_performs q as' at k (Some kind) e =
+      answer_is here q as'
+      ∙ only_if_holds _ _ _ k (ap (λ (o : Option Kind). option_map Cell o) e ∙ ap (λ (i : Shape). Some i) (sym (type_shape kind)))
+
   predefined_performs : (f : Predefined) → Performs (Callees.Predefined f) (parameters f) (result f)
   predefined_performs (Operation o) as' h at =
       let ks = operand_kinds o in
@@ -237,7 +246,7 @@ module _ (here : Stand) where
   predefined_performs (Change c) (actual.Place x t ∷ actual.Value v ∷ a ∷ as') h at = tt
   predefined_performs (Change c) (actual.Place x t ∷ actual.Place y u ∷ as') h at = tt
   predefined_performs (Request q) as' h at =
-      let k = given_by _ _ as' (all_formals (request_kinds q) (request_places q)) h in ty.single_typed here (action.Ask q as') (ask_is here q as' ∙ k)
+      request_performs q as' at (given_by _ _ as' (all_formals (request_kinds q) (request_places q)) h) (request_result q) refl
   predefined_performs ErrorStop [] h at = tt
   predefined_performs ErrorStop (actual.Place x t ∷ as') h at = tt
   predefined_performs ErrorStop (actual.Value v ∷ []) h at =

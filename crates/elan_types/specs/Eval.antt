@@ -24,7 +24,7 @@ use Rattle.eu_base.specs.Cells.{same_area}
 use Rattle.eu_base.specs.Shapes.{cell_kinds}
 use Rattle.eu_base.specs.Room.{values_bytes, value_blocks, values_blocks, place_bytes, cells_fit, bytes_fit, texts_fit}
 use Rattle.eu_base.specs.Operations.{Given, result_of, changed, is_past, has_reached, next_number, in_row}
-use Rattle.eu_base.specs.Requests.{request_kinds, request_of, reply_text, read_as}
+use Rattle.eu_base.specs.Requests.{request_kinds, request_of, reply_text, read_as, answer_of}
 use Rattle.elan_types.specs.declared.core_phrase.Exit.{Exit}
 use Rattle.elan_types.specs.declared.core_phrase.Exit.TheVariants as exits
 use Rattle.elan_types.specs.declared.core_phrase.Scope.{Scope}
@@ -92,6 +92,8 @@ abbrev pub heed : {A : Type 0} → Reply → (Reply → World → Outcome A) →
 heed (replies.Stopped s) go w = Stopped s w
 heed replies.Done go w = go replies.Done w
 heed (replies.Text t) go w = go (replies.Text t) w
+heed (replies.Task n) go w = go (replies.Task n) w
+heed (replies.Truth b) go w = go (replies.Truth b) w
 
 abbrev pub ask_at : {A : Type 0} → List Reply → Request → World → (Reply → World → Outcome A) → Outcome A
 ask_at [] q w go = Asks q w
@@ -316,6 +318,10 @@ abbrev pub request : RequestName → List Passed → World → Outcome (Unit {0}
 request name as' =
     ask (request_of name (map value_given as')) (λ r. or_stop (read_as name (reply_text r)) (keep (drop (length (request_kinds name)) as')))
 
+-- makes a request that delivers a value
+abbrev pub request_value : RequestName → List Passed → Run (List Value)
+request_value name as' n = ask (request_of name (map value_given as')) (λ r. or_stop (answer_of name r) (λ v. deliver (v ∷ []) n))
+
 -- INCR, DECR and CAT
 abbrev pub modify : {A : Type 0} → Change → Place → Value → A → World → Outcome A
 modify change x v a = load x (λ y. or_stop (changed change y v) (λ z. save x (z ∷ []) (Gives a)))
@@ -393,6 +399,7 @@ value_step (t.Pick a i items s) n w =
     bind (a n w) (λ vs w. bind (i (holding vs n) w) (λ us.
     or_outside (in_row items.count (number_of (the us))) (λ k. deliver (part_of (k * items.cells) items.cells vs) n)))
 value_step (t.Take a part s) n w = bind (a n w) (λ vs. deliver (part_of part.before part.cells vs) n)
+value_step (t.ValuePhrase::Ask name as') n w = bind (actuals as' n w) (λ xs. request_value name xs n)
 
 abbrev pub actual_step : Layer Actual-F → Run Passed
 actual_step (t.Value a) n w = bind (a n w) (λ vs. Gives (AsValue vs))
@@ -410,7 +417,7 @@ action_step (t.Action::Select a arms us) n w = bind (a n w) (λ vs. selected (nu
 action_step (t.Loop while' us until) n w = turns n.turns (turn while' (all us) until go_on n) w
 action_step (t.Count p from way limit while' us until) n w =
     bind (stored p from n w) (λ _. counted p way limit (turn while' (all us) until) n)
-action_step (t.Ask name as') n w = bind (actuals as' n w) (request name)
+action_step (t.Action::Ask name as') n w = bind (actuals as' n w) (request name)
 action_step (t.ErrorStop a) n w = bind (a n w) (λ vs. Stopped (Own (text_of (the vs))))
 action_step (t.Action::Call p as') n w = bind (actuals as' n w) (λ xs w. bind (n.calls.call p (all_slots xs) n.held w) (λ _. Gives tt))
 action_step (t.Action::Refer p) n w = bind (n.calls.refer p n.base n.held w) (λ _. Gives tt)

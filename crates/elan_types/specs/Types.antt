@@ -8,7 +8,7 @@ use Rattle.eu_base.specs.declared.request.RequestName.{RequestName}
 use Rattle.eu_base.specs.Requests.{request_kinds, request_places}
 use Rattle.elan_types.specs.declared.elan_type.ElanType.{ElanType}
 use Rattle.elan_types.specs.declared.elan_type.ElanType.TheVariants as types
-use Rattle.elan_types.specs.declared.elan_type.ElanType.TheOpen.{ElanType-F, FieldType-F, Int, Bool as Truths, Text, Row, Struct, Own, Open}
+use Rattle.elan_types.specs.declared.elan_type.ElanType.TheOpen.{ElanType-F, FieldType-F, Int, Bool as Truths, Text, Task, Row, Struct, Own, Open}
 use Rattle.elan_types.specs.declared.elan_type.ElanType.TheViews.{out-ElanType}
 use Rattle.elan_types.specs.declared.elan_type.ElanType.TheFolds.{fold-ElanType, fold-FieldType}
 use Rattle.elan_types.specs.declared.elan_type.FieldType.{FieldType}
@@ -32,6 +32,7 @@ abbrev pub same_here : ElanType-F (ElanType → Bool) (FieldType → Bool) → E
 same_here Int Int = true
 same_here Truths Truths = true
 same_here Text Text = true
+same_here Task Task = true
 same_here (Row n f) (Row m t) = n == m && f t
 same_here (Struct fs) (Struct ts) = are_same fs ts
 same_here (Own n f) (Own m t) = n == m && f t
@@ -165,6 +166,7 @@ abbrev pub shape_step : ElanType-F Shape Shape → Shape
 shape_step Int = shape.Cell kinds.Int
 shape_step Truths = shape.Cell kinds.Truth
 shape_step Text = shape.Cell kinds.Text
+shape_step Task = shape.Cell kinds.Task
 shape_step (Row n s) = shape.Row n s
 shape_step (Struct ss) = shape.Struct ss
 shape_step (Own n s) = s
@@ -184,6 +186,7 @@ abbrev pub type_in : Kind → ElanType
 type_in kinds.Int = types.Int
 type_in kinds.Truth = types.Bool
 type_in kinds.Text = types.Text
+type_in kinds.Task = types.Task
 
 -- what a core knows of a parameter
 abbrev pub formal_of : Parameter → Formal

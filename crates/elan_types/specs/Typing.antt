@@ -11,7 +11,7 @@ use Rattle.eu_base.specs.Shapes.{cell_kinds, joined, same_shape}
 use Rattle.cell_kinds.specs.Kinds.{packet_kinds}
 use Rattle.eu_base.specs.Operations.{operand_kinds, result_kind, change_kind, in_range}
 use Rattle.eu_base.specs.declared.request.RequestName.{RequestName}
-use Rattle.eu_base.specs.Requests.{request_kinds, request_places}
+use Rattle.eu_base.specs.Requests.{request_kinds, request_places, request_result}
 use Rattle.elan_types.specs.declared.core_phrase.PlacePhrase.{PlacePhrase}
 use Rattle.elan_types.specs.declared.core_phrase.Access.{Access}
 use Rattle.elan_types.specs.declared.core_phrase.Access.TheVariants.{Const, Var}
@@ -103,6 +103,10 @@ values_held _ = []
 abbrev pub place_held : Option Held → List Kind
 place_held (Some (OfPlace ks)) = ks
 place_held _ = []
+
+-- the shape of what a request delivers, if it does
+abbrev pub request_type : RequestName → Typed
+request_type name = option_map Cell (request_result name)
 
 -- a request takes values, and then variables
 abbrev pub request_formals : RequestName → List Formal
@@ -288,6 +292,7 @@ module _ (outside : Outside) (bodies : List Body) (home : Home) where
   value_kind_step (t.Pick a i items s) =
       only_if (has_shape (Row items.count s) a && (has kinds.Int i && length (cell_kinds s) == items.cells)) (Some s)
   value_kind_step (t.Take a part s) = only_if (has_part part (cell_kinds s) a) (Some s)
+  value_kind_step (t.ValuePhrase::Ask name as') = only_if (take_all (request_formals name) as') (request_type name)
 
   abbrev pub actual_kind_step : Layer Actual-F → Taken
   actual_kind_step (t.Value a) = given_as Const a
@@ -307,7 +312,7 @@ module _ (outside : Outside) (bodies : List Body) (home : Home) where
   action_typed_step (t.Count p from way limit c us u) =
       starts (kinds.Int ∷ []) p
       && (has kinds.Int from && (has_if_written kinds.Int limit && (has_if_written kinds.Truth c && (all_true us && has_if_written kinds.Truth u))))
-  action_typed_step (t.Ask name as') = take_all (request_formals name) as'
+  action_typed_step (t.Action::Ask name as') = take_all (request_formals name) as' && is_none (request_type name)
   action_typed_step (t.ErrorStop a) = has kinds.Text a
   action_typed_step (t.Action::Call p as') = taken_by (scope_of (slice_get bodies p)) as' && is_none (delivered_by (slice_get bodies p))
   action_typed_step (t.Action::Refer p) = refines (owner bodies home) (scope_of (slice_get bodies p)) && is_none (delivered_by (slice_get bodies p))

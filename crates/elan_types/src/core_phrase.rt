@@ -134,6 +134,8 @@ pub enum ValuePhrase {
     Pick(Boxed<ValuePhrase>, Boxed<ValuePhrase>, Items, Shape),
     /// The field of a structure that is a value: the structure, the part of it that the field is, and the field's shape.
     Take(Boxed<ValuePhrase>, Part, Shape),
+    /// What a request delivers, its actuals from left to right.
+    Ask(RequestName, List<Actual>),
 }
 
 /// What a parameter is given.
@@ -204,7 +206,7 @@ pub enum Action {
         units: List<Action>,
         until: Option<ValuePhrase>,
     },
-    /// A request, its actuals from left to right.
+    /// A request that delivers nothing, its actuals from left to right.
     Ask(RequestName, List<Actual>),
     /// `errorstop`: the command stops with this text.
     ErrorStop(ValuePhrase),

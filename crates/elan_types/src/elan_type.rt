@@ -20,6 +20,8 @@ pub enum ElanType {
     Bool,
     /// `TEXT`, a list of at most 16,000 bytes.
     Text,
+    /// `TASK`, the number of a task.
+    Task,
     /// `ROW size of`, so many items of one type.
     Row(u16, Shared<ElanType>),
     /// `STRUCT (fields)`, its fields in order.
@@ -58,6 +60,7 @@ impl ElanType {
             (ElanType::Int, ElanType::Int)
             | (ElanType::Bool, ElanType::Bool)
             | (ElanType::Text, ElanType::Text)
+            | (ElanType::Task, ElanType::Task)
             | (ElanType::Open, ElanType::Open) => true,
             (ElanType::Row(size, of), ElanType::Row(other, behind)) => {
                 *size == *other && of.get().is_same(behind.get())
@@ -140,6 +143,7 @@ impl ElanType {
             Kind::Int => ElanType::Int,
             Kind::Truth => ElanType::Bool,
             Kind::Text => ElanType::Text,
+            Kind::Task => ElanType::Task,
         }
     }
 
@@ -152,6 +156,7 @@ impl ElanType {
             ElanType::Int => Ok(Shape::Cell(Kind::Int)),
             ElanType::Bool => Ok(Shape::Cell(Kind::Truth)),
             ElanType::Text => Ok(Shape::Cell(Kind::Text)),
+            ElanType::Task => Ok(Shape::Cell(Kind::Task)),
             ElanType::Row(size, of) => {
                 let of = of.get().shape(alloc)?;
                 Ok(Shape::Row(*size, Boxed::new(alloc, of)?))
@@ -175,7 +180,8 @@ impl ElanType {
             ElanType::Row(size, of) => size.checked_mul(of.get().cells()?),
             ElanType::Struct(fields) => field_cells(fields.get().as_slice()),
             ElanType::Own(_, concrete) => concrete.get().cells(),
-            ElanType::Int | ElanType::Bool | ElanType::Text | ElanType::Open => Some(1),
+            ElanType::Int | ElanType::Bool | ElanType::Text | ElanType::Task | ElanType::Open =>
+                Some(1),
         }
     }
 
@@ -188,7 +194,8 @@ impl ElanType {
             ElanType::Row(_, of) => of.get().nodes()?.checked_add(1),
             ElanType::Struct(fields) => field_nodes(fields.get().as_slice())?.checked_add(1),
             ElanType::Own(_, concrete) => concrete.get().nodes(),
-            ElanType::Int | ElanType::Bool | ElanType::Text | ElanType::Open => Some(1),
+            ElanType::Int | ElanType::Bool | ElanType::Text | ElanType::Task | ElanType::Open =>
+                Some(1),
         }
     }
 
@@ -211,7 +218,8 @@ impl ElanType {
             ElanType::Row(_, of) => of.get().has_own(),
             ElanType::Struct(fields) => any_has_own(fields.get().as_slice()),
             ElanType::Own(_, _) => true,
-            ElanType::Int | ElanType::Bool | ElanType::Text | ElanType::Open => false,
+            ElanType::Int | ElanType::Bool | ElanType::Text | ElanType::Task | ElanType::Open =>
+                false,
         }
     }
 
@@ -224,6 +232,7 @@ impl ElanType {
             ElanType::Int => Ok(ElanType::Int),
             ElanType::Bool => Ok(ElanType::Bool),
             ElanType::Text => Ok(ElanType::Text),
+            ElanType::Task => Ok(ElanType::Task),
             ElanType::Row(size, of) => Ok(ElanType::Row(*size, of.share()?)),
             ElanType::Struct(fields) => Ok(ElanType::Struct(fields.share()?)),
             ElanType::Own(number, concrete) => Ok(ElanType::Own(*number, concrete.share()?)),

@@ -5,8 +5,7 @@ use Rattle.std.specs.Str.{bytes_eq}
 
 unfoldable pub names_not_built : List (List ℕ)
 names_not_built =
-    codes "niltask" ∷ codes "begin" ∷ codes "end" ∷ codes "myself" ∷ codes "father" ∷ codes "son" ∷ codes "brother" ∷ codes "task" ∷ codes "name"
-    ∷ codes "exists" ∷ codes "break" ∷ codes "nilspace" ∷ codes "type" ∷ codes "forget" ∷ codes "new" ∷ codes "old" ∷ codes "rename" ∷ codes "copy"
+    codes "begin" ∷ codes "nilspace" ∷ codes "type" ∷ codes "forget" ∷ codes "new" ∷ codes "old" ∷ codes "rename" ∷ codes "copy"
     ∷ codes "send" ∷ codes "wait" ∷ codes "call" ∷ []
 
 abbrev pub is_not_built : List ℕ → Bool

@@ -5,18 +5,8 @@ ghost use Rattle.std.specs.List.{list_any};
 ghost use Rattle.std.specs.Str.{bytes_eq};
 ghost use Rattle.elan_unbuilt.specs.Names as spec;
 
-const NOT_BUILT: [&[u8]; 21] = [
-    b"niltask",
+const NOT_BUILT: [&[u8]; 11] = [
     b"begin",
-    b"end",
-    b"myself",
-    b"father",
-    b"son",
-    b"brother",
-    b"task",
-    b"name",
-    b"exists",
-    b"break",
     b"nilspace",
     b"type",
     b"forget",

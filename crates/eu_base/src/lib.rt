@@ -27,4 +27,4 @@ pub use shape::Shape;
 pub use space::{SPACE_BYTES, Space};
 pub use stop::Stop;
 pub use text_operation::TextOperation;
-pub use value::{CELL_BYTES, Kind, OPERAND_BYTES, TEXT_BYTES, Value, number_in, truth_in};
+pub use value::{CELL_BYTES, Kind, OPERAND_BYTES, TEXT_BYTES, Value, number_in, task_in, truth_in};

@@ -68,6 +68,8 @@ move_pays Stuck d s = tt
 answered_owes : (q : Request) (r : Reply) (c : Position) → owed (answered q r c).waits ≡ 0
 answered_owes q replies.Done c = refl
 answered_owes q (replies.Text t) c = refl
+answered_owes q (replies.Task n) c = refl
+answered_owes q (replies.Truth b) c = refl
 answered_owes q (replies.Stopped stop) c = refl
 
 stage_pays : (p : Program) (w : Waits) (c : Position) (s : Scene) → Pays (s.marks + owed w) (length s.replies) (stage_at w p c s)
@@ -110,7 +112,7 @@ module _ (core : Core) (typed : IsWellTyped core) (alone : core.packets ≡ []) 
       comes : Comes (program_of core) (start (program_of core)) (scene_of (at_start core [] marks replies) first) (evaluate core [] marks replies)
       comes = (behaves core typed).ends (at_start core [] marks replies) first (has_begun core (program_of core) (behaves core typed) alone)
 
-      by : (e : Ending) → Shows e comes.rest → AsksOnly e (λ _. length replies + 1 ≤ marks)
+      by : (e : Ending) → Shows (program_of core) e comes.rest → AsksOnly e (λ _. length replies + 1 ≤ marks)
       by (Ended w) h = tt
       by (Stopped s w) h = tt
       by (OutOfMarks w) h = tt

@@ -30,29 +30,29 @@ use Rattle.line_command.proofs.Passed.{longer, passed}
 use Rattle.line_command.proofs.Served.{behind, IsServed}
 
 -- how a run came to rest tells how the evaluation stands
-shows_ended : (e : Ending) (r : Rest) → Shows e r → r.how ≡ halts.Ended → (w : World) × (e ≡ Ended w)
-shows_ended (Ended w) r h how = (w, refl)
-shows_ended (Stopped s w) r h how = absurd (cc (h.how, how))
-shows_ended (OutOfMarks w) r h how = absurd (cc (h.how, how))
-shows_ended (Asks q w) r h how = absurd (cc (h.how, how))
+shows_ended : (p : Program) (e : Ending) (r : Rest) → Shows p e r → r.how ≡ halts.Ended → (w : World) × (e ≡ Ended w)
+shows_ended p (Ended w) r h how = (w, refl)
+shows_ended p (Stopped s w) r h how = absurd (cc (h.how, how))
+shows_ended p (OutOfMarks w) r h how = absurd (cc (h.how, how))
+shows_ended p (Asks q w) r h how = absurd (cc (h.how, how))
 
-shows_marked : (e : Ending) (r : Rest) → Shows e r → r.how ≡ halts.Marked → (w : World) × (e ≡ OutOfMarks w)
-shows_marked (Ended w) r h how = absurd (cc (h.how, how))
-shows_marked (Stopped s w) r h how = absurd (cc (h.how, how))
-shows_marked (OutOfMarks w) r h how = (w, refl)
-shows_marked (Asks q w) r h how = absurd (cc (h.how, how))
+shows_marked : (p : Program) (e : Ending) (r : Rest) → Shows p e r → r.how ≡ halts.Marked → (w : World) × (e ≡ OutOfMarks w)
+shows_marked p (Ended w) r h how = absurd (cc (h.how, how))
+shows_marked p (Stopped s w) r h how = absurd (cc (h.how, how))
+shows_marked p (OutOfMarks w) r h how = (w, refl)
+shows_marked p (Asks q w) r h how = absurd (cc (h.how, how))
 
-shows_stopped : (s : Stop) (e : Ending) (r : Rest) → Shows e r → r.how ≡ halts.Stopped s → (w : World) × (e ≡ Stopped s w)
-shows_stopped s (Ended w) r h how = absurd (cc (h.how, how))
-shows_stopped s (Stopped s' w) r h how = let same : s' ≡ s = cc (h.how, how) in (w, ap (λ t. Stopped t w) same)
-shows_stopped s (OutOfMarks w) r h how = absurd (cc (h.how, how))
-shows_stopped s (Asks q w) r h how = absurd (cc (h.how, how))
+shows_stopped : (p : Program) (s : Stop) (e : Ending) (r : Rest) → Shows p e r → r.how ≡ halts.Stopped s → (w : World) × (e ≡ Stopped s w)
+shows_stopped p s (Ended w) r h how = absurd (cc (h.how, how))
+shows_stopped p s (Stopped s' w) r h how = let same : s' ≡ s = cc (h.how, how) in (w, ap (λ t. Stopped t w) same)
+shows_stopped p s (OutOfMarks w) r h how = absurd (cc (h.how, how))
+shows_stopped p s (Asks q w) r h how = absurd (cc (h.how, how))
 
-shows_asks : (q : Request) (e : Ending) (r : Rest) → Shows e r → r.how ≡ halts.Asks q → (w : World) × (e ≡ Asks q w)
-shows_asks q (Ended w) r h how = absurd (cc (h.how, how))
-shows_asks q (Stopped s w) r h how = absurd (cc (h.how, how))
-shows_asks q (OutOfMarks w) r h how = absurd (cc (h.how, how))
-shows_asks q (Asks q' w) r h how = let same : q' ≡ q = cc (h.how, how) in (w, ap (λ t. Asks t w) same)
+shows_asks : (p : Program) (q : Request) (e : Ending) (r : Rest) → Shows p e r → r.how ≡ halts.Asks q → (w : World) × (e ≡ Asks q w)
+shows_asks p q (Ended w) r h how = absurd (cc (h.how, how))
+shows_asks p q (Stopped s w) r h how = absurd (cc (h.how, how))
+shows_asks p q (OutOfMarks w) r h how = absurd (cc (h.how, how))
+shows_asks p q (Asks q' w) r h how = let same : q' ≡ q = cc (h.how, how) in (w, ap (λ t. Asks t w) same)
 
 -- one after another
 put_all-append : (s : Screen) (ws more : List Written) → screen.put_all s (ws ++ more) ≡ screen.put_all (screen.put_all s ws) more
@@ -71,6 +71,8 @@ start_free p = by (have_room p)
 pub answered_free : (q : Request) (r : Reply) (c : Position) → asked (answered q r c).waits ≡ None
 answered_free q replies.Done c = refl
 answered_free q (replies.Text t) c = refl
+answered_free q (replies.Task n) c = refl
+answered_free q (replies.Truth b) c = refl
 answered_free q (replies.Stopped stop) c = refl
 
 -- at the start nothing was answered
@@ -139,17 +141,17 @@ module _ (core : Core) (p : Program) (first : Cells) (control : Control) (cells 
 
     pub served_ended : h ≡ halts.Ended → (out : List ℕ) → out ≡ final s None → text.Shows core out
     served_ended is out out_is =
-        let e = shows_ended (evaluate core [] line_marks served.replies) next comes.shows (how ∙ is) in
+        let e = shows_ended p (evaluate core [] line_marks served.replies) next comes.shows (how ∙ is) in
         whole (Ended e.0) None out e.1 (λ more. refl) out_is
 
     pub served_stopped : (stop : Stop) → h ≡ halts.Stopped stop → (out : List ℕ) → out ≡ final s (Some stop) → text.Shows core out
     served_stopped stop is out out_is =
-        let e = shows_stopped stop (evaluate core [] line_marks served.replies) next comes.shows (how ∙ is) in
+        let e = shows_stopped p stop (evaluate core [] line_marks served.replies) next comes.shows (how ∙ is) in
         whole (Stopped stop e.0) (Some stop) out e.1 (λ more. refl) out_is
 
     pub served_marked : h ≡ halts.Marked → (out : List ℕ) → out ≡ final s (Some LineMarks) → text.Shows core out
     served_marked is out out_is =
-        let e = shows_marked (evaluate core [] line_marks served.replies) next comes.shows (how ∙ is) in
+        let e = shows_marked p (evaluate core [] line_marks served.replies) next comes.shows (how ∙ is) in
         whole (OutOfMarks e.0) (Some LineMarks) out e.1 (λ more. refl) out_is
 
     -- and one at a request, which is answered
@@ -174,7 +176,7 @@ module _ (core : Core) (p : Program) (first : Cells) (control : Control) (cells 
           shown = put_is ∙ (ap (λ x. screen.put_all x (written_by q)) served.shown ∙ sym (put_all-append blank served.written (written_by q)));
           paid = omega (arith, longer_by, served.paid, less);
           so_far =
-              let e = shows_asks q (evaluate core [] line_marks served.replies) next comes.shows (how ∙ is) in
+              let e = shows_asks p q (evaluate core [] line_marks served.replies) next comes.shows (how ∙ is) in
               let n : ℕ = line_marks + 1 - length (served.replies ++ reply ∷ []) in
               let more : Reply → Output = λ r. output_in n core line_marks (served.replies ++ r ∷ []) in
               let one_more : line_marks + 1 - length served.replies ≡ suc n = omega (arith, longer_by, served.paid, less) in

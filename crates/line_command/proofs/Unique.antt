@@ -3,8 +3,7 @@ use Rattle.std.proofs.Common.{◌≡◌, ℕ, List, refl, sym, ap, subst, ◌∙
 use Rattle.elan_types.specs.declared.core_phrase.Core.{Core}
 use Rattle.packet_store.specs.declared.error.Refusal.{Refusal}
 use Rattle.line_command.specs.Program.{Shows}
-use Rattle.line_command.specs.Refusal.{refusal_line}
-use Rattle.line_command.specs.Meaning.{Means, IsRefused, TextWrites, runs, refused}
+use Rattle.line_command.specs.Meaning.{Means, IsRefused, TextWrites, runs, refused, refusal_line}
 use Rattle.line_command.specs.Line.{LineWrites, program, too_long}
 
 one_screen : (core : Core) {a b : List ℕ} → Shows core a → Shows core b → a ≡ b

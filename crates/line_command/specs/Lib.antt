@@ -1,5 +1,4 @@
 pub mod Screen
-pub mod Refusal
 pub mod Program
 pub mod Meaning
 pub mod Line

@@ -1,10 +1,10 @@
 -- What the text of a program means, why it is refused, and what it writes.
-use Rattle.std.specs.Prelude.{ℕ, false, List}
+use Rattle.std.specs.Prelude.{ℕ, false, List, ◌++◌, codes}
 use Rattle.elan_types.specs.declared.core_phrase.Core.{Core}
 use Rattle.elan_check.specs.Packets.{nothing}
 use Rattle.packet_store.specs.declared.error.Refusal.{Refusal}
 use Rattle.packet_store.specs.Meaning as behind
-use Rattle.line_command.specs.Refusal.{refusal_line}
+use Rattle.refusals.specs.Refusals.{refusal_text}
 use Rattle.line_command.specs.Program.{Shows}
 
 -- The text, which stands behind no packets, has this meaning as a program.
@@ -14,6 +14,10 @@ Means text core = behind.Means nothing false text core
 -- The text is refused so.
 abbrev pub IsRefused : List ℕ → Refusal → Type 0
 IsRefused text r = behind.IsRefused nothing false text r
+
+-- the line that refuses a text
+abbrev pub refusal_line : Refusal → List ℕ → List ℕ
+refusal_line r text = refusal_text r text ++ codes "\n"
 
 -- what the text of a program writes
 pub data TextWrites (text : List ℕ) : List ℕ → Type 0 where

@@ -3,7 +3,7 @@ use Rattle.std.specs.Prelude.{◌≡◌, ℕ, zero, suc, ◌+◌, List, [], ◌�
 use Rattle.eu_base.specs.declared.stop.Stop.{Stop}
 use Rattle.eu_base.specs.declared.stop.Stop.TheVariants.{OnlySession, LineMarks}
 use Rattle.eu_base.specs.declared.request.Request.{Request}
-use Rattle.eu_base.specs.declared.request.Request.TheVariants.{Out, Input}
+use Rattle.eu_base.specs.declared.request.Request.TheVariants.{Out}
 use Rattle.eu_base.specs.declared.request.Reply.{Reply}
 use Rattle.eu_base.specs.declared.request.Reply.TheVariants.{Done}
 use Rattle.eu_base.specs.declared.request.Reply.TheVariants as replies
@@ -28,10 +28,10 @@ ends stop = record { written = []; stop = stop }
 abbrev pub writes_before : Request → Output → Output
 writes_before q after = record { written = written_by q ++ after.written; stop = after.stop }
 
--- what is replied: it was written; and a line can be typed in a session alone
+-- what is replied: it was written; and all else that is asked for is there in a session alone
 abbrev pub reply_to : Request → Reply
 reply_to (Out bytes ends) = Done
-reply_to Input = replies.Stopped OnlySession
+reply_to _ = replies.Stopped OnlySession
 
 -- what is written where the evaluation stands so; after a request, what is written once it is answered
 abbrev pub output_at : Ending → (Reply → Output) → Output

@@ -3,7 +3,7 @@ use Rattle.std.specs.Prelude.{ℕ, Bool, true, false, ◌||◌, List, [], ◌∷
 use Rattle.std.specs.Fmt.{decimal}
 use Rattle.eu_base.specs.declared.stop.Stop.{Stop}
 use Rattle.eu_base.specs.declared.request.Request.{Request}
-use Rattle.eu_base.specs.declared.request.Request.TheVariants.{Out, Input}
+use Rattle.eu_base.specs.declared.request.Request.TheVariants.{Out}
 use Rattle.eu_base.specs.Stops.{stop_text}
 
 -- bytes to write, and whether they end a line
@@ -39,7 +39,7 @@ put s w = if w.ends
 -- what a request asks to write
 abbrev pub written_by : Request → List Written
 written_by (Out bytes ends) = record { bytes = bytes; ends = ends } ∷ []
-written_by Input = []
+written_by _ = []
 
 -- one after another
 abbrev pub put_all : Screen → List Written → Screen

@@ -4,7 +4,6 @@
 mod law;
 mod line;
 mod program;
-mod refusal;
 mod screen;
 mod status;
 mod stream;

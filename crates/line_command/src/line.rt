@@ -7,18 +7,18 @@ ghost use Rattle.packet_store.specs.Meaning.{IsCause};
 ghost use Rattle.packet_store.specs.Units.{IsUnitOf};
 ghost use Rattle.line_command.specs.Program.{Shows};
 ghost use Rattle.eu_base.specs.Faults.{Rose};
-ghost use Rattle.line_command.specs.Meaning.{TextWrites};
+ghost use Rattle.line_command.specs.Meaning.{TextWrites, refusal_line};
 ghost use Rattle.line_command.specs.Answer.{LineAnswers, HasCause};
 
 use crate::program::run;
-use crate::refusal::refusal_line;
 use crate::status::Status;
 use crate::stream::{Line, read_line};
 use code_form::Code;
 use edge::{Sink, Source, put_all};
 use eu_base::{Bytes, MemFault, NoMemory};
-use packet_store::{CompileError, Library, Unit};
+use packet_store::{CompileError, Library, Refusal, Unit};
 use page_pool::Pool;
+use refusals::refusal_text;
 use space_memory::SpaceMemory;
 use std::alloc::Global;
 
@@ -73,6 +73,16 @@ fn unit_of(alloc: Global, text: &[u8]) -> Result<Unit, CompileError>
     let unit = library.compile(alloc, &[], text, false);
     library.let_go();
     unit
+}
+
+/// The line that refuses a text.
+fn refusal_line(alloc: Global, refusal: Refusal, text: &[u8]) -> Result<Bytes, NoMemory>
+    requires { length text.now < 2 ^ 32 }
+    ensures { IfOk result (λ line. line ≡ refusal_line refusal text.now) }
+{
+    let mut line = refusal_text(alloc, refusal, text)?;
+    line.append(b"\n")?;
+    Ok(line)
 }
 
 /// What the text of a program writes.

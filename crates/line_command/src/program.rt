@@ -56,12 +56,12 @@ fn serve<M: Memory>(
     }
 }
 
-/// What is replied: it was written; and a line can be typed in a session alone.
+/// What is replied: it was written; and all else that is asked for is there in a session alone.
 fn reply_to(request: &Request) -> Reply
     ensures { result ≡ reply_to request.now }
 {
     match request {
         Request::Out { .. } => Reply::Done,
-        Request::Input => Reply::Stopped(Stop::OnlySession),
+        _ => Reply::Stopped(Stop::OnlySession),
     }
 }

@@ -38,7 +38,7 @@ impl Screen {
     {
         match request {
             Request::Out { bytes, ends } => self.put(alloc, bytes.as_slice(), *ends),
-            Request::Input => Ok(()),
+            _ => Ok(()),
         }
     }
 

@@ -62,7 +62,7 @@ yes
 1 
 > LET n = 3; REP n PER
 FEHLER : falscher Typ (Zeile 1, Stelle 16)
-> LET name = 3
+> LET copy = 3
 FEHLER : kein ELAN-Text
 > LET put = 3; put (put)
 3 

@@ -25,6 +25,8 @@ mod structures;
 #[cfg(test)]
 mod table;
 #[cfg(test)]
+mod tasks;
+#[cfg(test)]
 mod tests;
 #[cfg(test)]
 mod texts;

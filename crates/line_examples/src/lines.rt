@@ -37,7 +37,7 @@ FEHLER : kein ELAN-Text (Zeile 1, Stelle 8)
 FEHLER : kein ELAN-Text (Zeile 1, Stelle 9)
 > put (1
 FEHLER : kein ELAN-Text (Zeile 1, Stelle 7)
-> TASK VAR a
+> DATASPACE VAR a
 FEHLER : kein ELAN-Text
 > put (((((((((((((((((((((((((((((((((((((((((((((((((((((((((((((((((((((((((((((((((((((((((((((((((((((5)))))))))))))))))))))))))))))))))))))))))))))))))))))))))))))))))))))))))))))))))))))))))))))))))))))
 5 
@@ -138,4 +138,48 @@ pub const LISTINGS: &str = "\
 14 LOAD TEXT
 15 DO errorstop
 16 END
+> TASK VAR t :: father (myself); end (t); break; put (name (t))
+0 MARK
+1 OUTER 0
+2 ASK myself
+3 ASK father(TASK)
+4 STORE TASK
+5 MARK
+6 OUTER 0
+7 LOAD TASK
+8 ASK end(TASK)
+9 MARK
+10 ASK break
+11 MARK
+12 OUTER 0
+13 LOAD TASK
+14 ASK name(TASK)
+15 ASK put(TEXT)
+16 END
+> TASK VAR t :: niltask; ROW 2 TASK VAR r; r [1] := t; IF t = r [2] THEN line FI
+0 MARK
+1 OUTER 0
+2 NIL TASK
+3 STORE TASK
+4 MARK
+5 MARK
+6 OUTER 1
+7 INT 1
+8 INDEX 2 1
+9 OUTER 0
+10 LOAD TASK
+11 STORE TASK
+12 MARK
+13 OUTER 0
+14 LOAD TASK
+15 OUTER 1
+16 INT 2
+17 INDEX 2 1
+18 LOAD TASK
+19 DO =
+20 FALSE 24
+21 MARK
+22 ASK line
+23 JUMP 24
+24 END
 ";

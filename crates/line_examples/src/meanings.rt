@@ -370,7 +370,7 @@ FEHLER : unbekannt (Zeile 1, Stelle 1)
 FEHLER : falscher Typ (Zeile 1, Stelle 12)
 > INT VAR a; a.f := 2
 FEHLER : unbekannt (Zeile 1, Stelle 12)
-> TASK VAR t
+> DATASPACE VAR d
 FEHLER : kein ELAN-Text
 > put (x); TEXT VAR t
 FEHLER : unbekannt (Zeile 1, Stelle 6)

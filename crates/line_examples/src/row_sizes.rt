@@ -167,11 +167,9 @@ FEHLER : Operandenspeicher voll
 > ROW 4 TEXT VAR a, b; INT VAR i; FOR i UPTO 4 REP a [i] := 16000 * \"x\" PER; put (1); b [1] := a [1]; b [2] := a [2]; b [3] := a [3]; put (2); b [4] := a [4]
 1 2 
 FEHLER : Textspeicher voll
-> ROW 3 TASK VAR a
-FEHLER : kein ELAN-Text
 > ROW 2 ROW 3 DATASPACE VAR a
 FEHLER : kein ELAN-Text
-> ROW task INT VAR a
+> ROW type INT VAR a
 FEHLER : kein ELAN-Text
 > ROW - 3 INT VAR a
 FEHLER : kein ELAN-Text (Zeile 1, Stelle 5)

@@ -200,11 +200,11 @@ FEHLER : unbekannt (Zeile 1, Stelle 7)
 FEHLER : unbekannt (Zeile 1, Stelle 15)
 > TYPE T = STRUCT (INT a); PROC p: LET T = STRUCT (TEXT a); T VAR x; x.a := \"p\"; put (x.a) END PROC p; p; T VAR y; CONCR (y).a := 2; put (CONCR (y).a)
 p 2 
-> STRUCT (INT a, TASK b) VAR s
+> STRUCT (INT a, DATASPACE b) VAR s
 FEHLER : kein ELAN-Text
 > STRUCT (INT type) VAR s
 FEHLER : kein ELAN-Text
-> STRUCT (INT a) VAR s; put (s.name)
+> STRUCT (INT a) VAR s; put (s.type)
 FEHLER : kein ELAN-Text
 > STRUCT (INT a; TEXT b) VAR s
 FEHLER : kein ELAN-Text (Zeile 1, Stelle 14)

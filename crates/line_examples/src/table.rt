@@ -105,6 +105,17 @@ FEHLER : falscher Typ (Zeile 1, Stelle 33)
 FEHLER : zu gross (Zeile 1, Stelle 1)
 > INT VAR n; ROW n INT VAR a
 FEHLER : falscher Typ (Zeile 1, Stelle 16)
+> TASK VAR t; IF t = niltask THEN put (1) FI; TASK VAR u :: niltask; IF t <> u THEN put (2) ELSE put (3) FI
+1 3 
+> ROW 3 TASK VAR a; a [2] := niltask; IF a [1] = a [2] THEN put (1) FI
+1 
+> TASK PROC f (TASK CONST t): t END PROC f; IF f (niltask) = niltask THEN put (1) FI
+1 
+> TASK VAR t; t := 0
+FEHLER : falscher Typ (Zeile 1, Stelle 13)
+> put (1); put (name (myself))
+1 
+FEHLER : nur in einer Sitzung
 > PROC p (INT VAR a, b): a INCR 1; b INCR 1 END PROC p; INT VAR x :: 5; p (x, x); put (x)
 7 
 > PROC p (INT CONST a): a := 3 END PROC p; p (1)
@@ -295,7 +306,7 @@ FEHLER : kein ELAN-Text (Zeile 1, Stelle 11)
 FEHLER : kein ELAN-Text (Zeile 1, Stelle 22)
 > ROW INT VAR a
 FEHLER : kein ELAN-Text (Zeile 1, Stelle 5)
-> INT VAR name
+> INT VAR copy
 FEHLER : kein ELAN-Text
 > put 1
 FEHLER : unbekannt (Zeile 1, Stelle 1)

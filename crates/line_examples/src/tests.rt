@@ -2,8 +2,8 @@
 
 use crate::rows::{Asked, add, is_right, put};
 use crate::{
-    code, lets, lines, meanings, outside, packets, row_sizes, row_values, structures, table, texts,
-    typed, types,
+    code, lets, lines, meanings, outside, packets, row_sizes, row_values, structures, table, tasks,
+    texts, typed, types,
 };
 use eu_base::Bytes;
 use eumel_top::{Status, one_output};
@@ -60,6 +60,8 @@ fn wrong_lines(alloc: Global) -> &'static str {
         "sizes of rows"
     } else if !is_right(alloc, structures::STRUCTURES, how) {
         "structures"
+    } else if !is_right(alloc, tasks::TASKS, how) {
+        "tasks"
     } else if !is_right(alloc, table::EXAMPLES, how) {
         "examples"
     } else {
@@ -81,6 +83,8 @@ fn wrong_table(alloc: Global) -> &'static str {
         "typed"
     } else if !is_right(alloc, typed::TYPED, Asked::Typed(1)) {
         "typed, a mark at a time"
+    } else if !is_right(alloc, tasks::ANSWERED, Asked::Typed(100_000)) {
+        "answers on tasks"
     } else if !is_right(alloc, packets::SCENES, Asked::Packets) {
         "packets"
     } else if !codes_are_right() {

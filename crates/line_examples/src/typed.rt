@@ -3,6 +3,7 @@
 ghost use Rattle.code_form.specs.Valid.{Fits};
 
 use crate::rows::put;
+use crate::tasks::reply_to;
 use code_form::{Code, Halt};
 use eu_base::{Bytes, Memory, Reply, Request};
 use page_pool::Pool;
@@ -254,6 +255,7 @@ fn serve<M: Memory>(
                 }
                 return put(out, b"\n");
             }
+            Ok(Halt::Asks(request)) => reply_to(alloc, &request),
             Ok(Halt::Ended) => return end_line(out),
             Err(_) => return,
         };

@@ -5,3 +5,4 @@ pub mod ReadAs
 pub mod Growing
 pub mod Standing
 pub mod Coding
+pub mod OneUnit

@@ -29,7 +29,7 @@ module _ (laws : Laws) (env : Env) (packet : Bool) (text : List ℕ) where
   the_tokens : {ts us : List Token} → HasTokens text ts → HasTokens text us → ts ≡ us
   the_tokens a b = cc (a, b)
 
-  the_tree : {ts us : List Token} {t u : Tree} → HasTokens text ts → Reads packet ts t → HasTokens text us → Reads packet us u → t ≡ u
+  pub the_tree : {ts us : List Token} {t u : Tree} → HasTokens text ts → Reads packet ts t → HasTokens text us → Reads packet us u → t ≡ u
   the_tree {ts = ts} {t = t} {u = u} a r b s = laws.one_tree packet ts t u r (rw (the_tokens a b) s)
 
   -- a text has one meaning

@@ -1,18 +1,21 @@
 -- What a text, or a start procedure, is compiled to.
-use Rattle.std.specs.Prelude.{◌≡◌, ℕ, Bool, List, [], ◌∷◌, ◌++◌, Option, Some, None, is_some, option_map}
+use Rattle.std.specs.Prelude.{◌≡◌, ℕ, Bool, List, [], ◌∷◌, ◌++◌, Option, Some, None, is_some, option_map, slice_get}
+use Rattle.cell_kinds.specs.declared.packet.Packet.{Packet}
 use Rattle.elan_types.specs.Typing.{IsWellTyped}
 use Rattle.elan_names.specs.declared.interface.Interface.{Interface}
 use Rattle.elan_types.specs.declared.core_phrase.Core.{Core}
 use Rattle.elan_types.specs.declared.core_phrase.Body.{Body}
 use Rattle.elan_scope.specs.declared.env.Env.{Env}
+use Rattle.elan_tree.specs.declared.token.Token.{Token}
 use Rattle.elan_tree.specs.declared.tree.Tree.{Tree}
 use Rattle.elan_tree.specs.declared.tree.Tree.TheVariants as tree
-use Rattle.elan_check.specs.Packets.{IsPacket, interface}
+use Rattle.elan_check.specs.Packets.{IsPacket, interface, after}
 use Rattle.elan_check.specs.Starts.{start_at, start_core}
 use Rattle.packet_store.specs.declared.unit.Source.{Source}
 use Rattle.packet_store.specs.declared.unit.Source.TheVariants.{Text, Start}
 use Rattle.packet_store.specs.declared.unit.Compiled.{Compiled}
-use Rattle.packet_store.specs.Meaning.{Means}
+use Rattle.elan_grammar.specs.Reads.{Reads}
+use Rattle.packet_store.specs.Meaning.{HasTokens, Means}
 
 -- A packet shows what later texts see of it, and a program nothing.
 abbrev pub Shows : Env → Core → Option Interface → Type 0
@@ -23,6 +26,10 @@ abbrev pub shown_by : Env → Tree → Option Interface
 shown_by env (tree.Program l) = None
 shown_by env (tree.Packet at name exports l) = Some (interface env (tree.Packet at name exports l))
 
+-- Later texts see this of the text.
+abbrev pub IsShown : Env → Bool → List ℕ → Option Interface → Type 0
+IsShown env packet text shown = (ts : List Token) × (t : Tree) × HasTokens text ts × Reads packet ts t × (shown ≡ shown_by env t)
+
 -- This is the unit of the text behind these packets, read as a packet or as a program.
 pub record IsUnitOf (env : Env) (packet : Bool) (text : List ℕ) (u : Compiled) : Type 0 where
   pub source_is : u.source ≡ Text text
@@ -30,6 +37,7 @@ pub record IsUnitOf (env : Env) (packet : Bool) (text : List ℕ) (u : Compiled)
   pub kind_is : is_some u.shown ≡ packet
   pub means : Means env packet text u.core
   pub shows : Shows env u.core u.shown
+  pub is_shown : IsShown env packet text u.shown
   pub typed : IsWellTyped u.core
 
 -- the unit of a start procedure behind these packets, which has this number among their bodies; none where it is no PROC that takes and
@@ -50,3 +58,19 @@ pub data IsUnit (u : Compiled) : Type 0 where
 abbrev pub HasPacket : Env → Core → ℕ → Core → Type 0
 HasPacket env c n later =
     (later.packets ≡ env.packets ++ record { number = n; variables = c.inserted } ∷ []) × (own : List Body) × (later.bodies ≡ c.bodies ++ own)
+
+-- what stands behind these packets after further ones were installed, each compiled behind those before it
+pub data Grows (env : Env) : Env → Type 0 where
+  none : Grows env env
+  more : {later : Env} (i : Interface) (c : Core) (n : ℕ) → Grows env later → IsPacket later i c → Grows env (after later i c n)
+
+-- The packets and their bodies stand before all further ones, so a body that has a number has it there too, with the same content.
+pub record Keeps (env later : Env) : Type 0 where
+  pub further_packets : List Packet
+  pub packets : later.packets ≡ env.packets ++ further_packets
+  pub further_bodies : List Body
+  pub bodies : later.bodies ≡ env.bodies ++ further_bodies
+  pub numbers : (k : ℕ) (b : Body) → slice_get env.bodies k ≡ Some b → slice_get later.bodies k ≡ Some b
+
+abbrev pub BodiesKeepTheirNumbers : Type 0
+BodiesKeepTheirNumbers = (env later : Env) → Grows env later → Keeps env later

@@ -1,4 +1,5 @@
-//! Laws of meaning: each text means something or is refused, and only so; and packets stand in later texts as they were compiled.
+//! Laws of meaning: each text means something or is refused, and only so; and packets stand in later texts, and behind
+//! further packets, as they were compiled.
 
 ghost use Rattle.std.specs.Prelude.{◌≡◌, ℕ, Bool, List};
 ghost use Rattle.elan_types.specs.declared.core_phrase.Core.{Core};
@@ -7,7 +8,8 @@ ghost use Rattle.elan_names.specs.declared.interface.Interface.{Interface};
 ghost use Rattle.elan_check.specs.Packets.{AreCompiled, after};
 ghost use Rattle.packet_store.specs.declared.error.Refusal.{Refusal};
 ghost use Rattle.packet_store.specs.Meaning.{Means, IsRefused, HasOutcome};
-ghost use Rattle.packet_store.specs.Units.{HasPacket};
+ghost use Rattle.packet_store.specs.declared.unit.Compiled.{Compiled};
+ghost use Rattle.packet_store.specs.Units.{BodiesKeepTheirNumbers, HasPacket, IsUnitOf};
 
 use elan_check::{each_text_has_one_answer, meant_is_not_refused, one_core, one_refusal};
 use elan_parser::one_tree;
@@ -28,9 +30,27 @@ pub fn one_meaning()
     each_text_has_one_answer();
 }
 
+/// Behind packets a text has one unit: what it means, and what later texts see of it.
+pub fn one_unit()
+    ensures { (env : Env) → (packet : Bool) → (text : List ℕ) → (u : Compiled) → (v : Compiled)
+        → IsUnitOf env packet text u → IsUnitOf env packet text v → (u.core ≡ v.core) × (u.shown ≡ v.shown) }
+{
+    one_tree();
+    one_core();
+    one_refusal();
+    meant_is_not_refused();
+    each_text_has_one_answer();
+}
+
 /// What is inserted under a number is what was compiled: the meaning of each text behind a packet has the packet's bodies unchanged, and
 /// its variables under that number. So code that does what this meaning does calls the packet, and reaches its variables, so.
 pub fn packets_stand_as_compiled()
     ensures { (env : Env) → (i : Interface) → (c : Core) → (n : ℕ) → (packet : Bool) → (text : List ℕ) → (later : Core)
         → Means (after env i c n) packet text later → HasPacket env c n later }
+{}
+
+/// Behind whatever is installed after some packets, each of their bodies has the number and the content that it has behind them alone.
+/// So a start procedure that is named by its packet is the same PROC in each task that has further packets.
+pub fn bodies_keep_their_numbers()
+    ensures { BodiesKeepTheirNumbers }
 {}

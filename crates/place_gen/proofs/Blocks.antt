@@ -6,7 +6,7 @@ use Rattle.std.proofs.lemmas.Bool.{cases_lt}
 use Rattle.std.proofs.lemmas.Option.{slice_get-get_or}
 use Rattle.eu_base.specs.declared.address.TheConstants.{CELLS}
 use Rattle.eu_base.specs.declared.value.Value.{Value}
-use Rattle.eu_base.specs.declared.value.Value.TheVariants.{Int, Truth, Text}
+use Rattle.eu_base.specs.declared.value.Value.TheVariants.{Int, Truth, Text, Task}
 use Rattle.eu_base.specs.Room.{value_blocks, total}
 use Rattle.eu_base.specs.declared.address.Area.{Area}
 use Rattle.eu_base.specs.declared.value.Kind.{Kind}
@@ -43,6 +43,7 @@ pub held_blocks : (v : Value) → cell_blocks (held_of v) ≡ value_blocks v
 held_blocks (Int z) = refl
 held_blocks (Truth b) = refl
 held_blocks (Text t) = refl
+held_blocks (Task n) = refl
 
 kept_blocks : (P : List Kind) (L : Uses) (at : ℕ) (k : Use) (s : Slot) (n : Cell) → Kept P L at k s n → cell_blocks n ≡ slot_blocks s
 kept_blocks P L at (OfValue k) s n g = ap cell_blocks g.3 ∙ held_blocks g.0 ∙ ap slot_blocks (sym g.1)

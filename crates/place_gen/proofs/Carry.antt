@@ -48,7 +48,7 @@ use Rattle.place_gen.specs.Correct.{addr_of, RestsAs, Shows, Comes, scene_of}
 use Rattle.place_gen.proofs.Lines.{HasAt, has_front, has_rest}
 use Rattle.elan_types.proofs.Shapes.{cell_is}
 use Rattle.place_gen.proofs.Homes.{LeftBy, frame_uses}
-use Rattle.place_gen.proofs.Cells.{Use, OfValue, Uses, AtKinds, AtPlace, uses_in, AreCounts, counts_append, Keeps, image}
+use Rattle.place_gen.proofs.Cells.{Use, OfValue, Uses, AtKinds, AtPlace, uses_in, AreCounts, counts_append, Keeps, image, all_variables}
 use Rattle.place_gen.proofs.Spans.{AreOf, place_this, writes_all, takes_values}
 use Rattle.place_gen.proofs.Blocks.{held_blocks, same_blocks}
 
@@ -146,15 +146,15 @@ module _ (p : Program) where
   Ends L c w e = (cells : Cells) → Keeps P L w cells → Comes p (free c) (scene_of w cells) e
 
   -- a rest where the cells keep the store
-  pub resting : {L : Uses} (h : Halt) (d : Control) (w : World) (cells : Cells) → Keeps P L w cells → RestsAs h w (rest_at h d (scene_of w cells))
-  resting {L} h d w cells keeps = record { how = refl; marks = refl; replies = refl; command = image Run P L w.store cells keeps.command; packets = image Packets P (map OfValue P) w.packets cells keeps.packets }
+  pub resting : {L : Uses} (h : Halt) (d : Control) (w : World) (cells : Cells) → Keeps P L w cells → RestsAs p h w (rest_at h d (scene_of w cells))
+  resting {L} h d w cells keeps = record { how = refl; marks = refl; replies = refl; command = image Run P L w.store cells keeps.command; packets = all_variables Packets P P w.packets cells keeps.packets }
 
   -- what a step leads to comes to rest so
   pub record After (st : Stage) (e : Ending) : Type 0 where
     pub steps : ℕ
     pub rest : Rest
     pub comes : carry_on st (exec p steps) ≡ Some rest
-    pub shows : Shows e rest
+    pub shows : Shows p e rest
 
   -- the next state does
   pub going : (d : Control) (s : Scene) (e : Ending) → Comes p d s e → After (On d s) e
@@ -222,11 +222,18 @@ module _ (p : Program) where
     shows = resting halts.Ended (free c) w cells keeps;
   })
 
+  -- what is delivered goes on where it has room, or stops
+  pub read_comes : {L : Uses} {A : Type 0} (d : Control) (a : A) (t : Bool) (to : A → Position) (k : A → World → Ending)
+      (l : Exit → Option (List Value) → World → Ending) (w : World) (cells : Cells) → Keeps P L w cells → Ends L (to a) w (k a w)
+      → Does d (scene_of w cells) (cond t (Goes (to a) cells) (Halts OperandRoom))
+      → Comes p d (scene_of w cells) (finish (branch t (Gives a) (Stopped OperandRoom) w) k l)
+  read_comes d a true to k l w cells h next e = does_go d (to a) (scene_of w cells) cells _ e (next cells h)
+  read_comes {L} d a false to k l w cells h next e = stop_comes L d w OperandRoom cells h e
+
   read_ends : {L : Uses} {A : Type 0} (c : Position) (a : A) (t : Bool) (to : A → Position) (k : A → World → Ending) (l : Exit → Option (List Value) → World → Ending)
       (w : World) (cells : Cells) → Keeps P L w cells → Ends L (to a) w (k a w) → step p c cells ≡ cond t (Goes (to a) cells) (Halts OperandRoom)
       → Comes p (free c) (scene_of w cells) (finish (branch t (Gives a) (Stopped OperandRoom) w) k l)
-  read_ends c a true to k l w cells h next e = on_step c (to a) (scene_of w cells) cells _ e (next cells h)
-  read_ends {L} c a false to k l w cells h next e = stop_comes L (free c) w OperandRoom cells h (does c (scene_of w cells) (Halts OperandRoom) e)
+  read_ends c a t to k l w cells h next e = read_comes (free c) a t to k l w cells h next (does c (scene_of w cells) _ e)
 
   -- an instruction that writes to the cell of a variable
   pub write_ends : {L : Uses} (c c' : Position) (w : World) (x : Place) (k : Kind) (v : Value) (e : Ending) (cells : Cells) → length P ≤ CELLS → length L ≤ CELLS
@@ -339,6 +346,8 @@ module _ (p : Program) where
       → Comes p (answered q r c) (scene_of w cells) (finish (heed r run w) k l)
   heeded b replies.Done q c run to h k l hk w le cells keeps = (h replies.Done).by k l hk w le cells keeps
   heeded b (replies.Text t) q c run to h k l hk w le cells keeps = (h (replies.Text t)).by k l hk w le cells keeps
+  heeded b (replies.Task n) q c run to h k l hk w le cells keeps = (h (replies.Task n)).by k l hk w le cells keeps
+  heeded b (replies.Truth t) q c run to h k l hk w le cells keeps = (h (replies.Truth t)).by k l hk w le cells keeps
   heeded {L} b (replies.Stopped s) q c run to h k l hk w le cells keeps = record {
     steps = 1;
     rest = rest_at (halts.Stopped s) (refused c s) (scene_of w cells);

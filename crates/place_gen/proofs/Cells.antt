@@ -2,11 +2,11 @@
 use Rattle.std.proofs.Common.{◌≡◌, ℕ, zero, suc, ◌+◌, ◌<◌, ◌≤◌, ◌%◌, List, [], ◌∷◌, ◌++◌, map, length, take, Some, Bool, true, false, cond}
 use Rattle.std.proofs.Common.{nat_le, nat_lt, ◌&&◌, refl, sym, ap, ◌∙◌, subst, arith, append_assoc, get_or-set_other, get_or-set_same}
 use Rattle.std.proofs.Common.{length-set, length-append, ⊎_elim}
-use Rattle.std.specs.Prelude.{◌==◌, slice_get, slice_set, slice_index_or, ℤ}
+use Rattle.std.specs.Prelude.{◌==◌, slice_get, slice_set, slice_index_or, option_map, ℤ}
 use Rattle.std.proofs.lemmas.List.{append-nil, length-map, length-take-le, get_or-take, get_or_append_left}
 use Rattle.std.proofs.lemmas.Bool.{cases_lt}
 use Rattle.std.proofs.Math.Seq.{get_or-append_seam}
-use Rattle.std.proofs.lemmas.Option.{slice_get_within, slice_get-get_or}
+use Rattle.std.proofs.lemmas.Option.{slice_get_within, slice_get-get_or, slice_get-map}
 use Rattle.std.proofs.lemmas.Int.{ints, to_z-of_z}
 use Rattle.std.proofs.lemmas.Bool.Decides.{eqb_tells, nat_tests}
 use Rattle.std.specs.Int.{cast_signed, cast_unsigned, w16}
@@ -18,14 +18,15 @@ use Rattle.eu_base.specs.declared.address.Area.TheVariants.{Run, Packets}
 use Rattle.eu_base.specs.declared.value.Kind.{Kind}
 use Rattle.eu_base.specs.declared.value.Kind.TheVariants as kinds
 use Rattle.eu_base.specs.declared.value.Value.{Value}
-use Rattle.eu_base.specs.declared.value.Value.TheVariants.{Int, Truth, Text}
+use Rattle.eu_base.specs.declared.value.Value.TheVariants.{Int, Truth, Text, Task}
 use Rattle.eu_base.specs.Values.{IsOf, number_in}
 use Rattle.eu_base.specs.Cells.{Cell, Free, Word, Cells, held_of, IsCell, area_cell, run_cell, packet_cell, same_cell, written, forgotten, is_between}
 use Rattle.eu_base.specs.Cells.{place_number, place_in}
 use Rattle.eu_base.proofs.Places.{place_back, same_there}
+use Rattle.eu_base.proofs.Results.{task_back}
 use Rattle.code_form.specs.Machine.{Move, on_word, on_number, on_cell, takes, written_from, is_free, are_free}
 use Rattle.elan_types.specs.Eval.{Place, Slot, Holds, Refers, Taken, World, slot_blocks, slots_in, slot_at, value_of, place_of}
-use Rattle.place_gen.specs.Correct.{addr_of, StandsFor, Image}
+use Rattle.place_gen.specs.Correct.{addr_of, StandsFor, Image, HasVariables}
 
 bits : (z : ℤ) → FitsSigned w16 z → cast_unsigned w16 z < 65536
 bits z f = omega (arith, ints)
@@ -41,31 +42,51 @@ value_back : (k : Kind) (v : Value) (go : Value → Move) → IsOf k v → on_ce
 value_back kinds.Int (Int z) go f = ap (λ z. go (Int z)) (number_back z f)
 value_back kinds.Int (Truth b) go f = absurd f
 value_back kinds.Int (Text t) go f = absurd f
+value_back kinds.Int (Task n) go f = absurd f
 value_back kinds.Truth (Int z) go f = absurd f
 value_back kinds.Truth (Truth true) go f = refl
 value_back kinds.Truth (Truth false) go f = refl
 value_back kinds.Truth (Text t) go f = absurd f
+value_back kinds.Truth (Task n) go f = absurd f
 value_back kinds.Text (Int z) go f = absurd f
 value_back kinds.Text (Truth b) go f = absurd f
 value_back kinds.Text (Text t) go f = refl
+value_back kinds.Text (Task n) go f = absurd f
+value_back kinds.Task (Int z) go f = absurd f
+value_back kinds.Task (Truth b) go f = absurd f
+value_back kinds.Task (Text t) go f = absurd f
+value_back kinds.Task (Task n) go f = ap (λ n. go (Task n)) (task_back n f)
 
 -- a cell that holds a value of a kind takes each of that kind
 takes_held : (k : Kind) (v old : Value) → IsOf k v → IsOf k old → takes (held_of v) (held_of old) ≡ true
 takes_held kinds.Int (Int z) (Int y) f g = refl
 takes_held kinds.Truth (Truth b) (Truth a) f g = refl
 takes_held kinds.Text (Text t) (Text u) f g = refl
+takes_held kinds.Task (Task n) (Task m) f g = refl
 takes_held kinds.Int v (Truth a) f g = absurd g
 takes_held kinds.Int v (Text u) f g = absurd g
+takes_held kinds.Int v (Task m) f g = absurd g
 takes_held kinds.Truth v (Int y) f g = absurd g
 takes_held kinds.Truth v (Text u) f g = absurd g
+takes_held kinds.Truth v (Task m) f g = absurd g
 takes_held kinds.Text v (Int y) f g = absurd g
 takes_held kinds.Text v (Truth a) f g = absurd g
+takes_held kinds.Text v (Task m) f g = absurd g
+takes_held kinds.Task v (Int y) f g = absurd g
+takes_held kinds.Task v (Truth a) f g = absurd g
+takes_held kinds.Task v (Text u) f g = absurd g
 takes_held kinds.Int (Truth b) old f g = absurd f
 takes_held kinds.Int (Text t) old f g = absurd f
+takes_held kinds.Int (Task n) old f g = absurd f
 takes_held kinds.Truth (Int z) old f g = absurd f
 takes_held kinds.Truth (Text t) old f g = absurd f
+takes_held kinds.Truth (Task n) old f g = absurd f
 takes_held kinds.Text (Int z) old f g = absurd f
 takes_held kinds.Text (Truth b) old f g = absurd f
+takes_held kinds.Text (Task n) old f g = absurd f
+takes_held kinds.Task (Int z) old f g = absurd f
+takes_held kinds.Task (Truth b) old f g = absurd f
+takes_held kinds.Task (Text t) old f g = absurd f
 
 -- what a cell in use holds: a value of a kind, the place where values of these kinds stand, a limit, or nothing
 pub data Use : Type 0 where
@@ -181,6 +202,19 @@ image area P L slots cells h room x s e =
     by (OfPlace ks) g = subst (StandsFor (cells (area_cell area x))) (sym g.1) g.4
     by (OfLimit l) g = subst (StandsFor (cells (area_cell area x))) (sym g.0) tt
     by OfNothing g = g.3
+
+-- where they are variables alone, each has a value of its kind
+pub all_variables : (area : Area) (P kinds : List Kind) (slots : List Slot) (cells : Cells) → KeepsIn area P (map OfValue kinds) slots cells
+    → HasVariables area kinds slots cells
+all_variables area P kinds slots cells h = record {
+  as_many = h.as_many ∙ length-map kinds OfValue;
+  each = λ x k e.
+      let g = h.each x (OfValue k) (slice_get-map OfValue kinds x ∙ ap (option_map OfValue) e) in
+      let within : x < length slots = omega (arith, slice_get_within kinds x k e, h.as_many, length-map kinds OfValue) in
+      (g.0, slice_get-get_or slots x Taken within ∙ ap Some g.1, g.2);
+  image = image area P (map OfValue kinds) slots cells h;
+  beyond = λ x past. h.beyond x (omega (arith, past, length-map kinds OfValue));
+}
 
 -- what a variable holds is read out of its cell
 pub reads : (area : Area) (P : List Kind) (L : Uses) (slots : List Slot) (cells : Cells) (x : ℕ) (k : Kind) (go : Value → Move) → KeepsIn area P L slots cells

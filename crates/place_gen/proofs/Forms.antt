@@ -81,7 +81,7 @@ abbrev pub AllOf : List Kind → Uses → List Value → Type 0
 AllOf ks L vs = AreOf ks vs
 
 -- a value is pushed where its bytes have room
-push_is : (c : Position) (vs : List Value) (ops : List Operand) (cells : Cells)
+pub push_is : (c : Position) (vs : List Value) (ops : List Operand) (cells : Cells)
     → push_move c (operand_of vs) ops cells
     ≡ cond (bytes_fit (values_bytes vs + bytes_on ops (bytes_of c.frames))) (goes c (operand_of vs ∷ ops) cells) (Halts OperandRoom)
 push_is c vs ops cells =

@@ -9,6 +9,8 @@ use Rattle.eu_base.specs.declared.value.Kind.{Kind}
 use Rattle.eu_base.specs.declared.shape.Shape.{Shape}
 use Rattle.eu_base.specs.declared.shape.Shape.TheVariants.{Cell}
 use Rattle.eu_base.specs.Shapes.{cell_kinds}
+use Rattle.eu_base.specs.declared.request.RequestName.{RequestName}
+use Rattle.eu_base.specs.Requests.{request_result}
 use Rattle.code_form.specs.declared.operand.OperandKind.{OperandKind}
 use Rattle.code_form.specs.declared.operand.OperandKind.TheVariants as operand
 use Rattle.code_form.specs.declared.code.Entry.{Entry}
@@ -29,7 +31,7 @@ use Rattle.place_gen.specs.Layouts.{taken_as, parameter_kind, layout_of}
 use Rattle.elan_types.specs.Typing as typing
 use Rattle.elan_types.specs.Typing.{Outside, Typed, Held, held_as, has, has_shape, agree, takes, only_if, same_access, frame_of, frame_at}
 use Rattle.elan_types.specs.Typing.{frame_in, scope_of, result_of, result_of_content, delivered_by, taken_by, take_all, Taken, refines, around, left_from}
-use Rattle.elan_types.specs.Typing.{leaves_without, leaves_with, is_none, formal, Home}
+use Rattle.elan_types.specs.Typing.{leaves_without, leaves_with, is_none, formal, Home, request_type}
 use Rattle.elan_types.proofs.Shapes.{same_shape_is}
 use Rattle.place_gen.proofs.Cells.{Use, OfValue, OfPlace, Uses}
 
@@ -116,6 +118,21 @@ pub formals_take : (ks ls : List Kind)
 formals_take [] [] = refl
 formals_take [] (l ∷ ls) = ap (λ ks. cell_place l ∷ ks) (formals_take [] ls)
 formals_take (k ∷ ks) ls = ap (λ ks. cell_value k ∷ ks) (formals_take ks ls)
+
+-- what a request delivers, from its type
+pub delivers_none : (name : RequestName) → is_none (request_type name) ≡ true → request_result name ≡ None
+delivers_none name e = by (request_result name) e
+  where
+    by : (o : Option Kind) → is_none (option_map Cell o) ≡ true → o ≡ None
+    by None e = refl
+    by (Some k) e = absurd (cc e)
+
+pub delivers_some : (name : RequestName) (u : Shape) → request_type name ≡ Some u → (k : Kind) × (request_result name ≡ Some k) × (Some (Cell k) ≡ Some u)
+delivers_some name u e = by (request_result name) refl e
+  where
+    by : (o : Option Kind) → request_result name ≡ o → option_map Cell o ≡ Some u → (k : Kind) × (request_result name ≡ Some k) × (Some (Cell k) ≡ Some u)
+    by None h e = absurd (cc e)
+    by (Some k) h e = (k, h, e)
 
 formal_is : (f g : Formal) → f.shape ≡ g.shape → f.access ≡ g.access → g ≡ f
 formal_is f g a b = ap (formal g.access) (sym a) ∙ ap (λ (x : Access). formal x f.shape) (sym b)

@@ -247,6 +247,7 @@ module _ (p : Program) (body : Option ℕ) where
   number_fits (item.Int z) h = h
   number_fits (item.Truth b) h = absurd h
   number_fits (item.Text t) h = absurd h
+  number_fits (item.Task n) h = absurd h
 
   -- the limit is read out of its cell
   limit_read : (limit : ℤ) (U : Uses) (c : Position) (store : List Slot) (cells : Cells) (go : ℤ → Move) → Under limit U → c.used ≡ length U

@@ -14,7 +14,7 @@ use Rattle.std.proofs.lemmas.Option.{slice_get_within}
 use Rattle.eu_base.specs.declared.address.TheConstants.{CELLS}
 use Rattle.eu_base.specs.declared.value.Kind.{Kind}
 use Rattle.eu_base.specs.declared.value.Value.{Value}
-use Rattle.eu_base.specs.declared.value.Value.TheVariants.{Int, Truth, Text}
+use Rattle.eu_base.specs.declared.value.Value.TheVariants.{Int, Truth, Text, Task}
 use Rattle.eu_base.specs.Values.{IsOf}
 use Rattle.eu_base.specs.Room.{value_bytes, values_bytes}
 use Rattle.eu_base.specs.declared.address.Area.{Area}
@@ -151,6 +151,7 @@ one_bytes : (v : Value) → 8 ≤ value_bytes v
 one_bytes (Int z) = omega arith
 one_bytes (Truth b) = omega arith
 one_bytes (Text t) = omega arith
+one_bytes (Task n) = omega arith
 
 pub most_cells : (ks : List Kind) (vs : List Value) → AreOf ks vs → 8 * length ks ≤ values_bytes vs
 most_cells [] [] h = omega arith

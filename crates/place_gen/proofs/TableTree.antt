@@ -9,7 +9,7 @@ use Rattle.eu_base.specs.declared.shape.Shape.TheVariants.{Cell, Row}
 use Rattle.eu_base.specs.Shapes.{cell_kinds}
 use Rattle.eu_base.specs.declared.operation.Way.{Way}
 use Rattle.eu_base.specs.Operations.{operand_kinds, result_kind, change_kind}
-use Rattle.eu_base.specs.Requests.{request_kinds, request_places}
+use Rattle.eu_base.specs.Requests.{request_kinds, request_places, request_result}
 use Rattle.code_form.specs.declared.operand.OperandKind.{OperandKind}
 use Rattle.code_form.specs.declared.operand.OperandKind.TheVariants.{Value as OfShape}
 use Rattle.code_form.specs.declared.instr.Instr.TheVariants.{Back}
@@ -46,10 +46,10 @@ use Rattle.place_gen.specs.Layouts.{parameter_kind}
 use Rattle.place_gen.proofs.Homes.{Delivers, Agrees, IsHome, agree_is, held_cell, proc_is, part_is, left_is, only_if_is, both}
 use Rattle.place_gen.proofs.PlaceKinds.{starts_is, one_starts, first_behind, held_behind, place_held_is, if_true_is, items_are, first_of_drop, row_items}
 use Rattle.place_gen.proofs.PlaceKinds.{part_known}
-use Rattle.place_gen.proofs.Homes.{has_is, has_shape_is, takes_is, formals_take, without_is, with_is, none_is}
+use Rattle.place_gen.proofs.Homes.{has_is, has_shape_is, takes_is, delivers_none, delivers_some, formals_take, without_is, with_is, none_is}
 use Rattle.place_gen.proofs.Lines.{HasAt, IsSized, join_sized}
 use Rattle.place_gen.proofs.Tables.{Each, ends_good, leave_fine, Table, ValueTable, PlaceTable, ActionTable, above, none_table, join_table, mark_table, number_table}
-use Rattle.place_gen.proofs.Tables.{truth_table, text_table, outer_table, packet_table, local_table, parameter_table, item_table, field_table, pick_table, take_table, load_table, store_table, modify_table, apply_table, ask_table, error_stop_table}
+use Rattle.place_gen.proofs.Tables.{truth_table, text_table, outer_table, packet_table, local_table, parameter_table, item_table, field_table, pick_table, take_table, load_table, store_table, modify_table, apply_table, ask_table, answer_table, error_stop_table}
 use Rattle.place_gen.proofs.Tables.{call_table, refer_table, leave_table, leave_with_table}
 use Rattle.place_gen.proofs.LoopTables.{if_table, otherwise_table, arm_table, ExitTable, stays_table, while_table, until_table, step_table, AtLeastOne}
 use Rattle.place_gen.proofs.LoopTables.{step_to_table, turn_table, loop_table, never_table, counted_none_table, counted_some_table}
@@ -281,6 +281,13 @@ module _ (p : Program) (outside : Outside) (bodies : List Body) (agrees : Agrees
       let f = only_if_is _ _ u e in
       let g = part_known part v _ f.0 in
       of_shape v u f.1 (take_table p home g.whole v part.of part.before part.cells (a.1 g.whole g.is) g.parts)
+  value_parts (t.ValuePhrase::Ask name as') u e =
+      let f = only_if_is _ _ u e in
+      let g = delivers_some name u f.1 in
+      let j = actuals_are (request_formals name) as' f.0 in
+      of_shape (Cell g.0) u g.2
+      (answer_table p home name g.0 g.1 (subst (λ ks. T keeps (pushed_operands ks) (all_code (map actual_code (map fst as'))))
+      (formals_take (request_kinds name) (request_places name)) j.table))
 
   abbrev WLayer : Type 0
   WLayer = PlacePhrase-F ((a : Action) × Q a) ((a : Actual) × N a) ((q : PlacePhrase) × W q) ((e : ValuePhrase) × P e) ((a : Arm) × R a) ((a : ValueArm) × S a)
@@ -367,9 +374,10 @@ module _ (p : Program) (outside : Outside) (bodies : List Body) (agrees : Agrees
   action_parts (t.Count q from way (Some a) None us (Some u)) e = counts_is q from way (Some a) None us (Some u) e
   action_parts (t.Count q from way (Some a) (Some w) us None) e = counts_is q from way (Some a) (Some w) us None e
   action_parts (t.Count q from way (Some a) (Some w) us (Some u)) e = counts_is q from way (Some a) (Some w) us (Some u) e
-  action_parts (t.Ask name as') e =
-      let j = actuals_are (request_formals name) as' e in
-      ask_table p home name (subst (λ ks. T keeps (pushed_operands ks) (all_code (map actual_code (map fst as'))))
+  action_parts (t.Action::Ask name as') e =
+      let f = both _ _ e in
+      let j = actuals_are (request_formals name) as' f.0 in
+      ask_table p home name (delivers_none name f.1) (subst (λ ks. T keeps (pushed_operands ks) (all_code (map actual_code (map fst as'))))
       (formals_take (request_kinds name) (request_places name)) j.table)
   action_parts (t.ErrorStop a) e = error_stop_table p home (a.1 (Cell kinds.Text) (has_is kinds.Text _ e))
   action_parts (t.Action::Call q as') e =

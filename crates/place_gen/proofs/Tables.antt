@@ -11,7 +11,7 @@ use Rattle.eu_base.specs.Shapes.{cell_kinds}
 use Rattle.eu_base.specs.declared.operation.Operation.{Operation}
 use Rattle.eu_base.specs.declared.operation.Change.{Change}
 use Rattle.eu_base.specs.Operations.{operand_kinds, result_kind, change_kind}
-use Rattle.eu_base.specs.Requests.{request_kinds, request_places, request_size}
+use Rattle.eu_base.specs.Requests.{request_kinds, request_places, request_result, request_size}
 use Rattle.eu_base.specs.declared.request.RequestName.{RequestName}
 use Rattle.code_form.specs.declared.operand.OperandKind.{OperandKind}
 use Rattle.code_form.specs.declared.operand.OperandKind.TheVariants.{Value as OfShape, Place as AtShape}
@@ -24,7 +24,7 @@ use Rattle.code_form.specs.declared.code.Entry.{Entry}
 use Rattle.code_form.specs.declared.code.Layout.TheVariants as layouts
 use Rattle.code_form.specs.Program.{Program, kinds_in_packets, HoldsValue, HoldsPlace, line_of, owner, owner_at, layout_of, frame_cells}
 use Rattle.code_form.specs.Valid.{Next, Lands, pushed_kinds, pushed_operands, request_operands, with_result, IsRefinement, HasResult, IsFine}
-use Rattle.code_form.specs.Valid.{cell_value, cell_place, AreItems, IsPart}
+use Rattle.code_form.specs.Valid.{cell_value, cell_place, with_answer, AreItems, IsPart}
 use Rattle.elan_types.specs.declared.core_phrase.Exit.{Exit}
 use Rattle.elan_types.specs.declared.core_phrase.Exit.TheVariants as exits
 use Rattle.place_gen.specs.Stretch.{Stretch, none, one, keeps, pushes, join, all_code, call_code, refer_code}
@@ -222,11 +222,22 @@ module _ (p : Program) (body : Option ℕ) where
       (λ pc ks m home n. (ks, refl, n)))
 
   -- a request finds its values, and behind them its variable
-  pub ask_table : {f : Stretch} (name : RequestName) → Table keeps (pushed_operands (request_operands name)) f
+  pub ask_table : {f : Stretch} (name : RequestName) → request_result name ≡ None → Table keeps (pushed_operands (request_operands name)) f
       → ActionTable (join f (one (Ask name) (drop (request_size name))))
-  ask_table name i =
+  ask_table name is i =
       join_table i (one_table (Ask name) (drop (request_size name)) (pushed_operands (request_operands name)) keeps
-      (λ ks. all_dropped (request_operands name) ks (request_size name) (size_is name)) (λ pc ks m home n. (ks, refl, n)))
+      (λ ks. all_dropped (request_operands name) ks (request_size name) (size_is name))
+      (λ pc ks m home n. (ks, refl, subst (λ o. Next p.lines (pc + 1) (with_answer o ks) m) (sym is) n)))
+
+  -- one that delivers a value leaves it there
+  pub answer_table : {f : Stretch} (name : RequestName) (k : Kind) → request_result name ≡ Some k → Table keeps (pushed_operands (request_operands name)) f
+      → ValueTable (Cell k) (join f (one (Ask name) (λ ks. with_answer (request_result name) (drop (request_size name) ks))))
+  answer_table name k is i =
+      let leaves = λ (ks : List OperandKind). with_answer (request_result name) (drop (request_size name) ks) in
+      join_table i (one_table (Ask name) leaves (pushed_operands (request_operands name)) (pushes (cell_value k))
+      (λ ks. ap (λ o. with_answer o (drop (request_size name) (pushed_operands (request_operands name) ks))) is
+      ∙ ap (λ ks. cell_value k ∷ ks) (all_dropped (request_operands name) ks (request_size name) (size_is name)))
+      (λ pc ks m home n. (ks, refl, subst (λ o. Next p.lines (pc + 1) (with_answer o ks) m) (sym is) n)))
 
   -- a call finds what its parameters take, and leaves what the PROC delivers
   pub call_table : (q : ℕ) (e : Entry) (taken : List OperandKind) (vs : List Kind) (d : Option Shape) (fs : List Stretch) → slice_get p.bodies q ≡ Some e

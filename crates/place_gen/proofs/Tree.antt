@@ -15,7 +15,7 @@ use Rattle.std.specs.Int.RustNames.{FitsSigned}
 use Rattle.std.proofs.lemmas.Bool.{leb-true}
 use Rattle.eu_base.specs.declared.value.TheConstants.{TEXT_BYTES}
 use Rattle.eu_base.specs.Operations.{operand_kinds, result_kind, change_kind}
-use Rattle.eu_base.specs.Requests.{request_kinds, request_places}
+use Rattle.eu_base.specs.Requests.{request_kinds, request_places, request_result}
 use Rattle.eu_base.proofs.Results.{fits_in_range}
 use Rattle.code_form.specs.declared.operand.Operand.{Operand}
 use Rattle.code_form.specs.Program.{Program}
@@ -53,12 +53,12 @@ use Rattle.place_gen.proofs.Forms.{IsPlace, IsPlaceOf, variable_is, packet_is, l
 use Rattle.place_gen.proofs.Choices.{if_is, IsChoice, otherwise_is, arm_is, select_is, unit_is, modify_is, error_stop_is}
 use Rattle.place_gen.proofs.Calls.{IsActual, AreActuals, value_actual, place_actual, no_actuals_are, more_actuals_are, call_value_is, call_action_is}
 use Rattle.place_gen.proofs.Calls.{refer_value_is, refer_action_is, leave_is, leave_with_is}
-use Rattle.place_gen.proofs.Requests.{ask_is}
+use Rattle.place_gen.proofs.Requests.{ask_is, answer_is}
 use Rattle.place_gen.proofs.Loops.{IsExit, Under, while_none, while_some, until_none, until_some, go_on_is, turn_is, loop_is, never_is, step_is, step_to_is}
 use Rattle.place_gen.proofs.Limits.{counted_none_is, counted_some_is}
 use Rattle.place_gen.proofs.Homes.{Agrees, IsHome, held_use, proc_is, part_is, left_is, only_if_is, both, has_is, has_shape_is, agree_is, takes_is}
 use Rattle.place_gen.proofs.PlaceKinds.{starts_is, one_starts, first_behind, held_behind, place_held_is, if_true_is, items_are, first_of_drop, row_items, part_known}
-use Rattle.place_gen.proofs.Homes.{formals_take, without_is, with_is, none_is}
+use Rattle.place_gen.proofs.Homes.{delivers_none, delivers_some, formals_take, without_is, with_is, none_is}
 
 abbrev fst : {A : Type 0} {B : A → Type 0} → (a : A) × B a → A
 fst x = x.0
@@ -329,6 +329,13 @@ module _ (p : Program) (outside : Outside) (bodies : List Body) (agrees : Agrees
       let f = only_if_is _ _ u e in
       let g = part_known part v _ f.0 in
       of_shape v u f.1 (take_is p home g.whole v part.of part.before part.cells (a.1 g.whole g.is) g.parts.is)
+  value_parts (t.ValuePhrase::Ask name as') u e =
+      let xs = map actual_run (map fst as') in
+      let f = only_if_is _ _ u e in
+      let g = delivers_some name u f.1 in
+      of_shape (Cell g.0) u g.2
+      (answer_is p home xs name g.0 g.1 (subst (λ ks. AreActuals p home ks xs (all_code (map actual_code (map fst as'))))
+      (formals_take (request_kinds name) (request_places name)) (actuals_are (request_formals name) as' f.0)))
 
   place_parts : (y : Known PlacePhrase-F) (k : Kind) (ks : List Kind)
       → place_kinds_step outside bodies home
@@ -418,10 +425,11 @@ module _ (p : Program) (outside : Outside) (bodies : List Body) (agrees : Agrees
   action_parts (t.Count q from way (Some a) None us (Some u)) e = counts_is q from way (Some a) None us (Some u) e
   action_parts (t.Count q from way (Some a) (Some w) us None) e = counts_is q from way (Some a) (Some w) us None e
   action_parts (t.Count q from way (Some a) (Some w) us (Some u)) e = counts_is q from way (Some a) (Some w) us (Some u) e
-  action_parts (t.Ask name as') e =
+  action_parts (t.Action::Ask name as') e =
       let xs = map actual_run (map fst as') in
-      ask_is p home xs name (subst (λ ks. AreActuals p home ks xs (all_code (map actual_code (map fst as'))))
-      (formals_take (request_kinds name) (request_places name)) (actuals_are (request_formals name) as' e))
+      let f = both _ _ e in
+      ask_is p home xs name (delivers_none name f.1) (subst (λ ks. AreActuals p home ks xs (all_code (map actual_code (map fst as'))))
+      (formals_take (request_kinds name) (request_places name)) (actuals_are (request_formals name) as' f.0))
   action_parts (t.ErrorStop a) e = error_stop_is p home (a.1 (Cell kinds.Text) (has_is kinds.Text _ e))
   action_parts (t.Action::Call q as') e =
       let g = both _ _ e in

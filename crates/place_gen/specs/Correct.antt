@@ -45,26 +45,26 @@ pub record HasSlots (p : Program) (store others : List Slot) (cells : Cells) : T
 abbrev pub HasAll : Program → World → Cells → Type 0
 HasAll p w cells = HasSlots p w.store w.packets cells
 
--- a run rests so, with the same marks and replies left, and with all variables in the cells
-pub record RestsAs (h : Halt) (w : World) (r : Rest) : Type 0 where
+-- a run rests so, with the same marks and replies left, and with all variables in the cells, those of packets each with a value of its kind
+pub record RestsAs (p : Program) (h : Halt) (w : World) (r : Rest) : Type 0 where
   pub how : r.how ≡ h
   pub marks : r.scene.marks ≡ w.marks
   pub replies : r.scene.replies ≡ w.replies
   pub command : Image Run w.store r.scene.cells
-  pub packets : Image Packets w.packets r.scene.cells
+  pub packets : HasVariables Packets (kinds_in_packets p) w.packets r.scene.cells
 
-abbrev pub Shows : Ending → Rest → Type 0
-Shows (Ended w) r = RestsAs halts.Ended w r
-Shows (Stopped s w) r = RestsAs (halts.Stopped s) w r
-Shows (OutOfMarks w) r = RestsAs halts.Marked w r
-Shows (Asks q w) r = RestsAs (halts.Asks q) w r
+abbrev pub Shows : Program → Ending → Rest → Type 0
+Shows p (Ended w) r = RestsAs p halts.Ended w r
+Shows p (Stopped s w) r = RestsAs p (halts.Stopped s) w r
+Shows p (OutOfMarks w) r = RestsAs p halts.Marked w r
+Shows p (Asks q w) r = RestsAs p (halts.Asks q) w r
 
 -- the machine comes to rest, and its rest shows this ending
 pub record Comes (p : Program) (c : Control) (s : Scene) (e : Ending) : Type 0 where
   pub steps : ℕ
   pub rest : Rest
   pub comes : exec p steps c s ≡ Some rest
-  pub shows : Shows e rest
+  pub shows : Shows p e rest
 
 abbrev pub scene_of : World → Cells → Scene
 scene_of w cells = record { cells = cells; marks = w.marks; replies = w.replies }

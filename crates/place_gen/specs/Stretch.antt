@@ -7,7 +7,7 @@ use Rattle.eu_base.specs.declared.operation.Change.{Change}
 use Rattle.eu_base.specs.declared.operation.Change.TheVariants.{Increase}
 use Rattle.eu_base.specs.declared.operation.Way.{Way}
 use Rattle.eu_base.specs.Operations.{operand_kinds, result_kind, change_kind}
-use Rattle.eu_base.specs.Requests.{request_size}
+use Rattle.eu_base.specs.Requests.{request_result, request_size}
 use Rattle.code_form.specs.declared.operand.OperandKind.{OperandKind}
 use Rattle.code_form.specs.declared.operand.OperandKind.TheVariants.{Value, Place}
 use Rattle.code_form.specs.declared.instr.Instr.{Instr}
@@ -16,7 +16,7 @@ use Rattle.code_form.specs.declared.instr.Instr.TheVariants.{Jump, False, When, 
 use Rattle.code_form.specs.declared.code.Line.{Line}
 use Rattle.code_form.specs.declared.code.Spot.{Spot}
 use Rattle.code_form.specs.Program.{line_of, deeper}
-use Rattle.code_form.specs.Valid.{with_result, cell_value}
+use Rattle.code_form.specs.Valid.{with_result, with_answer, cell_value}
 use Rattle.elan_types.specs.declared.core_phrase.PlacePhrase.{PlacePhrase}
 use Rattle.elan_types.specs.declared.core_phrase.Exit.{Exit as Exit'}
 use Rattle.elan_types.specs.declared.core_phrase.Exit.TheVariants as exits
@@ -205,6 +205,8 @@ value_code_step (t.ValuePhrase::Call n as' s) = call_code n (Some s) as'
 value_code_step (t.ValuePhrase::Refer n s) = refer_code n (Some s)
 value_code_step (t.Pick a i items s) = join a (join i (one (Pick items.count items.cells) (λ ks. Value s ∷ drop 2 ks)))
 value_code_step (t.Take a part s) = join a (one (Take part.of part.before part.cells) (λ ks. Value s ∷ drop 1 ks))
+value_code_step (t.ValuePhrase::Ask name as') =
+    join (all_code as') (one (Ask name) (λ ks. with_answer (request_result name) (drop (request_size name) ks)))
 
 abbrev pub actual_code_step : Layer Actual-F → Stretch
 actual_code_step (t.Value a) = a
@@ -222,7 +224,7 @@ action_code_step (t.Action::Select a arms us) = join a (select_code arms (all_co
 action_code_step (t.Loop while' us until) = turns_code (turn_code while' (all_code us) until (stays none))
 action_code_step (t.Count p from way limit while' us until) =
     join (store_code p (Cell kinds.Int) from) (counted_code p way limit (turn_code while' (all_code us) until))
-action_code_step (t.Ask name as') = join (all_code as') (one (Ask name) (drop (request_size name)))
+action_code_step (t.Action::Ask name as') = join (all_code as') (one (Ask name) (drop (request_size name)))
 action_code_step (t.ErrorStop a) = join a (one ErrorStop (drop 1))
 action_code_step (t.Action::Call n as') = call_code n None as'
 action_code_step (t.Action::Refer n) = refer_code n None

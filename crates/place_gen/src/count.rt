@@ -39,7 +39,9 @@ pub fn count_value(v: &ValuePhrase) -> usize
         ValuePhrase::After(units, a) => {
             count_actions(units.as_slice()).saturating_add(count_value(a.get()))
         }
-        ValuePhrase::Call(_, actuals, _) => count_actuals(actuals.as_slice()).saturating_add(1),
+        ValuePhrase::Call(_, actuals, _) | ValuePhrase::Ask(_, actuals) => {
+            count_actuals(actuals.as_slice()).saturating_add(1)
+        }
         ValuePhrase::Never(_) => 2,
         ValuePhrase::Refer(_, _) => 1,
         ValuePhrase::Pick(row, index, _, _) => count_value(row.get())

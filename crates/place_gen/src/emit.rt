@@ -101,6 +101,10 @@ fn add_value(out: &mut Draft, phrase: &ValuePhrase)
             add_value(out, whole.get());
             put_value(out, Instr::Take(part.of, part.before, part.cells), 1, shape);
         }
+        ValuePhrase::Ask(name, actuals) => {
+            add_actuals(out, actuals.as_slice());
+            put_request(out, *name, name.result_kind());
+        }
     }
 }
 
@@ -229,7 +233,7 @@ fn add_action(out: &mut Draft, action: &Action)
         }
         Action::Ask(name, actuals) => {
             add_actuals(out, actuals.as_slice());
-            put_request(out, *name);
+            put_request(out, *name, None);
         }
         Action::ErrorStop(text) => {
             add_value(out, text);

@@ -5,7 +5,7 @@ ghost use Rattle.eu_base.specs.Requests.{request_size};
 ghost use Rattle.eu_base.specs.declared.value.Kind.TheVariants as kinds;
 ghost use Rattle.code_form.specs.declared.operand.OperandKind.TheVariants as operand;
 ghost use Rattle.code_form.specs.declared.instr.Instr.TheVariants as instrs;
-ghost use Rattle.code_form.specs.Valid.{cell_value};
+ghost use Rattle.code_form.specs.Valid.{cell_value, with_answer};
 ghost use Rattle.place_gen.specs.Stretch.{one, keeps, pushes, whens_code, leave_instr, never_code};
 ghost use Rattle.place_gen.specs.Counted.{counted};
 ghost use Rattle.place_gen.specs.Makes.{Makes, MakesTurn};
@@ -154,11 +154,14 @@ pub fn put_operation(out: &mut Draft, operation: Operation)
     );
 }
 
-/// A request with the operands on top.
-pub fn put_request(out: &mut Draft, name: RequestName)
-    ensures { Makes (one (instrs.Ask name) (drop (request_size name))) out.old out.new }
+/// A request with the operands on top, which delivers a value of this kind or nothing.
+pub fn put_request(out: &mut Draft, name: RequestName, answer: Option<Kind>)
+    ensures { Makes (one (instrs.Ask name) (λ ks. with_answer answer (drop (request_size name) ks))) out.old out.new }
 {
-    out.add(Instr::Ask(name), name.size(), None);
+    match answer {
+        Some(kind) => out.add(Instr::Ask(name), name.size(), Some(cell_value(kind))),
+        None => out.add(Instr::Ask(name), name.size(), None),
+    }
 }
 
 /// Tests of labels, each of which jumps there where the number on top is the label.

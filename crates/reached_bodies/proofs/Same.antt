@@ -24,7 +24,7 @@ use Rattle.elan_types.specs.declared.core_phrase.Action.TheFolds.{fold-roll-Acti
 use Rattle.elan_types.specs.declared.core_phrase.Action.TheFolds.{fold-roll-Arm, fold-roll-ValueArm}
 use Rattle.elan_types.specs.Eval.{World, Outcome, Gives, Place, Calls, Reach, Run, Passed, AsValue, AsPlace, Labelled, bind, branch, or_stop, deliver}
 use Rattle.elan_types.specs.Eval.{holding_passed, the, all_slots, delivered, holds, selected, turns, while_true, until_true, then_on}
-use Rattle.elan_types.specs.Eval.{done, turn, go_on, step, step_to, limited, counted, stored, request, all, values, actuals, spend, content}
+use Rattle.elan_types.specs.Eval.{done, turn, go_on, step, step_to, limited, counted, stored, request, request_value, all, values, actuals, spend, content}
 use Rattle.elan_types.specs.Eval.{act, value, action_step, actual_step, place_step, value_step, arm_step, value_arm_step}
 use Rattle.reached_bodies.specs.Names as names
 use Rattle.reached_bodies.specs.Names.{Names}
@@ -285,6 +285,8 @@ module _ (c d : Calls) where
       ap2 (λ (x y : Fixed (List Value)). at' c (value_step (t.Pick (run x) (run y) items s))) (a.1 (left (names.in_value a.0) (names.in_value i.0) h))
       (i.1 (right (names.in_value a.0) (names.in_value i.0) h))
   value_here (t.Take a part s) h = ap (λ (x : Fixed (List Value)). at' c (value_step (t.Take (run x) part s))) (a.1 h)
+  value_here (t.ValuePhrase::Ask name as') h =
+      ap {B = Fixed (List Value)} (λ x t b k w. bind (x t b k w) (λ xs. request_value name xs (reach c t b k))) (actuals_same as' h)
 
   actual_here : (y : Below Actual-F)
       → AllAgree (names.actual_step (map-Actual _ _ _ _ _ _ _ _ _ _ _ _ names.in_action names.in_actual names.in_place names.in_value names.in_arm names.in_value_arm
@@ -345,7 +347,7 @@ module _ (c d : Calls) where
   action_here (t.Count p from way (Some a) None us (Some u)) h = counts_same p from way (Some a) None us (Some u) h
   action_here (t.Count p from way (Some a) (Some w) us None) h = counts_same p from way (Some a) (Some w) us None h
   action_here (t.Count p from way (Some a) (Some w) us (Some u)) h = counts_same p from way (Some a) (Some w) us (Some u) h
-  action_here (t.Ask name as') h = ap {B = Fixed (Unit {0})} (λ x t b k w. bind (x t b k w) (request name)) (actuals_same as' h)
+  action_here (t.Action::Ask name as') h = ap {B = Fixed (Unit {0})} (λ x t b k w. bind (x t b k w) (request name)) (actuals_same as' h)
   action_here (t.ErrorStop a) h = ap (λ (x : Fixed (List Value)). at' c (action_step (t.ErrorStop (run x)))) (a.1 h)
   action_here (t.Action::Call p as') h =
       ap2 {C = Fixed (Unit {0})} (λ x call t b k w. bind (x t b k w) (λ xs w. bind (call (all_slots xs) k w) (λ _. Gives tt)))

@@ -52,6 +52,7 @@ value_step (t.ValuePhrase::Call p as' s) = p ∷ all as'
 value_step (t.ValuePhrase::Refer p s) = p ∷ []
 value_step (t.Pick a i items s) = a ++ i
 value_step (t.Take a part s) = a
+value_step (t.ValuePhrase::Ask _ as') = all as'
 
 abbrev pub actual_step : Layer Actual-F → Names
 actual_step (t.Value a) = a
@@ -69,7 +70,7 @@ action_step (t.Action::Select a arms us) = a ++ (all arms ++ all us)
 action_step (t.Loop while' us until) = if_written while' ++ (all us ++ if_written until)
 action_step (t.Count p from way limit while' us until) =
     p ++ (from ++ (if_written limit ++ (if_written while' ++ (all us ++ if_written until))))
-action_step (t.Ask name as') = all as'
+action_step (t.Action::Ask _ as') = all as'
 action_step (t.ErrorStop a) = a
 action_step (t.Action::Call p as') = p ∷ all as'
 action_step (t.Action::Refer p) = p ∷ []

@@ -41,6 +41,7 @@ fn in_value(names: &mut List<usize>, value: &ValuePhrase) -> Result<(), NoMemory
             in_value(names, index.get())
         }
         ValuePhrase::Take(whole, _, _) => in_value(names, whole.get()),
+        ValuePhrase::Ask(_, actuals) => in_actuals(names, actuals.as_slice()),
     }
 }
 

@@ -1,5 +1,5 @@
 -- The tree of tasks.
-use Rattle.std.specs.Prelude.{ℕ, ◌+◌, Bool, not, ◌&&◌, nat_lt, nat_le, List, [], ◌∷◌, ◌++◌, bytes_eq, codes, filter, find, length, Option, None, Some}
+use Rattle.std.specs.Prelude.{ℕ, ◌+◌, Bool, not, ◌&&◌, nat_lt, nat_le, List, [], ◌∷◌, ◌++◌, bytes_eq, codes, filter, find, length, map, Option, None, Some}
 use Rattle.std.specs.Prelude.{if◌then◌else◌}
 use Rattle.std.specs.List.{list_any}
 use Rattle.task_numbers.specs.declared.number.TaskNo.{TaskNo}
@@ -81,6 +81,10 @@ younger (Some u) s = number_of (find (is_younger_brother u) s.tasks)
 
 abbrev pub brother : TaskNo → Tree → TaskNo
 brother t s = younger (with_number t s) s
+
+-- all sons, from the oldest
+abbrev pub sons : TaskNo → Tree → List TaskNo
+sons t s = map (λ u. u.number) (filter (has_father t) s.tasks)
 
 -- why no task of this name begins, the first reason that holds
 abbrev pub refusal : List ℕ → Tree → Option BeginError

@@ -107,6 +107,18 @@ impl TaskTree {
         }
     }
 
+    /// All sons of a task, from the oldest.
+    pub fn sons(&self, alloc: Global, task: TaskNo) -> Result<Vec<TaskNo>, NoMemory>
+        ensures { IfOk result (λ sons. sons.items ≡ spec.sons task self.now) }
+    {
+        let sons = self
+            .tasks
+            .iter()
+            .filter(|other| other.father.is(task))
+            .map(|son| son.number);
+        Ok(sons.collect(alloc)?)
+    }
+
     /// A son of a live task begins: it gets the next number, which is the result. `NameTaken`, `TreeFull` and `NumbersSpent`
     /// come exactly where a live task has the name, 16 tasks live, or the last number was used, and none of those before holds.
     /// A refusal changes nothing.

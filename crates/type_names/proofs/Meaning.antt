@@ -13,7 +13,7 @@ use Rattle.elan_types.specs.declared.elan_type.ElanType.TheOpen.{Row, Struct, Ow
 use Rattle.elan_types.specs.declared.elan_type.ElanType.TheViews.{out-roll-ElanType}
 use Rattle.elan_types.specs.declared.elan_type.FieldType.{FieldType}
 use Rattle.elan_types.specs.Types.{open_here, is_open, is_too_large}
-use Rattle.elan_types.proofs.Types.{int_closed, bool_closed, text_closed, open_open}
+use Rattle.elan_types.proofs.Types.{int_closed, bool_closed, text_closed, task_closed, open_open}
 use Rattle.elan_types.specs.declared.why.Why.TheVariants.{TooLarge}
 use Rattle.elan_tree.specs.declared.tree.Refinement.{Refinement}
 use Rattle.elan_tree.specs.declared.written_type.Name.{Name}
@@ -512,7 +512,7 @@ module _ (seen : List TypeName) (rs : List Refinement) (l : Looks) (less : (x : 
   is_meant_here (phrase.Int at) e = inl (record { same = refl; closed = int_closed })
   is_meant_here (phrase.Bool at) e = inl (record { same = refl; closed = bool_closed })
   is_meant_here (phrase.Text at) e = inl (record { same = refl; closed = text_closed })
-  is_meant_here (phrase.Task at) e = absurd cc
+  is_meant_here (phrase.Task at) e = inl (record { same = refl; closed = task_closed })
   is_meant_here (phrase.Dataspace at) e = absurd cc
   is_meant_here (phrase.Named n) e = name_means n e
   is_meant_here (phrase.Row at s of) e = row_is_meant at s of e

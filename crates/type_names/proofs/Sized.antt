@@ -64,6 +64,9 @@ bool_sized = ap is_sized (type_shape kinds.Truth) ∙ sized_cell kinds.Truth
 text_sized : IsSized types.Text
 text_sized = ap is_sized (type_shape kinds.Text) ∙ sized_cell kinds.Text
 
+task_sized : IsSized types.Task
+task_sized = ap is_sized (type_shape kinds.Task) ∙ sized_cell kinds.Task
+
 large_or : (t : ElanType) → IsSized t → IsSized (or_open t)
 large_or t e = by_test (is_too_large t)
   where
@@ -161,7 +164,7 @@ module _ (l : Looks) (sized : SizedBy l) where
   held_here (phrase.Int at) = int_sized
   held_here (phrase.Bool at) = bool_sized
   held_here (phrase.Text at) = text_sized
-  held_here (phrase.Task at) = open_sized
+  held_here (phrase.Task at) = task_sized
   held_here (phrase.Dataspace at) = open_sized
   held_here (phrase.Named n) = named_sized n.text
   held_here (phrase.Row at s of) = row_sized (size_of l s) (meant l of.0) (many s) of.1

@@ -159,6 +159,7 @@ module _ (seen : List TypeName) (refinements : List Refinement) where
   judged_step (phrase.Int at) = record { of = types.Int; faults = [] }
   judged_step (phrase.Bool at) = record { of = types.Bool; faults = [] }
   judged_step (phrase.Text at) = record { of = types.Text; faults = [] }
+  judged_step (phrase.Task at) = record { of = types.Task; faults = [] }
   judged_step (phrase.Named n) = name_judged n
   judged_step (phrase.Row at size t) =
       record { of = row_of (size_of (look seen) size) t.of; faults = row_fault at (size_of (look seen) size) t.of ++ size_faults size ++ t.faults }

@@ -77,6 +77,7 @@ module _ (look : List ℕ → Option Named) where
   meant_step (phrase.Int at) = types.Int
   meant_step (phrase.Bool at) = types.Bool
   meant_step (phrase.Text at) = types.Text
+  meant_step (phrase.Task at) = types.Task
   meant_step (phrase.Named n) = type_named (look n.text)
   meant_step (phrase.Row at size t) = row_of (size_of size) t
   meant_step (phrase.Struct at fields) = structure_of (flat_map (λ fs. fs) fields)

@@ -115,6 +115,7 @@ pub fn judge(alloc: Global, visible: Visible<'_>, of: &TypePhrase) -> Result<Jud
         TypePhrase::Int(_) => Ok(Judged::closed(ElanType::Int)),
         TypePhrase::Bool(_) => Ok(Judged::closed(ElanType::Bool)),
         TypePhrase::Text(_) => Ok(Judged::closed(ElanType::Text)),
+        TypePhrase::Task(_) => Ok(Judged::closed(ElanType::Task)),
         TypePhrase::Named(name) => name_judged(visible, name),
         TypePhrase::Row { at, size, of } => {
             let items = judge(alloc, visible, of.get())?;
@@ -125,9 +126,7 @@ pub fn judge(alloc: Global, visible: Visible<'_>, of: &TypePhrase) -> Result<Jud
             let fields = fields_judged(alloc, visible, fields.as_slice())?;
             structure_judged(alloc, *at, fields)
         }
-        TypePhrase::Task(_) | TypePhrase::Dataspace(_) => {
-            Ok(Judged::open(Some((0, Why::Unknown))))
-        }
+        TypePhrase::Dataspace(_) => Ok(Judged::open(Some((0, Why::Unknown)))),
     }
 }
 

@@ -85,7 +85,8 @@ values_in (actual.Place x s ∷ as') = values_in as'
 abbrev pub performed : ℕ → Callee → Option ElanType → List Actual → Verdict Meant
 performed at (Predefined (Operation o)) (Some t) as' = gives (Value at t (value.Apply o (values_in as')))
 performed at (Predefined (Change c)) r (actual.Place x s ∷ actual.Value v ∷ []) = gives (Done (action.Modify c x v ∷ []))
-performed at (Predefined (Request q)) r as' = gives (Done (action.Ask q as' ∷ []))
+performed at (Predefined (Request q)) (Some t) as' = gives (Value at t (value.Ask q as'))
+performed at (Predefined (Request q)) None as' = gives (Done (action.Ask q as' ∷ []))
 performed at (Predefined ErrorStop) r (actual.Value v ∷ []) = gives (Done (action.ErrorStop v ∷ []))
 performed at (Body n) (Some t) as' = gives (Value at t (value.Call n as' (shape_in t)))
 performed at (Body n) None as' = gives (Done (action.Call n as' ∷ []))

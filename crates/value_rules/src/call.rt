@@ -4,6 +4,7 @@ ghost use Rattle.std.specs.Prelude.{◌≡◌, ◌++◌, ◌∷◌, [], ℕ, IfO
 ghost use Rattle.elan_types.specs.declared.elan_type.ElanType.{ElanType as ElanTypes};
 ghost use Rattle.elan_types.specs.declared.core_phrase.Actual.{Actual as Actuals};
 ghost use Rattle.eu_base.specs.Operations.{result_kind};
+ghost use Rattle.eu_base.specs.Requests.{request_result};
 ghost use Rattle.elan_types.specs.Types.{shape_in, type_in};
 ghost use Rattle.elan_names.specs.Callees as callees;
 ghost use Rattle.elan_names.specs.Predefined as table;
@@ -28,7 +29,7 @@ use elan_names::predefined::Predefined;
 use elan_scope::scope::Scope;
 use elan_scope::trouble::Trouble;
 use elan_types::{Access, Action, Actual, Change, ElanType, Formal, Operation, ValuePhrase, Why};
-use eu_base::{List, NoMemory};
+use eu_base::{List, NoMemory, RequestName};
 use std::alloc::Global;
 
 // ---- what is given
@@ -185,13 +186,28 @@ fn stopped(alloc: Global, at: u32, actuals: List<Actual>) -> Judged
     }
 }
 
+// A request, for what it delivers where it does.
+fn requested(alloc: Global, at: u32, name: RequestName, actuals: List<Actual>) -> Judged
+    ensures { Tells result (spec.performed at (callees.Predefined (names.Request name)) (option_map type_in (request_result name)) actuals) }
+{
+    match name.result_kind() {
+        None => done(alloc, Action::Ask(name, actuals)),
+        Some(kind) => delivering(
+            alloc,
+            at,
+            ElanType::of_kind(kind),
+            ValuePhrase::Ask(name, actuals),
+        ),
+    }
+}
+
 fn predefined(alloc: Global, at: u32, callee: Predefined, actuals: List<Actual>) -> Judged
     ensures { Tells result (spec.performed at (callees.Predefined callee) (table.result callee) actuals) }
 {
     match callee {
         Predefined::Operation(operation) => operated(alloc, at, operation, actuals),
         Predefined::Change(change) => changed(alloc, at, change, actuals),
-        Predefined::Request(name) => done(alloc, Action::Ask(name, actuals)),
+        Predefined::Request(name) => requested(alloc, at, name, actuals),
         Predefined::ErrorStop => stopped(alloc, at, actuals),
     }
 }

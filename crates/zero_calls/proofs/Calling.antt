@@ -89,6 +89,7 @@ blank_bare : (k : Kind) → cell_blocks (held_of (blank_of k)) ≡ 0
 blank_bare kinds.Int = refl
 blank_bare kinds.Truth = refl
 blank_bare kinds.Text = refl
+blank_bare kinds.Task = refl
 
 variables_bare : (variables : List Kind) → content_blocks (map (λ k. held_of (blank_of k)) variables) ≡ 0
 variables_bare [] = refl

@@ -182,6 +182,7 @@ pub kind_told : (k : Kind) (x : Cell) → is_of (HoldsValue k) x ≡ true → Ho
 kind_told kinds.Int x e = word_bare x e
 kind_told kinds.Truth x e = word_bare x e
 kind_told kinds.Text x e = has_text x e
+kind_told kinds.Task x e = word_bare x e
 
 -- one more cell is freed
 module _ (holds : Cells → Type 0) (forgets : Forgets holds) (from k : ℕ) (low : from ≤ k) (cells : Cells) where
@@ -215,6 +216,7 @@ pub held_text : (v : Value) → HoldsText (is_text (held_of v)) (held_of v)
 held_text (item.Int z) = refl
 held_text (item.Truth b) = refl
 held_text (item.Text t) = record { text = t; is = refl }
+held_text (item.Task n) = refl
 
 pub text_stands : (at k : ℕ) (values : List Value) (v : Value) (cells : Cells) → Stand at (map held_of values) cells → k < length values
     → v ≡ get_or values k v → HoldsText (is_text (held_of v)) (cells (run_cell (at + k)))
@@ -426,12 +428,14 @@ told None = Word 0
 told (Some (HoldsValue kinds.Int)) = Word 0
 told (Some (HoldsValue kinds.Truth)) = Word 0
 told (Some (HoldsValue kinds.Text)) = Letters []
+told (Some (HoldsValue kinds.Task)) = Word 0
 told (Some HoldsPlace) = Word 0
 
 told_is : (k : CellUse) → is_of k (told (Some k)) ≡ true
 told_is (HoldsValue kinds.Int) = refl
 told_is (HoldsValue kinds.Truth) = refl
 told_is (HoldsValue kinds.Text) = refl
+told_is (HoldsValue kinds.Task) = refl
 told_is HoldsPlace = refl
 
 abbrev pub as_told : List CellUse → ℕ → Cells

@@ -35,6 +35,7 @@ abbrev pub is_text_kind : Kind → Bool
 is_text_kind kinds.Int = false
 is_text_kind kinds.Truth = false
 is_text_kind kinds.Text = true
+is_text_kind kinds.Task = false
 
 -- what follows a spent mark, where nothing is waited for
 abbrev pub paid_stage : After → Position → Scene → Stage

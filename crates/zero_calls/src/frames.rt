@@ -141,7 +141,7 @@ fn write_value<M: Memory>(m: &mut M, cell: usize, value: &Value) -> Result<Set, 
     ensures follows { M.follows m.old m.new }
 {
     match value {
-        Value::Int(_) | Value::Truth(_) => {
+        Value::Int(_) | Value::Truth(_) | Value::Task(_) => {
             write_number(m, cell, value.cell())?;
             Ok(Set::Done)
         }

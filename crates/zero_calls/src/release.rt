@@ -207,7 +207,7 @@ fn is_text(kind: Kind) -> bool
     ensures { result ≡ is_text_kind kind }
 {
     match kind {
-        Kind::Int | Kind::Truth => false,
+        Kind::Int | Kind::Truth | Kind::Task => false,
         Kind::Text => true,
     }
 }

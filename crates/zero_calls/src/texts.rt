@@ -97,7 +97,7 @@ fn is_text(value: &Value) -> bool
     ensures { result ≡ is_text (held_of value.now) }
 {
     match value {
-        Value::Int(_) | Value::Truth(_) => false,
+        Value::Int(_) | Value::Truth(_) | Value::Task(_) => false,
         Value::Text(_) => true,
     }
 }

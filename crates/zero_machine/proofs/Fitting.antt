@@ -182,8 +182,8 @@ module _ {E : Type 0} (p : Program) (c : Position) (r : Reply) (result : Result 
       by (Err e) h = tt
 
   -- as with any other
-  other_fits : Fits p (given c replies.Done)
-  other_fits = record {
+  other_fits : (some : Reply) → Fits p (given c some)
+  other_fits some = record {
     kinds = fits.kinds;
     spot = fits.spot;
     floor = fits.floor;
@@ -202,10 +202,11 @@ module _ {E : Type 0} (p : Program) (c : Position) (r : Reply) (result : Result 
       where
         by : GoesOrRests q r c c' next → Fits p c' × Spends marks marks c'.waits
         by (inl goes) =
-            let x = goes marks in
-            stage_good p (given c replies.Done) (scene_of x.0 marks) other_fits (λ some. absurd (cc some))
-            (takes_reply (instr_of (slice_get p.lines c.pc)) replies.Done c x.0)
-            (stays_fit.takes p c replies.Done x.0 valid other_fits) None c' (scene_of x.1.0 marks) (x.1.1 ∙ reply_is replies.Done x.0 marks)
+            let x = goes.1 marks in
+            let fit = other_fits goes.0 in
+            stage_good p (given c goes.0) (scene_of x.0 marks) fit (λ some. absurd (cc some))
+            (takes_reply (instr_of (slice_get p.lines c.pc)) goes.0 c x.0)
+            (stays_fit.takes p c goes.0 x.0 valid fit) None c' (scene_of x.1.0 marks) (x.1.1 ∙ reply_is goes.0 x.0 marks)
         by (inr rests) =
             subst (λ (d : Control). Fits p d × Spends marks marks d.waits) (sym rests.0)
             (fits, record { fewer = omega arith; paid = λ some. absurd (cc some) })
@@ -217,8 +218,8 @@ module _ {E : Type 0} (p : Program) (c : Position) (r : Reply) (result : Result 
         by : GoesOrRests q r c c' next
             → steps_left p.lines marks (length c'.position.frames) c'.position.pc < steps_left p.lines marks (length c.frames) c.pc
         by (inl goes) =
-            let x = goes marks in
-            reply_nearer p valid c replies.Done c' (scene_of x.0 marks) (scene_of x.1.0 marks) (x.1.1 ∙ reply_is replies.Done x.0 marks)
+            let x = goes.1 marks in
+            reply_nearer p valid c goes.0 c' (scene_of x.0 marks) (scene_of x.1.0 marks) (x.1.1 ∙ reply_is goes.0 x.0 marks)
         by (inr rests) = let f : Some rests.1.0 ≡ None = sym rests.1.1 ∙ on in absurd (cc f)
 
   pub reply_fits : IfOk result Answered → OnOk result (Fits p c')

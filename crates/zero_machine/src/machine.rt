@@ -95,6 +95,8 @@ pub fn reply<M: Memory>(_code: &Code, s: &mut State, _m: &mut M, r: Reply) -> Re
     s.waits = match r {
         Reply::Done => Waits::Given(Reply::Done),
         Reply::Text(text) => Waits::Given(Reply::Text(text)),
+        Reply::Task(task) => Waits::Given(Reply::Task(task)),
+        Reply::Truth(truth) => Waits::Given(Reply::Truth(truth)),
         Reply::Stopped(stop) => Waits::Refused(stop),
     };
     Ok(())

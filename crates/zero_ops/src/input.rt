@@ -1,12 +1,12 @@
-//! What is read out of a line that was typed.
-ghost use Rattle.eu_base.specs.Requests.{read_as};
+//! What is read out of a line that was typed, and out of an answer.
+ghost use Rattle.eu_base.specs.Requests.{read_as, answer_of};
 ghost use Rattle.zero_ops.specs.Given.{Gives};
 
 use crate::convert::number_in;
 use crate::error::OpError;
 use crate::limit::fitting;
 use crate::trim::trimmed;
-use eu_base::{RequestName, Value};
+use eu_base::{Reply, RequestName, Value};
 use std::alloc::Global;
 
 /// What a request reads out of a line for its variable; 0 where it has none.
@@ -17,10 +17,23 @@ pub fn read_as(alloc: Global, name: RequestName, line: &[u8]) -> Result<Value, O
         RequestName::GetNumber => Ok(Value::Int(number_in(line))),
         RequestName::GetText => fitting(alloc, trimmed(line)),
         RequestName::GetLine => fitting(alloc, line),
-        RequestName::PutNumber
-        | RequestName::PutText
-        | RequestName::Write
-        | RequestName::PutLine
-        | RequestName::Line => Ok(Value::Int(0)),
+        _ => Ok(Value::Int(0)),
+    }
+}
+
+/// What a request delivers of a reply; 0 where it delivers nothing.
+pub fn answer_of(alloc: Global, name: RequestName, reply: &Reply) -> Result<Value, OpError>
+    ensures { Gives result (answer_of name reply.now) }
+{
+    match name {
+        RequestName::Myself
+        | RequestName::Father
+        | RequestName::FatherOf
+        | RequestName::Son
+        | RequestName::Brother
+        | RequestName::Named => Ok(Value::Task(reply.task())),
+        RequestName::NameOf => fitting(alloc, reply.text()),
+        RequestName::Exists => Ok(Value::Truth(reply.truth())),
+        _ => Ok(Value::Int(0)),
     }
 }

@@ -15,7 +15,7 @@ mod texts;
 mod trim;
 
 pub use error::{Fault, OpError};
-pub use input::read_as;
+pub use input::{answer_of, read_as};
 pub use join::append;
 pub use numbers::{change_number, on_numbers};
 pub use operate::apply;

@@ -1,4 +1,4 @@
-//! Operations on numbers and truth values.
+//! Operations on numbers, truth values and tasks.
 ghost use Rattle.std.specs.Prelude.{◌≡◌, ◌≢◌, [], ◌∷◌, false, pos, ◌+ℤ◌, ◌-ℤ◌, ◌*ℤ◌, int_div};
 ghost use Rattle.eu_base.specs.declared.value.Kind.TheVariants as kinds;
 ghost use Rattle.eu_base.specs.declared.value.Value.TheVariants.{Int};
@@ -8,7 +8,7 @@ ghost use Rattle.zero_ops.specs.Given.{given_of, given_number, has_texts};
 use crate::error::Fault;
 use eu_base::{Change, Operation, Value};
 
-/// The result of an operation on numbers and truth values. Where it has fewer operands, it does not look at the others.
+/// The result of an operation on numbers, truth values and tasks. Where it has fewer operands, it does not look at the others.
 // Inlined, since a call would pass the values and the result through memory at each operation of a program.
 #[inline(always)]
 pub fn on_numbers(operation: Operation, left: &Value, right: &Value) -> Result<Value, Fault>
@@ -40,6 +40,9 @@ pub fn on_numbers(operation: Operation, left: &Value, right: &Value) -> Result<V
         Operation::And => Ok(Value::Truth(left.truth() && right.truth())),
         Operation::Or => Ok(Value::Truth(left.truth() || right.truth())),
         Operation::Not => Ok(Value::Truth(!left.truth())),
+        Operation::NoTask => Ok(Value::Task(0)),
+        Operation::SameTask => Ok(Value::Truth(left.task() == right.task())),
+        Operation::OtherTask => Ok(Value::Truth(left.task() != right.task())),
         Operation::OnTexts(_) => unreachable!(),
     }
 }

@@ -206,12 +206,18 @@ same|1|0|0
 AND|1|1|1
 OR|0|0|0
 NOT|0|1
+niltask|0
+one|0|0|1
+one|4294967295|4294967295|1
+one|1|4294967295|0
+other|65536|0|1
+other|7|7|0
 ";
 
 /// The names that stand in the table, in the order of the arms of `operation`.
 const NAMES: &str =
     "plus minus add subtract times DIV MOD abs min max maxint below same AND OR NOT join repeat equal unequal \
-less lesseq more moreeq SUB LENGTH pos subtext from code char text int";
+less lesseq more moreeq SUB LENGTH pos subtext from code char text int niltask one other";
 
 fn place_of(name: &str) -> usize {
     let mut place = 0usize;
@@ -243,6 +249,9 @@ fn operation(name: &str) -> Operation {
         13 => Operation::And,
         14 => Operation::Or,
         15 => Operation::Not,
+        33 => Operation::NoTask,
+        34 => Operation::SameTask,
+        35 => Operation::OtherTask,
         place => Operation::OnTexts(on_texts(place)),
     }
 }
@@ -329,6 +338,7 @@ fn value(alloc: Global, kind: Kind, cell: &str) -> Value {
         Kind::Int => Value::Int(number(cell)),
         Kind::Truth => Value::Truth(cell == "1"),
         Kind::Text => Value::Text(written(alloc, cell)),
+        Kind::Task => Value::Task(cell.parse().unwrap_or(0)),
     }
 }
 
@@ -353,6 +363,7 @@ fn shown(alloc: Global, value: Value) -> Bytes {
         Value::Int(number) => or_refused(alloc, decimal(alloc, i64::from(number))),
         Value::Truth(truth) => letters(alloc, 0, if truth { b"1" } else { b"0" }),
         Value::Text(text) => text,
+        Value::Task(task) => or_refused(alloc, decimal(alloc, i64::from(task))),
     }
 }
 
@@ -411,5 +422,5 @@ fn right_rows(alloc: Global) -> usize {
 
 #[test]
 fn each_operation_gives_what_the_table_says(rt: HostRuntime) {
-    assert!(rt; right_rows(rt.alloc()) == 199);
+    assert!(rt; right_rows(rt.alloc()) == 205);
 }

@@ -88,7 +88,7 @@ impl Stack {
             result ≡ bytes_fit (bytes_on (operand.Value value.now ∷ rest) (bytes_of self.now.frames)) }
     {
         match value {
-            Value::Int(_) | Value::Truth(_) => true,
+            Value::Int(_) | Value::Truth(_) | Value::Task(_) => true,
             Value::Text(text) => text.as_slice().len() <= OPERAND_BYTES as usize - self.bytes,
         }
     }
@@ -101,6 +101,27 @@ impl Stack {
             result + bytes_on rest (bytes_of self.now.frames) ≡ OPERAND_BYTES }
     {
         OPERAND_BYTES as usize - self.bytes + CELL_BYTES
+    }
+
+    // The bytes that are pending without the newest operands.
+    fn bytes_behind(&self, count: usize) -> usize
+        requires { count ≤ length self.now.ops }
+        ensures { result ≡ bytes_on (drop count self.now.ops) (bytes_of self.now.frames) }
+    {
+        let kept = self.operands.len() - count;
+        bytes_without(self.bytes, &self.operands.as_slice()[kept..])
+    }
+
+    /// Whether there is room for an operand in place of the newest ones.
+    pub fn has_room_behind(&self, count: usize, operand: &Operand) -> bool
+        requires few { count ≤ length self.now.ops }
+        requires bytes { bytes_fit (bytes_on self.now.ops (bytes_of self.now.frames)) ≡ true }
+        ensures { result ≡ bytes_fit (bytes_on (operand.now ∷ drop count self.now.ops) (bytes_of self.now.frames)) }
+    {
+        match operand.bytes().checked_add(self.bytes_behind(count)) {
+            Some(bytes) => bytes <= OPERAND_BYTES as usize,
+            None => false,
+        }
     }
 
     /// Pushes an operand that has room.

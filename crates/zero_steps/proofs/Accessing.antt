@@ -124,6 +124,7 @@ number_put (Letters t) new number e c a ops = absurd (cc e)
 number_put (Word n) (item.Int z) number e c a ops = refl
 number_put (Word n) (item.Truth b) number e c a ops = absurd number
 number_put (Word n) (item.Text t) number e c a ops = absurd number
+number_put (Word n) (item.Task t) number e c a ops = absurd number
 
 -- "" goes behind "" in the cell of a text
 empty_put : (v : Value) (c : Position) (a : Addr) (ops : List Operand)
@@ -131,6 +132,7 @@ empty_put : (v : Value) (c : Position) (a : Addr) (ops : List Operand)
 empty_put (item.Int z) c a ops = refl
 empty_put (item.Truth b) c a ops = refl
 empty_put (item.Text t) c a ops = refl
+empty_put (item.Task t) c a ops = refl
 
 module _ (v old new : Value) (seen : Cell) (a : Addr) (c : Value → Position) (ops : List Operand) where
   of_number : (by : Change) → changed by old v ≡ Ok new → ((go : Value → Move) → on_cell (change_kind by) seen go ≡ go old) → IsOf kinds.Int new
@@ -162,6 +164,7 @@ pub puts_on : (w : Value) (c : Position) (a : Addr) (ops : List Operand)
 puts_on (item.Int z) c a ops = refl
 puts_on (item.Truth b) c a ops = refl
 puts_on (item.Text t) c a ops = refl
+puts_on (item.Task t) c a ops = refl
 
 module _ (before after : Cells → Type 0) where
   -- the same, of a state that has these operands

@@ -9,7 +9,7 @@ use Rattle.eu_base.specs.declared.value.Value.{Value}
 use Rattle.eu_base.specs.declared.value.Value.TheVariants as item
 use Rattle.eu_base.specs.declared.operation.Change.{Change}
 use Rattle.eu_base.specs.declared.operation.Change.TheVariants.{Append}
-use Rattle.eu_base.specs.Values.{text_of, cell_of, number_in, truth_in}
+use Rattle.eu_base.specs.Values.{text_of, cell_of, number_in, truth_in, task_in}
 use Rattle.eu_base.specs.Operations.{change_kind, changed, fitting}
 use Rattle.eu_base.specs.Room.{most_blocks}
 use Rattle.eu_base.specs.Cells.{Cell, Free, Word, Letters, Cells, held_of, written, cell_blocks, area_blocks, HasText, Puts}
@@ -39,6 +39,13 @@ truth_read before a n b is answers = record {
   known = λ cells h. word_known (λ n. item.Truth (truth_in n)) (cells a) n (item.Truth b) (ap item.Truth is) (λ m e. answers cells m h e);
   seen = Word n;
   is = λ go. ap (λ b. go (item.Truth b)) (sym is);
+}
+
+pub task_read : (before : Cells → Type 0) (a : Addr) (n t : ℕ) → t ≡ task_in n → Answers before a n → Reads before a kinds.Task (item.Task t)
+task_read before a n t is answers = record {
+  known = λ cells h. word_known (λ n. item.Task (task_in n)) (cells a) n (item.Task t) (ap item.Task is) (λ m e. answers cells m h e);
+  seen = Word n;
+  is = λ go. ap (λ t. go (item.Task t)) (sym is);
 }
 
 text_known : (x : Cell) (t : List ℕ) → ((u : List ℕ) → x ≡ Letters u → t ≡ u) → IsRead kinds.Text x (item.Text t)

@@ -5,7 +5,7 @@ use Rattle.eu_base.specs.declared.value.Value.{Value}
 use Rattle.eu_base.specs.declared.operation.Operation.{Operation}
 use Rattle.eu_base.specs.declared.operation.Operation.TheVariants.{OnTexts}
 use Rattle.eu_base.specs.Operations.{Given, operand, operand_kinds, result_kind, result_of}
-use Rattle.eu_base.specs.declared.value.Value.TheVariants.{Int, Truth, Text}
+use Rattle.eu_base.specs.declared.value.Value.TheVariants.{Int, Truth, Text, Task}
 use Rattle.eu_base.specs.declared.stop.Stop.TheVariants as stops
 use Rattle.eu_base.specs.Room.{value_bytes, bytes_fit}
 use Rattle.eu_base.specs.Values.{IsOf}
@@ -70,17 +70,19 @@ stops_so op vs c rest g s s' next taken g_is gives rest_is frames d is cells p m
     ∙ ap (λ g. or_halt g (λ v. pushes c (Of v) rest cells)) (sym g_is)
     ∙ ap (λ r. or_halt g (λ v. pushes c (Of v) r cells)) (sym rest_is) ∙ gives.1.1.1 c cells frames))
 
--- a number or a truth value takes no more room than what it is made of
+-- a number, a truth value or a task takes no more room than what it is made of
 number_bytes : (op : Operation) (v : Value) → has_texts op ≡ false → IsOf (result_kind op) v → value_bytes v ≡ 8
 number_bytes (OnTexts op) v h of = let f : ⊥ = cc in absurd f
 number_bytes _ (Int z) h of = refl
 number_bytes _ (Truth b) h of = refl
 number_bytes _ (Text t) h of = absurd of
+number_bytes _ (Task n) h of = refl
 
 at_least : (v : Value) → 8 ≤ value_bytes v
 at_least (Int z) = omega arith
 at_least (Truth b) = omega arith
 at_least (Text t) = omega arith
+at_least (Task n) = omega arith
 
 more_on : (more ops : List Operand) (held : ℕ) → bytes_on ops held ≤ bytes_on (more ++ ops) held
 more_on [] ops held = omega arith

@@ -1,10 +1,11 @@
 -- A request goes on with its reply.
-use Rattle.std.proofs.Common.{◌≡◌, ℕ, ◌+◌, ◌≤◌, List, [], ◌∷◌, length, take, drop, Some, refl, sym, ap, ◌∙◌, subst, inl, inr}
-use Rattle.std.specs.Prelude.{reverse, Option, None, Ok, Err, MatchOption, pos}
+use Rattle.std.proofs.Common.{◌≡◌, ℕ, ◌+◌, ◌≤◌, Bool, true, false, cond, List, [], ◌∷◌, length, take, drop, Some, refl, sym, ap, ◌∙◌, subst, inl, inr}
+use Rattle.std.specs.Prelude.{reverse, Option, None, is_some, Ok, Err, MatchOption, pos}
 use Rattle.eu_base.specs.declared.address.Addr.{Addr}
 use Rattle.eu_base.specs.declared.value.Value.{Value}
 use Rattle.eu_base.specs.declared.value.Value.TheVariants as item
 use Rattle.eu_base.specs.declared.stop.Stop.{Stop}
+use Rattle.eu_base.specs.declared.stop.Stop.TheVariants.{OperandRoom}
 use Rattle.eu_base.specs.declared.set.Set.{Set}
 use Rattle.eu_base.specs.declared.set.Set.TheVariants.{Done, HeapFull}
 use Rattle.eu_base.specs.declared.request.RequestName.{RequestName}
@@ -12,47 +13,51 @@ use Rattle.eu_base.specs.declared.request.RequestName.TheVariants.{PutNumber, Pu
 use Rattle.eu_base.specs.declared.request.Reply.{Reply}
 use Rattle.eu_base.specs.declared.request.Reply.TheVariants as replies
 use Rattle.eu_base.specs.declared.value.Kind.{Kind}
-use Rattle.eu_base.specs.Requests.{request_kinds, request_size, reply_text, read_as}
+use Rattle.eu_base.specs.Requests.{request_kinds, request_result, request_size, reply_text, read_as, answer_of}
 use Rattle.eu_base.specs.Cells.{Cells, IsCell, held_of, written}
 use Rattle.code_form.specs.declared.halt.Halt.TheVariants as halts
 use Rattle.code_form.specs.declared.operand.Operand.{Operand}
-use Rattle.code_form.specs.declared.operand.Operand.TheVariants.{Place as At}
+use Rattle.code_form.specs.declared.operand.Operand.TheVariants.{Value as Of, Place as At}
 use Rattle.code_form.specs.declared.instr.Instr.TheVariants.{Ask}
-use Rattle.code_form.specs.Machine.{Position, Control, free, given, On, at, or_halt, keeps, takes_reply, move_stage}
+use Rattle.code_form.specs.Machine.{Position, Control, free, given, On, Over, Halts, at, goes, or_halt, pushes, bytes_on, bytes_of, keeps, settles, takes_reply, move_stage}
 use Rattle.zero_state.specs.Finds.{behind_values, IsVariable}
 use Rattle.zero_state.specs.declared.next.Next.{Next}
-use Rattle.zero_state.specs.declared.next.Next.TheVariants.{On as On', TextRoom}
+use Rattle.zero_state.specs.declared.next.Next.TheVariants.{On as On', TextRoom, OperandRoom as NoRoom}
 use Rattle.zero_state.specs.Stepping.{stage_of, scene_of, halt_of, Does}
 use Rattle.zero_state.specs.Emptied.{emptied}
 use Rattle.zero_state.proofs.Making.{done}
 use Rattle.zero_state.proofs.Stacks.{taken_all}
 use Rattle.zero_steps.specs.Reading.{PutsTaken}
-use Rattle.zero_steps.specs.Replying.{IsAt, PutsIn, replied_by, Replies}
+use Rattle.zero_steps.specs.Replying.{IsAt, PutsIn, replied_by, Replies, Answers}
 use Rattle.zero_steps.proofs.Accessing.{Keeps, puts_on, put_done, put_full}
+use Rattle.eu_base.specs.Room.{bytes_fit}
 
 -- what is read out of no text is "" or a number
 read_empty : (name : RequestName) → (v : Value) × (read_as name [] ≡ Ok (emptied v))
-read_empty PutNumber = (item.Int (pos 0), refl)
-read_empty PutText = (item.Int (pos 0), refl)
-read_empty Write = (item.Int (pos 0), refl)
-read_empty PutLine = (item.Int (pos 0), refl)
-read_empty Line = (item.Int (pos 0), refl)
 read_empty GetNumber = (item.Int (pos 0), refl)
 read_empty GetText = (item.Text [], refl)
 read_empty GetLine = (item.Text [], refl)
+read_empty _ = (item.Int (pos 0), refl)
 
-module _ (before after : Cells → Type 0) (name : RequestName) (r : Reply) (c : Position) (le : request_size name ≤ length c.ops) where
+module _ (before after : Cells → Type 0) (name : RequestName) (r : Reply) (c : Position) (le : request_size name ≤ length c.ops)
+    (none : request_result name ≡ None) where
   abbrev rest : List Operand
   rest = drop (request_size name) c.ops
 
   abbrev next : Control
   next = free (at c (c.pc + 1) rest)
 
-  -- it takes the operands on top, where this is read
+  -- it takes the operands on top
+  settled : (r : Reply) (cells : Cells) → takes_reply (Some (Ask name)) r c cells
+      ≡ or_halt (read_as name (reply_text r)) (λ v. keeps c (behind_values name c.ops) v rest cells)
+  settled r cells =
+      taken_all (request_size name) c.ops _ le ∙ ap (λ o. settles name o r c (reverse (take (request_size name) c.ops)) rest cells) none
+
+  -- where this is read
   takes : (r : Reply) (cells : Cells) (v : Value) → read_as name (reply_text r) ≡ Ok v
       → takes_reply (Some (Ask name)) r c cells ≡ keeps c (behind_values name c.ops) v rest cells
   takes r cells v read =
-      taken_all (request_size name) c.ops _ le ∙ ap (λ g. or_halt g (λ v. keeps c (behind_values name c.ops) v rest cells)) read
+      settled r cells ∙ ap (λ g. or_halt g (λ v. keeps c (behind_values name c.ops) v rest cells)) read
 
   -- what cannot be read stops it
   pub reply_stops : (after_is : Keeps before after) (stop : Stop) (how : Next) → read_as name (reply_text r) ≡ Err stop
@@ -62,23 +67,23 @@ module _ (before after : Cells → Type 0) (name : RequestName) (r : Reply) (c :
         done after (halt_of how) (given c r) marks (replied_by name r marks c cells) cells (kept cells h)
         (ap (λ o. stage_of o (given c r) (scene_of cells marks)) is
         ∙ ap (λ m. move_stage m (given c r) (scene_of cells marks))
-        (sym (taken_all (request_size name) c.ops _ le ∙ ap (λ g. or_halt g (λ v. keeps c (behind_values name c.ops) v rest cells)) read)));
+        (sym (settled r cells ∙ ap (λ g. or_halt g (λ v. keeps c (behind_values name c.ops) v rest cells)) read)));
     leads = inr (refl, (halts.Stopped stop, is));
   }
 
   -- a request without a variable goes on
   reply_goes : Keeps before after → (v : Value) → read_as name (reply_text r) ≡ Ok v → behind_values name c.ops ≡ []
       → Replies before after name r c next On'
-  reply_goes kept v read none = record {
+  reply_goes kept v read empty = record {
     does = λ marks cells h.
         done after (halt_of On') next marks (replied_by name r marks c cells) cells (kept cells h) (so r v read marks cells);
-    leads = inl (λ marks. ((λ _. held_of v), ((λ _. held_of v), so replies.Done (emptied (read_empty name).0) (read_empty name).1 marks (λ _. held_of v))));
+    leads = inl (replies.Done, λ marks. ((λ _. held_of v), ((λ _. held_of v), so replies.Done (emptied (read_empty name).0) (read_empty name).1 marks (λ _. held_of v))));
   }
     where
       so : (r : Reply) (v : Value) → read_as name (reply_text r) ≡ Ok v → (marks : ℕ) (cells : Cells)
           → On next (scene_of cells marks) ≡ replied_by name r marks c cells
       so r v read marks cells =
-          ap (λ m. move_stage m (given c r) (scene_of cells marks)) (sym (takes r cells v read ∙ ap (λ os. keeps c os v rest cells) none))
+          ap (λ m. move_stage m (given c r) (scene_of cells marks)) (sym (takes r cells v read ∙ ap (λ os. keeps c os v rest cells) empty))
 
   module _ (v : Value) (read : read_as name (reply_text r) ≡ Ok v) (a : Addr) (os : List Operand) (is : behind_values name c.ops ≡ At a ∷ os) where
     keeps_it : (r : Reply) (v : Value) → read_as name (reply_text r) ≡ Ok v → (cells : Cells)
@@ -94,14 +99,17 @@ module _ (before after : Cells → Type 0) (name : RequestName) (r : Reply) (c :
       leads =
           let w = read_empty name in
           let seen : Cells = λ _. held_of (emptied w.0) in
-          inl (λ marks. (
-            seen,
-            (
-              written seen a (held_of (emptied w.0)),
-              ap (λ m. move_stage m (given c replies.Done) (scene_of seen marks))
-                  (sym (keeps_it replies.Done (emptied w.0) w.1 seen ∙ puts_on w.0 c a rest)),
+          inl (
+            replies.Done,
+            λ marks. (
+              seen,
+              (
+                written seen a (held_of (emptied w.0)),
+                ap (λ m. move_stage m (given c replies.Done) (scene_of seen marks))
+                    (sym (keeps_it replies.Done (emptied w.0) w.1 seen ∙ puts_on w.0 c a rest)),
+              ),
             ),
-          ));
+          );
     }
 
     -- or it has no room
@@ -124,6 +132,61 @@ module _ (before after : Cells → Type 0) (name : RequestName) (r : Reply) (c :
       → PutsIn before after o (held_of v) set → Replies before after name r c (given c r) TextRoom
   reply_unkept v read None set is so put = let f : Done ≡ HeapFull = sym put.0 ∙ so in absurd (cc f)
   reply_unkept v read (Some a) set is so put = reply_full v read a is.0 is.1 (subst (PutsTaken before after a (held_of v)) so put)
+
+-- what a request delivers is of a kind
+pub delivered : (o : Option Kind) → is_some o ≡ true → (k : Kind) × (o ≡ Some k)
+delivered None e = absurd (cc e)
+delivered (Some k) e = (k, refl)
+
+-- a request that delivers a value
+module _ (name : RequestName) (r : Reply) (c : Position) (le : request_size name ≤ length c.ops) (k : Kind) (is : request_result name ≡ Some k) where
+  abbrev below : List Operand
+  below = drop (request_size name) c.ops
+
+  -- it takes the operands on top
+  answers : (cells : Cells) → takes_reply (Some (Ask name)) r c cells ≡ or_halt (answer_of name r) (λ v. pushes c (Of v) below cells)
+  answers cells =
+      taken_all (request_size name) c.ops _ le ∙ ap (λ o. settles name o r c (reverse (take (request_size name) c.ops)) below cells) is
+
+  gives_it : (v : Value) (t : Bool) → answer_of name r ≡ Ok v → bytes_fit (bytes_on (Of v ∷ below) (bytes_of c.frames)) ≡ t → (cells : Cells)
+      → takes_reply (Some (Ask name)) r c cells ≡ cond t (goes c (Of v ∷ below) cells) (Halts OperandRoom)
+  gives_it v t e room cells =
+      answers cells ∙ ap (λ g. or_halt g (λ v. pushes c (Of v) below cells)) e
+      ∙ ap (λ t. cond t (goes c (Of v ∷ below) cells) (Halts OperandRoom)) room
+
+  -- it is pushed
+  pub answer_pushed : (v : Value) → answer_of name r ≡ Ok v → bytes_fit (bytes_on (Of v ∷ below) (bytes_of c.frames)) ≡ true
+      → Answers name r c (free (at c (c.pc + 1) (Of v ∷ below))) On'
+  answer_pushed v e room = record { does = so; leads = inl (r, λ marks. ((λ _. held_of v), ((λ _. held_of v), so marks (λ _. held_of v)))) }
+    where
+      so : (marks : ℕ) (cells : Cells) → On (free (at c (c.pc + 1) (Of v ∷ below))) (scene_of cells marks) ≡ replied_by name r marks c cells
+      so marks cells = ap (λ m. move_stage m (given c r) (scene_of cells marks)) (sym (gives_it v true e room cells))
+
+  -- or stops
+  stays : (how : Next) (stop : Stop) → halt_of how ≡ Some (halts.Stopped stop) → ((cells : Cells) → takes_reply (Some (Ask name)) r c cells ≡ Halts stop)
+      → Answers name r c (given c r) how
+  stays how stop is move = record {
+    does = λ marks cells.
+        ap (λ o. stage_of o (given c r) (scene_of cells marks)) is ∙ ap (λ m. move_stage m (given c r) (scene_of cells marks)) (sym (move cells));
+    leads = inr (refl, (halts.Stopped stop, is));
+  }
+
+  pub answer_full : (v : Value) → answer_of name r ≡ Ok v → bytes_fit (bytes_on (Of v ∷ below) (bytes_of c.frames)) ≡ false
+      → Answers name r c (given c r) NoRoom
+  answer_full v e room = stays NoRoom OperandRoom refl (λ cells. gives_it v false e room cells)
+
+  pub answer_stops : (stop : Stop) (how : Next) → answer_of name r ≡ Err stop → halt_of how ≡ Some (halts.Stopped stop)
+      → Answers name r c (given c r) how
+  answer_stops stop how e is =
+      stays how stop is (λ cells. answers cells ∙ ap (λ g. or_halt g (λ v. pushes c (Of v) below cells)) e)
+
+-- over any memory that holds still what it held
+pub over_memory : (before after : Cells → Type 0) → Keeps before after → (name : RequestName) (r : Reply) (c : Position) (c' : Control) (next : Next)
+    → Answers name r c c' next → Replies before after name r c c' next
+over_memory before after kept name r c c' next a = record {
+  does = λ marks cells h. done after (halt_of next) c' marks (replied_by name r marks c cells) cells (kept cells h) (a.does marks cells);
+  leads = a.leads;
+}
 
 -- what is behind the values among the operands on top
 pub behind_is : (name : RequestName) (ops top : List Operand) (kinds : List Kind) (n : ℕ) → top ≡ reverse (take n ops) → n ≡ request_size name

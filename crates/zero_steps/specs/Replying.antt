@@ -14,7 +14,7 @@ use Rattle.code_form.specs.declared.halt.Halt.{Halt}
 use Rattle.code_form.specs.declared.instr.Instr.TheVariants.{Ask}
 use Rattle.code_form.specs.Machine.{Position, Control, given, Stage, On, takes_reply, move_stage}
 use Rattle.zero_state.specs.declared.next.Next.{Next}
-use Rattle.zero_state.specs.Stepping.{scene_of, halt_of, Does}
+use Rattle.zero_state.specs.Stepping.{stage_of, scene_of, halt_of, Does}
 
 -- the place that comes first, or none where there is nothing
 abbrev pub IsAt : List Operand → Option Addr → Type 0
@@ -33,11 +33,16 @@ replied_by name r marks c cells = move_stage (takes_reply (Some (Ask name)) r c 
 -- the machine goes on as the definition does with some reply and for some cells, or rests where it was
 abbrev pub GoesOrRests : RequestName → Reply → Position → Control → Next → Type 0
 GoesOrRests name r c c' next =
-    ((marks : ℕ) → (cells : Cells) × ((now : Cells) × (On c' (scene_of now marks) ≡ replied_by name replies.Done marks c cells)))
+    ((some : Reply) × ((marks : ℕ) → (cells : Cells) × ((now : Cells) × (On c' (scene_of now marks) ≡ replied_by name some marks c cells))))
     ⊎ ((c' ≡ given c r) × ((h : Halt) × (halt_of next ≡ Some h)))
 
 -- a request goes on with its reply, over a memory that held this before it and holds that after it: for all that memory is known to hold
 -- as the definition does
 pub record Replies (before after : Cells → Type 0) (name : RequestName) (r : Reply) (c : Position) (c' : Control) (next : Next) : Type 0 where
   pub does : (marks : ℕ) (cells : Cells) → before cells → Does after (halt_of next) c' marks (replied_by name r marks c cells)
+  pub leads : GoesOrRests name r c c' next
+
+-- a request goes on with its reply, and memory stays as it is
+pub record Answers (name : RequestName) (r : Reply) (c : Position) (c' : Control) (next : Next) : Type 0 where
+  pub does : (marks : ℕ) (cells : Cells) → stage_of (halt_of next) c' (scene_of cells marks) ≡ replied_by name r marks c cells
   pub leads : GoesOrRests name r c c' next

@@ -1,7 +1,7 @@
 //! Requests.
 ghost use Rattle.std.specs.Prelude.{◌≡◌, ◌≤◌, IfOk, Some, length, map};
 ghost use Rattle.eu_base.specs.Cells.{Cells};
-ghost use Rattle.eu_base.specs.Operations.{number_at, text_at};
+ghost use Rattle.eu_base.specs.Operations.{number_at, text_at, task_at};
 ghost use Rattle.eu_base.specs.Requests.{request_size, request_of};
 ghost use Rattle.code_form.specs.Program.{Program};
 ghost use Rattle.code_form.specs.declared.instr.Instr.TheVariants as instrs;
@@ -58,6 +58,17 @@ fn request(alloc: Global, name: RequestName, operands: &[Operand]) -> Result<Req
             ends: true,
         }),
         RequestName::GetNumber | RequestName::GetText | RequestName::GetLine => Ok(Request::Input),
+        RequestName::Named => Ok(Request::Named(Bytes::from(alloc, text_at(operands, 0))?)),
+        RequestName::Myself => Ok(Request::Myself),
+        RequestName::Father => Ok(Request::Father(None)),
+        RequestName::FatherOf => Ok(Request::Father(Some(task_at(operands, 0)))),
+        RequestName::Son => Ok(Request::Son(task_at(operands, 0))),
+        RequestName::Brother => Ok(Request::Brother(task_at(operands, 0))),
+        RequestName::NameOf => Ok(Request::Name(task_at(operands, 0))),
+        RequestName::Exists => Ok(Request::Exists(task_at(operands, 0))),
+        RequestName::EndOf => Ok(Request::End(Some(task_at(operands, 0)))),
+        RequestName::End => Ok(Request::End(None)),
+        RequestName::Break => Ok(Request::Break),
     }
 }
 
@@ -78,5 +89,15 @@ fn text_at(operands: &[Operand], place: usize) -> &[u8]
     match operands.get(place) {
         Some(Operand::Value(value)) => value.text(),
         _ => &[],
+    }
+}
+
+// The number of a task at a place; that of niltask where none is there.
+fn task_at(operands: &[Operand], place: usize) -> u32
+    ensures { result ≡ task_at (map value_in operands.now) place }
+{
+    match operands.get(place) {
+        Some(Operand::Value(value)) => value.task(),
+        _ => 0,
     }
 }

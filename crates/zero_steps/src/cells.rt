@@ -117,7 +117,7 @@ fn value_blocks(value: &Value) -> usize
     ensures { result ≡ value_blocks value.now }
 {
     match value {
-        Value::Int(_) | Value::Truth(_) => 0,
+        Value::Int(_) | Value::Truth(_) | Value::Task(_) => 0,
         Value::Text(text) => text_blocks(text.as_slice().len()),
     }
 }
@@ -161,7 +161,7 @@ fn old_blocks<M: Memory>(m: &mut M, at: Addr, value: &Value) -> Result<usize, Me
     ensures follows { M.follows m.old m.new }
 {
     match value {
-        Value::Int(_) | Value::Truth(_) => Ok(0),
+        Value::Int(_) | Value::Truth(_) | Value::Task(_) => Ok(0),
         Value::Text(_) => Ok(text_blocks(m.text(at)?.as_slice().len())),
     }
 }
@@ -191,7 +191,7 @@ fn put_one<M: Memory>(m: &mut M, at: Addr, value: &Value, text: bool) -> Result<
     ensures follows { M.follows m.old m.new }
 {
     match value {
-        Value::Int(_) | Value::Truth(_) => m.set_cell(at, value.cell()),
+        Value::Int(_) | Value::Truth(_) | Value::Task(_) => m.set_cell(at, value.cell()),
         Value::Text(new) => {
             let _set = m.set_text(at, shown(new.as_slice(), text))?;
             Ok(())

@@ -3,7 +3,7 @@ ghost use Rattle.std.specs.Prelude.{IfOk, OnOk};
 ghost use Rattle.eu_base.specs.Cells.{Cells, IsCell, held_of, HasFaultCause};
 ghost use Rattle.zero_steps.specs.Reading.{Reads, PutsTaken};
 
-use eu_base::{Addr, Kind, MemFault, Memory, Set, Value, number_in, truth_in};
+use eu_base::{Addr, Kind, MemFault, Memory, Set, Value, number_in, task_in, truth_in};
 
 /// The value of a kind that stands in a cell.
 #[inline(always)]
@@ -18,6 +18,7 @@ pub fn value_at<M: Memory>(m: &mut M, at: Addr, kind: Kind) -> Result<Value, Mem
         Kind::Int => Ok(Value::Int(number_in(m.cell(at)?))),
         Kind::Truth => Ok(Value::Truth(truth_in(m.cell(at)?))),
         Kind::Text => Ok(Value::Text(m.text(at)?)),
+        Kind::Task => Ok(Value::Task(task_in(m.cell(at)?))),
     }
 }
 
@@ -30,7 +31,7 @@ pub fn put<M: Memory>(m: &mut M, at: Addr, value: &Value) -> Result<Set, MemFaul
     ensures follows { M.follows m.old m.new }
 {
     match value {
-        Value::Int(_) | Value::Truth(_) => {
+        Value::Int(_) | Value::Truth(_) | Value::Task(_) => {
             m.set_cell(at, value.cell())?;
             Ok(Set::Done)
         }

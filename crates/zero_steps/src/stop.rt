@@ -29,7 +29,7 @@ fn text_of(alloc: Global, value: Value) -> Bytes
     ensures { result ≡ text_of value }
 {
     match value {
-        Value::Int(_) | Value::Truth(_) => Bytes::new(alloc),
+        Value::Int(_) | Value::Truth(_) | Value::Task(_) => Bytes::new(alloc),
         Value::Text(text) => text,
     }
 }

@@ -31,5 +31,6 @@ returns-clause-unit c = λ packet ts has reads.
       kind_is = ap is_some shown ∙ kind_read env packet ts t reads;
       means = means t has reads meant;
       shows = subst (Shows env core) (sym shown) (shown_is env t core meant);
+      is_shown = (ts, t, has, reads, shown);
       typed = c.in_ok-core.ensures.typed;
     }

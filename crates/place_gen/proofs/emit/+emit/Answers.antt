@@ -4,9 +4,10 @@ use Rattle.std.proofs.lemmas.Grind.{common_steps}
 use borrow.Author.Tests.{tests}
 use Rattle.elan_types.specs.Eval.{Labelled}
 use Rattle.elan_types.specs.declared.core_phrase.Action.TheFolds.{the_lemmas}
+use Rattle.eu_base.specs.declared.value.Kind.{Kind}
 use Rattle.eu_base.specs.declared.value.Kind.TheVariants as kinds
 use Rattle.eu_base.specs.Operations.{operand_kinds, result_kind}
-use Rattle.eu_base.specs.Requests.{request_size}
+use Rattle.eu_base.specs.Requests.{request_result, request_size}
 use Rattle.eu_base.specs.declared.operation.Way.{Way}
 use Rattle.elan_types.specs.declared.core_phrase.PlacePhrase.{PlacePhrase}
 use Rattle.elan_types.specs.declared.core_phrase.ValuePhrase.{ValuePhrase}
@@ -14,7 +15,7 @@ use Rattle.elan_types.specs.declared.core_phrase.Action.{Action}
 use Rattle.elan_types.specs.declared.core_phrase.Action.TheVariants as action
 use Rattle.eu_base.specs.declared.shape.Shape.TheVariants.{Cell}
 use Rattle.code_form.specs.declared.operand.OperandKind.TheVariants as operand
-use Rattle.code_form.specs.Valid.{cell_value}
+use Rattle.code_form.specs.Valid.{cell_value, with_answer}
 use Rattle.code_form.specs.declared.instr.Instr.TheVariants.{Mark, Index, Field, Do, Jump, False, Ask, ErrorStop}
 use Rattle.place_gen.specs.Counted.{counted}
 use Rattle.place_gen.specs.Stretch.{Stretch, one, keeps, join, if_code, all_code, select_code, whens_code, while_code, until_code, exit_join, stays}
@@ -66,6 +67,15 @@ add_value-returns-in-Apply t c =
     let e : join (all_code (map value_code c.as_slice.result.now)) (one (Do op) (λ ks. cell_value (result_kind op) ∷ drop (length (operand_kinds op)) ks))
     ≡ value_code c.args.phrase.now = search (rules, the_lemmas, c.in-Apply.is, c.as_slice.ensures) in
     subst (λ f. Makes f c.args.out.now c.put_operation.new.out) e (join_makes c.add_values.ensures c.put_operation.ensures)
+
+pub add_value-returns-in-Ask : goal.add_value-returns-in-Ask
+add_value-returns-in-Ask t c =
+    let name = c.in-Ask.name in
+    let g = λ (o : Option Kind). one (Ask name) (λ ks. with_answer o (drop (request_size name) ks)) in
+    let e : join (all_code (map actual_code c.as_slice-in-Ask.result.now)) (g (request_result name)) ≡ value_code c.args.phrase.now =
+    search (rules, the_lemmas, c.in-Ask.is, c.as_slice-in-Ask.ensures) in
+    subst (λ f. Makes f c.args.out.now c.put_request.new.out) e
+    (join_makes c.add_actuals-in-Ask.ensures (subst (λ o. Makes (g o) c.add_actuals-in-Ask.new.out c.put_request.new.out) c.result_kind.ensures c.put_request.ensures))
 
 pub add_value-returns-in-If : goal.add_value-returns-in-If
 add_value-returns-in-If t c =

@@ -12,6 +12,9 @@ take_reply-requires-clause-finds g c =
     let fits = fits_given p (control_of s) c.requires.given.0 c.requires.given.1 c.requires.fits in
     reply_finds p c.len-size.ensures.valid (position_of s) c.requires.given.0 fits c.in-Ask.name (ap (λ i. Some i) (sym c.in-Ask.is) ∙ c.instr.ensures)
 
+pub take_reply-requires-clause-room : goal.take_reply-requires-clause-room
+take_reply-requires-clause-room g c = c.requires.fits.bytes
+
 pub returns-clause-fits : goal.returns-clause-fits
 returns-clause-fits g c =
     let p = c.args.code.now in

@@ -1,0 +1,8 @@
+pub mod Passing
+pub mod Staying
+pub mod Reaching
+pub mod Beginning
+pub mod Keeping
+pub mod Standing
+pub mod Tasking
+pub mod Framed

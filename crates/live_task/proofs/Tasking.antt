@@ -1,0 +1,219 @@
+-- A task that stands for one of the source machine.
+use Rattle.std.proofs.Common.{◌≡◌, ℕ, List, [], length, Option, Some, None, refl, sym, ap, ◌∙◌, subst}
+use Rattle.eu_base.specs.declared.value.Kind.{Kind}
+use Rattle.eu_base.specs.declared.stop.Stop.{Stop}
+use Rattle.eu_base.specs.declared.stop.Stop.TheVariants.{Halted}
+use Rattle.eu_base.specs.declared.request.Request.{Request}
+use Rattle.eu_base.specs.declared.request.Reply.{Reply}
+use Rattle.page_pool.specs.Pool.{Pages}
+use Rattle.eu_base.specs.declared.address.Area.TheVariants.{Packets}
+use Rattle.eu_base.specs.Cells.{Free}
+use Rattle.space_memory.specs.Memories.{MemoryData, HoldsAll, new_memory}
+use Rattle.code_form.specs.declared.halt.Halt.{Halt}
+use Rattle.code_form.specs.declared.halt.Halt.TheVariants as halts
+use Rattle.code_form.specs.Runs.{asked}
+use Rattle.elan_types.specs.Eval.{World}
+use Rattle.elan_types.specs.Command.{Ending, Ended, Stopped, OutOfMarks, Asks}
+use Rattle.source_machine.specs.Stores.{Store, new_store}
+use Rattle.source_machine.specs.Tasks.{Command, Doing, Idle, Entering, Running, Own, ending, world_of, store_in, own_variables, request_of, with_reply, with_reply_to, replied, with_doing}
+use Rattle.live_task.specs.Stands.{HoldSpaces, none, Keeps, Left, Leaves, RunsFor, RestsFor, DoesAs, StandsFor, StandsOver, IsOver, EndsAs, WentAs, WentOn, HaltedAs}
+use Rattle.live_task.specs.declared.job.Job.{Job}
+use Rattle.live_task.specs.declared.task.Task.{Task}
+use Rattle.live_task.specs.declared.task.Doing.TheVariants as does
+use Rattle.live_task.specs.declared.task.Went.{Went}
+use Rattle.live_task.specs.declared.task.Went.TheVariants as went
+use Rattle.live_task.proofs.Beginning.{no_variables}
+use Rattle.live_task.proofs.Standing.{many_own, asks_now, left_now}
+
+same_job : (a b : Job) → does.Running a ≡ does.Running b → a ≡ b
+same_job a b e = cc
+
+-- a task with another memory, that runs this
+abbrev pub running : Task → MemoryData → Job → Task
+running task memory job = record task { memory = memory; doing = does.Running job }
+
+-- a task that stands for one that runs no command runs none, and one that stands for one that runs a command runs it
+module _ (kinds : List Kind) (pages : Pages) (task : Task) (own : Own) (h : StandsFor kinds pages task own) where
+  -- what its job stands for
+  pub runs_for : (job : Job) → task.doing ≡ does.Running job → (c : Command) × (own.doing ≡ Running c) × RunsFor kinds pages task.memory job c
+  runs_for job is = by own.doing refl h.does
+    where
+      by : (d : Doing) → own.doing ≡ d → DoesAs kinds pages task d → (c : Command) × (own.doing ≡ Running c) × RunsFor kinds pages task.memory job c
+      by (Idle store) e k = absurd (cc (k.0, is))
+      by (Entering name lines store) e k = absurd (cc (k.0, is))
+      by (Running c) e k = (c, e, subst (λ j. RunsFor kinds pages task.memory j c) (same_job k.0 job (sym k.1 ∙ is)) k.2)
+
+  pub asks_none : ((job : Job) → task.doing ≡ does.Running job → ⊥) → request_of own.doing ≡ None
+  asks_none not = by own.doing h.does
+    where
+      by : (d : Doing) → DoesAs kinds pages task d → request_of d ≡ None
+      by (Idle store) k = refl
+      by (Entering name lines store) k = refl
+      by (Running c) k = absurd (not k.0 k.1)
+
+  pub asks_it : (job : Job) → task.doing ≡ does.Running job → request_of own.doing ≡ asked job.run.waits
+  asks_it job is =
+      let r = runs_for job is in
+      ap request_of r.1 ∙ sym (asks_now kinds pages task.memory job r.0 r.2)
+
+  -- it went on with no command
+  pub went_not : (left : ℕ) → ((job : Job) → task.doing ≡ does.Running job → ⊥) → WentOn kinds pages task left left went.NotRunning own own.doing
+  went_not left not = by own.doing h.does
+    where
+      by : (d : Doing) → DoesAs kinds pages task d → WentOn kinds pages task left left went.NotRunning own d
+      by (Idle store) k = (refl, refl, h)
+      by (Entering name lines store) k = (refl, refl, h)
+      by (Running c) k = absurd (not k.0 k.1)
+
+  pub halted_not : ((job : Job) → task.doing ≡ does.Running job → ⊥) → HaltedAs kinds pages task went.NotRunning own own.doing
+  halted_not not = by own.doing h.does
+    where
+      by : (d : Doing) → DoesAs kinds pages task d → HaltedAs kinds pages task went.NotRunning own d
+      by (Idle store) k = (refl, h)
+      by (Entering name lines store) k = (refl, h)
+      by (Running c) k = absurd (not k.0 k.1)
+
+  -- a reply to a task that asks nothing
+  pub unasked : (reply : Reply) → request_of own.doing ≡ None → StandsFor kinds pages task (with_doing (replied reply own.doing) own)
+  unasked reply nothing =
+      subst (λ q. StandsFor kinds pages task (with_doing (with_reply_to q reply own.doing) own)) (sym nothing) h
+
+-- a command is over
+module _ (kinds : List Kind) (middle new : Pages) (was now : Task) (own : Own) (c : Command) (w : World) (stop : Option Stop) (how : Went) (job : Job)
+    (unit : job.unit ≡ c.unit) (packets : was.packets ≡ own.packets) (many : own_variables c ≡ length kinds)
+    (ends : (how ≡ went.Over job.unit job.code stop) × (now ≡ record was { memory = now.memory; doing = does.Idle })
+    × ((kinds inserted : List Kind) (store : Store) → Left kinds inserted middle was.memory store → Leaves kinds inserted new now.memory store))
+    (left : Left kinds c.unit.core.inserted middle was.memory (store_in c w)) where
+  pub over_is : IsOver how c stop
+  over_is = subst (λ (x : Went). IsOver x c stop) (sym ends.0) (unit, refl)
+
+  pub stands_over : StandsOver kinds new now own c w
+  stands_over = record {
+    packets = ap (λ (t : Task). t.packets) ends.1 ∙ packets;
+    idle = ap (λ (t : Task). t.doing) ends.1;
+    own_are = many;
+    leaves = ends.2 kinds c.unit.core.inserted (store_in c w) left;
+  }
+
+-- a task that went on: its job rests so, over a memory and pages
+module _ (kinds : List Kind) (old middle : Pages) (task : Task) (memory : MemoryData) (own : Own) (h : StandsFor kinds old task own) (job job' : Job)
+    (is : task.doing ≡ does.Running job) (left left' : ℕ) (halt : Halt)
+    (rests : (kinds : List Kind) (c : Command) → RunsFor kinds old task.memory job c → RestsFor kinds middle memory job' left left' halt c (ending c left)) where
+  goes : (how : Went) (new : Pages) (now : Task)
+      → ((c : Command) → RunsFor kinds old task.memory job c → (e : Ending) → RestsFor kinds middle memory job' left left' halt c e
+      → WentAs kinds new now left left' how own c e) → WentOn kinds new now left left' how own own.doing
+  goes how new now each =
+      let r = runs_for kinds old task own h job is in
+      subst (λ d. WentOn kinds new now left left' how own d) (sym r.1) (each r.0 r.2 (ending r.0 left) (rests kinds r.0 r.2))
+
+  pub went_marked : halt ≡ halts.Marked → WentOn kinds middle (running task memory job') left left' went.Marked own own.doing
+  went_marked marked = goes went.Marked middle (running task memory job') by
+    where
+      by : (c : Command) → RunsFor kinds old task.memory job c → (e : Ending) → RestsFor kinds middle memory job' left left' halt c e
+          → WentAs kinds middle (running task memory job') left left' went.Marked own c e
+      by c r (Ended w) s = absurd (cc (s.0, marked))
+      by c r (Stopped stop w) s = absurd (cc (s.0, marked))
+      by c r (OutOfMarks w) s = (refl, s.1, record { packets = h.packets; does = (job', refl, s.2) })
+      by c r (Asks q w) s = absurd (cc (s.0, marked))
+
+  pub went_asks : (q : Request) → halt ≡ halts.Asks q → WentOn kinds middle (running task memory job') left left' (went.Asks q) own own.doing
+  went_asks q asks = goes (went.Asks q) middle (running task memory job') by
+    where
+      by : (c : Command) → RunsFor kinds old task.memory job c → (e : Ending) → RestsFor kinds middle memory job' left left' halt c e
+          → WentAs kinds middle (running task memory job') left left' (went.Asks q) own c e
+      by c r (Ended w) s = absurd (cc (s.0, asks))
+      by c r (Stopped stop w) s = absurd (cc (s.0, asks))
+      by c r (OutOfMarks w) s = absurd (cc (s.0, asks))
+      by c r (Asks q' w) s =
+          let same : q ≡ q' = cc (s.0, asks) in
+          (ap went.Asks same, s.1, record { packets = h.packets; does = (job', refl, s.2) })
+
+  module _ (new : Pages) (now : Task) (how : Went) (unit : job'.unit ≡ job.unit) where
+    pub went_ended : halt ≡ halts.Ended → EndsAs middle new (running task memory job') now None how (does.Running job')
+        → WentOn kinds new now left left' how own own.doing
+    went_ended ended ends = goes how new now by
+      where
+        by : (c : Command) → RunsFor kinds old task.memory job c → (e : Ending) → RestsFor kinds middle memory job' left left' halt c e
+            → WentAs kinds new now left left' how own c e
+        by c r (Ended w) s =
+            let u : job'.unit ≡ c.unit = unit ∙ r.reaches.unit in (
+              over_is kinds middle new (running task memory job') now own c w None how job' u h.packets (many_own kinds old task.memory job c r) ends s.1,
+              stands_over kinds middle new (running task memory job') now own c w None how job' u h.packets (many_own kinds old task.memory job c r) ends s.1,
+            )
+        by c r (Stopped stop w) s = absurd (cc (s.0, ended))
+        by c r (OutOfMarks w) s = absurd (cc (s.0, ended))
+        by c r (Asks q w) s = absurd (cc (s.0, ended))
+
+    pub went_stopped : (stop : Stop) → halt ≡ halts.Stopped stop → EndsAs middle new (running task memory job') now (Some stop) how (does.Running job')
+        → WentOn kinds new now left left' how own own.doing
+    went_stopped stop stopped ends = goes how new now by
+      where
+        by : (c : Command) → RunsFor kinds old task.memory job c → (e : Ending) → RestsFor kinds middle memory job' left left' halt c e
+            → WentAs kinds new now left left' how own c e
+        by c r (Ended w) s = absurd (cc (s.0, stopped))
+        by c r (Stopped stop' w) s =
+            let u : job'.unit ≡ c.unit = unit ∙ r.reaches.unit in
+            let same : stop ≡ stop' = cc (s.0, stopped) in
+            let so = (over_is kinds middle new (running task memory job') now own c w (Some stop) how job' u h.packets (many_own kinds old task.memory job c r) ends s.1) in (
+              subst (λ (x : Stop). IsOver how c (Some x)) same so,
+              stands_over kinds middle new (running task memory job') now own c w (Some stop) how job' u h.packets (many_own kinds old task.memory job c r) ends s.1,
+            )
+        by c r (OutOfMarks w) s = absurd (cc (s.0, stopped))
+        by c r (Asks q w) s = absurd (cc (s.0, stopped))
+
+-- a task that is halted
+pub halted : (kinds : List Kind) (old new : Pages) (task now : Task) (own : Own) (how : Went) (job : Job) → StandsFor kinds old task own
+    → task.doing ≡ does.Running job → EndsAs old new task now (Some Halted) how (does.Running job) → HaltedAs kinds new now how own own.doing
+halted kinds old new task now own how job h is ends =
+    let r = runs_for kinds old task own h job is in
+    let left = left_now kinds old task.memory job r.0 r.2 in
+    subst (λ d. HaltedAs kinds new now how own d) (sym r.1) (
+      over_is kinds old new task now own r.0 (world_of (ending r.0 0)) (Some Halted) how job r.2.reaches.unit h.packets (many_own kinds old task.memory job r.0 r.2) ends left,
+      stands_over kinds old new task now own r.0 (world_of (ending r.0 0)) (Some Halted) how job r.2.reaches.unit h.packets (many_own kinds old task.memory job r.0 r.2) ends left,
+    )
+
+-- a task that gets a reply
+pub answered : (kinds : List Kind) (old new : Pages) (task : Task) (memory : MemoryData) (own : Own) (job job' : Job) (q : Request) (reply : Reply)
+    → StandsFor kinds old task own → task.doing ≡ does.Running job → asked job.run.waits ≡ Some q
+    → ((kinds : List Kind) (c : Command) → RunsFor kinds old task.memory job c → RunsFor kinds new memory job' (with_reply reply c))
+    → StandsFor kinds new (running task memory job') (with_doing (replied reply own.doing) own)
+answered kinds old new task memory own job job' q reply h is asks takes =
+    let r = runs_for kinds old task own h job is in
+    let some : request_of own.doing ≡ Some q = asks_it kinds old task own h job is ∙ asks in
+    let same : replied reply own.doing ≡ Running (with_reply reply r.0) =
+    ap (λ (o : Option Request). with_reply_to o reply own.doing) some ∙ ap (λ (d : Doing). with_reply_to (Some q) reply d) r.1 in
+    subst (λ (d : Doing). StandsFor kinds new (running task memory job') (with_doing d own)) (sym same)
+    (record { packets = h.packets; does = (job', refl, takes kinds r.0 r.2) })
+
+-- an idle task that starts a command
+pub started : (kinds : List Kind) (old new : Pages) (task : Task) (memory : MemoryData) (own : Own) (store : Store) (job : Job) (c : Command)
+    → StandsFor kinds old task own → own.doing ≡ Idle store → (Keeps kinds old task.memory store → RunsFor kinds new memory job c)
+    → StandsFor kinds new (running task memory job) (with_doing (Running c) own)
+started kinds old new task memory own store job c h is starts =
+    let k : DoesAs kinds old task (Idle store) = subst (λ (d : Doing). DoesAs kinds old task d) is h.does in
+    record { packets = h.packets; does = (job, refl, starts k.1) }
+
+-- a task that has nothing
+pub new_stands : (pages : Pages) (task : Task) → task.packets ≡ [] → task.memory ≡ new_memory → task.doing ≡ does.Idle
+    → HoldsAll pages task.memory (λ _. Free) → StandsFor [] pages task (record { packets = []; doing = Idle new_store })
+new_stands pages task packets memory idle holds = record {
+  packets = packets;
+  does = (
+    idle,
+    record {
+      variables =
+          record {
+            cells = λ _. Free;
+            holds = holds;
+            packets = no_variables Packets (λ _. Free) (λ x. refl);
+            command = λ x. refl;
+          };
+      spaces =
+          record {
+            spaces = subst (λ ms. HoldSpaces pages ms []) (sym (ap (λ (m : MemoryData). m.spaces) memory)) none;
+            last = ap (λ (m : MemoryData). m.last) memory;
+            names = ap (λ (m : MemoryData). m.names) memory;
+          };
+    },
+  );
+}

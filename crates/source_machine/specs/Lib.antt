@@ -1,0 +1,9 @@
+pub mod Stores
+pub mod Tasks
+pub mod Systems
+pub mod Ends
+pub mod Serving
+pub mod Monitor
+pub mod Turns
+pub mod Supervisor
+pub mod Events

@@ -1,0 +1,99 @@
+-- What a task does.
+use Rattle.std.specs.Prelude.{ℕ, ◌+◌, ◌-◌, Bool, true, false, List, [], ◌∷◌, ◌++◌, length, take, Option, Some, None}
+use Rattle.eu_base.specs.declared.request.Request.{Request}
+use Rattle.eu_base.specs.declared.request.Reply.{Reply}
+use Rattle.elan_types.specs.Eval.{World}
+use Rattle.elan_types.specs.Command.{Ending, Ended, Stopped, OutOfMarks, Asks, evaluate}
+use Rattle.packet_store.specs.declared.unit.Compiled.{Compiled}
+use Rattle.source_machine.specs.Stores.{Store}
+
+-- A command: the text or the start procedure, with the packets of the task and what it means; what the task kept when the command started;
+-- the replies that it got; and the marks that it spent.
+pub record Command : Type 0 where
+  pub unit : Compiled
+  pub before : Store
+  pub replies : List Reply
+  pub marks : ℕ
+
+-- a task is idle, or a text is entered line by line under a name, or it runs a command
+pub data Doing : Type 0 where
+  Idle : Store → Doing
+  Entering : List ℕ → List (List ℕ) → Store → Doing
+  Running : Command → Doing
+
+-- the packets of a task, by their numbers in order, and what it does
+pub record Own : Type 0 where
+  pub packets : List ℕ
+  pub doing : Doing
+
+abbrev pub starting : Compiled → Store → Command
+starting unit store = record { unit = unit; before = store; replies = []; marks = 0 }
+
+abbrev pub with_reply : Reply → Command → Command
+with_reply r c = record c { replies = c.replies ++ r ∷ [] }
+
+-- ---- evaluation
+
+-- how a command stands with so many marks more than it has spent
+abbrev pub ending : Command → ℕ → Ending
+ending c left = evaluate c.unit.core c.before.variables (c.marks + left) c.replies
+
+abbrev pub world_of : Ending → World
+world_of (Ended w) = w
+world_of (Stopped s w) = w
+world_of (OutOfMarks w) = w
+world_of (Asks q w) = w
+
+-- what is kept in a world: of the variables those of a packet that is being inserted stand last
+abbrev pub store_in : Command → World → Store
+store_in c w = record c.before { variables = w.packets }
+
+-- without the variables of a packet that is being inserted
+abbrev pub settled : ℕ → Store → Store
+settled n store = record store { variables = take n store.variables }
+
+abbrev pub own_variables : Command → ℕ
+own_variables c = length c.before.variables
+
+-- what a task keeps where it stands
+abbrev pub now : Doing → Store
+now (Idle s) = s
+now (Entering name lines s) = s
+now (Running c) = settled (own_variables c) (store_in c (world_of (ending c 0)))
+
+-- a command that was evaluated with so many marks more: those that are left were not spent
+abbrev pub spent : ℕ → World → Command → Command
+spent left w c = record c { marks = (c.marks + left) - w.marks }
+
+-- ---- waiting
+
+abbrev pub request_in : Ending → Option Request
+request_in (Asks q w) = Some q
+request_in _ = None
+
+-- the request that a command makes with the marks that it has spent: it waits for the reply
+abbrev pub request_of : Doing → Option Request
+request_of (Idle s) = None
+request_of (Entering name lines s) = None
+request_of (Running c) = request_in (ending c 0)
+
+-- a reply is given to the request that is made, and else to none
+abbrev pub with_reply_to : Option Request → Reply → Doing → Doing
+with_reply_to (Some q) r (Running c) = Running (with_reply r c)
+with_reply_to _ r d = d
+
+abbrev pub replied : Reply → Doing → Doing
+replied r d = with_reply_to (request_of d) r d
+
+-- ---- questions
+
+abbrev pub is_running : Doing → Bool
+is_running (Running c) = true
+is_running _ = false
+
+abbrev pub command_of : Doing → Option Command
+command_of (Running c) = Some c
+command_of _ = None
+
+abbrev pub with_doing : Doing → Own → Own
+with_doing d o = record o { doing = d }

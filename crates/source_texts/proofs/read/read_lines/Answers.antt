@@ -1,0 +1,23 @@
+use Rattle.std.proofs.Common.{◌≡◌, ◌+◌, ◌++◌, sym, ap, ◌∙◌, arith}
+use Rattle.eu_base.specs.Spaces.{Content}
+use Rattle.text_blocks.specs.Blocks.{text_in}
+use Rattle.source_texts.specs.Sources.{joined}
+use Rattle.source_texts.specs.Lines.{lines_at, line_end}
+use Rattle.source_texts.proofs.Reading.{next_line}
+use Rattle.source_texts.proofs.read.read_lines.Goals as goal
+
+pub loop-k-preserved : goal.loop-k-preserved
+loop-k-preserved g c =
+    let inv = c.loop-k.invariant in
+    let content = g.S.Space.content c.args.space.now in
+    let k = c.loop-k.k in
+    let same : g.S.Space.content c.loop-k.space ≡ content = λ i n. inv.same n i in
+    let line : c.as_slice.result.now ≡ text_in content (k + 1) =
+    c.as_slice.ensures ∙ c.in_ok-line.ensures.bytes ∙ ap (λ (x : Content). text_in x (k + 1)) same in
+    record {
+      text =
+          c.in_ok-append_line.ensures ∙ ap (λ t. t ++ (line_end k ++ c.as_slice.result.now)) inv.text
+          ∙ ap (λ t. joined (lines_at content k) ++ (line_end k ++ t)) line ∙ sym (next_line content k);
+      same = λ n. c.in_ok-line.ensures.kept n ∙ inv.same n;
+      later = omega (arith, inv.later, c.get.ensures.cause.later);
+    }

@@ -1,0 +1,4 @@
+pub mod Spaces
+pub mod Sources
+pub mod Lines
+pub mod View

@@ -1,0 +1,43 @@
+-- Data spaces as values, and how they lie in pages.
+use Rattle.std.specs.Prelude.{◌≡◌, List, [], ◌∷◌, Option, Some, None, slice_get, ℤ}
+use Rattle.eu_base.specs.declared.address.Area.TheVariants.{Run}
+use Rattle.eu_base.specs.declared.value.Kind.{Kind}
+use Rattle.eu_base.specs.declared.value.Value.{Value}
+use Rattle.eu_base.specs.declared.shape.Shape.{Shape}
+use Rattle.eu_base.specs.Shapes.{cell_kinds}
+use Rattle.eu_base.specs.Values.{IsOf}
+use Rattle.eu_base.specs.Cells.{Cell, Free, Cells, held_of}
+use Rattle.page_pool.specs.Pool.{Pages}
+use Rattle.page_table.specs.Frames.{content_at}
+use Rattle.text_heap.specs.Held.{HoldsCells}
+use Rattle.data_space.specs.Data.{SpaceData}
+
+-- its type number, and its shape with a value for each cell of it; an empty one has neither shape nor values
+pub record Space : Type 0 where
+  pub kind : ℤ
+  pub shape : Option Shape
+  pub values : List Value
+
+abbrev pub shape_kinds : Option Shape → List Kind
+shape_kinds None = []
+shape_kinds (Some shape) = cell_kinds shape
+
+-- one value of its kind for each cell
+pub data AreOf : List Kind → List Value → Type 0 where
+  none : AreOf [] []
+  one : {k : Kind} {v : Value} {ks : List Kind} {vs : List Value} → IsOf k v → AreOf ks vs → AreOf (k ∷ ks) (v ∷ vs)
+
+-- the values stand in the cells from 0 on, and nothing is known of the cells behind
+abbrev pub held : Option Value → Cell
+held None = Free
+held (Some v) = held_of v
+
+abbrev pub cells_of : List Value → Cells
+cells_of values = λ at. held (slice_get values at.cell)
+
+-- pages hold a space: its values lie in its cells by its shape, and it has no other text
+pub record HoldsSpace (pages : Pages) (paged : SpaceData) (space : Space) : Type 0 where
+  pub kind : paged.kind ≡ space.kind
+  pub shape : paged.shape ≡ space.shape
+  pub typed : AreOf (shape_kinds space.shape) space.values
+  pub holds : HoldsCells Run (content_at pages paged.root) (cells_of space.values)

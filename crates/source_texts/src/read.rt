@@ -1,0 +1,84 @@
+//! The text of a space, where it is a source text.
+ghost use Rattle.std.specs.Prelude.{◌≡◌, ◌+◌, ◌≤◌, ◌++◌, [], ◌∷◌, IfOk, OnOk, option_map};
+ghost use Rattle.eu_base.specs.Cells.{HasFaultCause};
+ghost use Rattle.page_table.specs.Frames.{Stands};
+ghost use Rattle.source_texts.specs.Spaces as spaces;
+ghost use Rattle.source_texts.specs.Sources.{joined, source_text};
+ghost use Rattle.source_texts.specs.Lines.{lines_at, line_count, line_end, text_at};
+
+use crate::shape::{MOST_LINES, is_source};
+use crate::view::ReadSpace;
+use cell_layout::get;
+use data_space::DataSpace;
+use eu_base::{Bytes, MemFault, NoMemory, Space, number_in};
+use page_pool::Pool;
+use std::alloc::Global;
+
+/// The text of a space: its lines, with a line end between two. `None` exactly where the space has another shape than
+/// that of source texts, or its number of lines is none from 0 to 400.
+pub fn read_source(alloc: Global, pool: &Pool, space: &DataSpace) -> Result<Option<Bytes>, NoMemory>
+    requires agree { Stands pool.now (space.now.root ∷ []) 0 }
+    ensures text { IfOk result (λ text. (value : spaces.Space) → spaces.HoldsSpace pool.now space.now value → text ≡ source_text value) }
+{
+    let Some(shape) = space.shape() else {
+        return Ok(None);
+    };
+    if !is_source(shape) {
+        return Ok(None);
+    }
+    let mut view = ReadSpace { space, pool };
+    match read_text(alloc, &mut view) {
+        Ok(text) => Ok(text),
+        Err(MemFault::NoMemory) => Err(NoMemory),
+        Err(MemFault::Failed) => unreachable!(),
+    }
+}
+
+// What the bytes of a space spell as a source text.
+fn read_text<S: Space>(alloc: Global, space: &mut S) -> Result<Option<Bytes>, MemFault>
+    ensures text { IfOk result (λ text. text ≡ text_at (S.content space.old)) }
+    ensures cause { HasFaultCause (S.faults space.old) (S.faults space.new) result }
+{
+    let number = number_in(get(space, 0)?);
+    let Some(count) = count_of(number) else {
+        return Ok(None);
+    };
+    let text = read_lines(alloc, space, count)?;
+    Ok(Some(text))
+}
+
+// A number of lines, where it is one.
+fn count_of(number: i16) -> Option<u16>
+    ensures { result ≡ line_count number }
+{
+    if number < 0 {
+        return None;
+    }
+    let count = number as u16;
+    (count <= MOST_LINES).then_some(count)
+}
+
+// The texts of so many cells from the second on, with a line end between two.
+fn read_lines<S: Space>(alloc: Global, space: &mut S, count: u16) -> Result<Bytes, MemFault>
+    requires { count ≤ MOST_LINES }
+    ensures text { IfOk result (λ text. text ≡ joined (lines_at (S.content space.old) count)) }
+    ensures cause { HasFaultCause (S.faults space.old) (S.faults space.new) result }
+{
+    let mut text = Bytes::new(alloc);
+    for k in 0..count {
+        let line = text_heap::get(alloc, space, k + 1)?;
+        append_line(&mut text, k, line.as_slice())?;
+    }
+    Ok(text)
+}
+
+// Appends line `k`, counted from 0.
+fn append_line(text: &mut Bytes, k: u16, line: &[u8]) -> Result<(), NoMemory>
+    ensures { OnOk result (text.new ≡ text.old ++ (line_end k ++ line.now)) }
+{
+    if k > 0 {
+        text.append(b"\n")?;
+    }
+    text.append(line)?;
+    Ok(())
+}

@@ -1,0 +1,6 @@
+//! Tasks with their descendants.
+#![tactic(auto)]
+
+mod walks;
+
+pub use walks::{Entry, family, listed};

@@ -1,0 +1,36 @@
+use Rattle.std.proofs.Common.{◌+◌, drop, sym, ap, ◌∙◌, subst}
+use Rattle.eu_base.specs.Requests.{read_as}
+use Rattle.code_form.specs.Machine.{free}
+use Rattle.zero_state.specs.Stacked.{Stacked}
+use Rattle.zero_state.specs.declared.next.Next.TheVariants.{On, TextRoom}
+use Rattle.zero_state.specs.Stepping.{position_of}
+use Rattle.zero_steps.specs.Replying.{IsAt, Replies}
+use Rattle.zero_steps.proofs.Replying.{behind_is, reply_done, reply_unkept}
+use Rattle.zero_steps.proofs.reply.keep_line.Goals as goal
+
+pub returns-in-Done-clause-goes : goal.returns-in-Done-clause-goes
+returns-in-Done-clause-goes g c = λ r is.
+    let before = g.M.Memory.holds c.args.m.now in
+    let after = g.M.Memory.holds c.keep.new.m in
+    let now = position_of c.args.s.now in
+    let name = c.args.name in
+    let behind =
+    behind_is name now.ops c.top.result.now c.operand_kinds.result.now c.size-count.result c.top.ensures c.size-count.ensures c.operand_kinds.ensures in
+    let left = c.drop_top.ensures ∙ ap (λ n. record c.args.s.now.stack { ops = drop n now.ops }) c.size-count.ensures in
+    subst (λ (t : Stacked). Replies before after name r now (free (record now { pc = now.pc + 1; ops = t.ops; frames = t.frames })) On) (sym left)
+    (reply_done before after name r now c.requires.finds.taken c.requires.none c.in-Ok.value (ap (read_as name) (sym (c.text_of.ensures r is)) ∙ c.in-Ok.ensures)
+    c.variable-at.result c.in_ok-keep.field-0 (subst (λ os. IsAt os c.variable-at.result) (sym behind) c.variable-at.ensures) c.in-Done.is
+    c.in_ok-keep.ensures.puts)
+
+pub returns-clause-goes : goal.returns-clause-goes
+returns-clause-goes g c = λ r is.
+    let before = g.M.Memory.holds c.args.m.now in
+    let after = g.M.Memory.holds c.keep.new.m in
+    let now = position_of c.args.s.now in
+    let name = c.args.name in
+    let behind =
+    behind_is name now.ops c.top.result.now c.operand_kinds.result.now c.size-count.result c.top.ensures c.size-count.ensures c.operand_kinds.ensures in
+    subst (λ w. Replies before after name r now (record { position = now; waits = w }) TextRoom) (sym is)
+    (reply_unkept before after name r now c.requires.finds.taken c.requires.none c.in-Ok.value (ap (read_as name) (sym (c.text_of.ensures r is)) ∙ c.in-Ok.ensures)
+    c.variable-at.result c.in_ok-keep.field-0 (subst (λ os. IsAt os c.variable-at.result) (sym behind) c.variable-at.ensures) c.in-HeapFull.is
+    c.in_ok-keep.ensures.puts)
