@@ -16,6 +16,7 @@ use elan_check::Packets;
 use eu_base::{NoMemory, Shared};
 use std::alloc::Global;
 use std::marker::Model;
+use std::mem;
 
 /// So many packets can live.
 pub const PACKETS: usize = 64;
@@ -83,11 +84,31 @@ fn is_among(numbers: &[u32], packet: u32) -> bool
     false
 }
 
-fn add(list: &mut Vec<Live>, live: Live) -> Result<(), NoMemory>
-    ensures added { OnOk result (list.new.items ≡ list.old.items ++ live ∷ []) }
+// A live packet with this number, of a unit that shows something. The unit is let go where memory is wanted.
+fn live_with(alloc: Global, unit: Unit, number: u32) -> Result<Live, NoMemory>
+    requires { is_some unit.shown ≡ true }
+    ensures { (i : interfaces.Interface) → unit.shown ≡ Some i
+        → IfOk result (λ live. live ≡ record { number = number; unit = unit; after = after unit.packets i unit.core number }) }
+{
+    match after_it(alloc, &unit, number) {
+        Ok(after) => Ok(Live {
+            number,
+            unit,
+            after,
+        }),
+        Err(refusal) => {
+            unit.let_go();
+            Err(refusal)
+        }
+    }
+}
+
+// It looks at nothing in an item, so that how one is let go where memory is refused is no part of its proof.
+fn add<T: Drop>(list: &mut Vec<T>, item: T) -> Result<(), NoMemory>
+    ensures added { OnOk result (list.new.items ≡ list.old.items ++ item ∷ []) }
     ensures refused { OnErr result (list.new.items ≡ list.old.items) }
 {
-    match list.push(live) {
+    match list.push(item) {
         Ok(()) => Ok(()),
         Err(_refusal) => Err(NoMemory),
     }
@@ -105,7 +126,9 @@ impl Library {
     }
 
     /// Lets it go, with all its packets.
-    pub fn let_go(self) {}
+    pub fn let_go(self) {
+        mem::drop(self);
+    }
 
     /// The live packet with this number; `None` exactly where none has it.
     pub fn get(&self, number: u32) -> Option<&Live>
@@ -194,15 +217,11 @@ impl Library {
         ensures refused { OnErr result (self.new ≡ self.old) }
     {
         if self.live.len() == PACKETS || self.last == LAST_NUMBER {
+            unit.let_go();
             return Err(InstallError::Full);
         }
         let number = self.last + 1;
-        let after = after_it(alloc, &unit, number)?;
-        let live = Live {
-            number,
-            unit,
-            after,
-        };
+        let live = live_with(alloc, unit, number)?;
         add(&mut self.live, live)?;
         self.last = number;
         Ok(number)

@@ -10,6 +10,7 @@ use elan_names::interface::Interface;
 use elan_types::Core;
 use eu_base::{Bytes, Shared};
 use std::marker::Model;
+use std::mem;
 
 /// What is compiled.
 #[derive(Drop)]
@@ -67,7 +68,9 @@ impl Unit {
     }
 
     /// Lets it go, with all its parts.
-    pub fn let_go(self) {}
+    pub fn let_go(self) {
+        mem::drop(self);
+    }
 
     /// What it is compiled from and to, lent.
     pub fn compiled(&self) -> &Compiled

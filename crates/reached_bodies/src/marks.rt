@@ -1,9 +1,9 @@
 //! Marks on the bodies that a command reaches.
 
-ghost use Rattle.std.specs.Prelude.{◌≡◌, ◌++◌, true, false, length, replicate, IfOk, OnOk};
+ghost use Rattle.std.specs.Prelude.{◌≡◌, ◌++◌, true, false, length, replicate, IfOk};
 ghost use Rattle.reached_bodies.specs.walks.Marks as spec;
 
-use crate::names::{in_actions, in_content};
+use crate::names::{Found, in_actions, in_content};
 use elan_types::{Body, Core};
 use eu_base::{List, NoMemory, Shared};
 use std::alloc::Global;
@@ -32,31 +32,31 @@ fn unmarked(alloc: Global, count: usize) -> Result<List<bool>, NoMemory>
 fn first_names(alloc: Global, core: &Core) -> Result<List<usize>, NoMemory>
     ensures { IfOk result (λ names. names ≡ spec.first_names core.now) }
 {
-    let mut names = List::new(alloc);
-    in_actions(&mut names, core.units.as_slice())?;
-    if let Some(number) = core.start {
-        names.push(number)?;
-    }
-    Ok(names)
+    let found = in_actions(Found::of(List::new(alloc)), core.units.as_slice());
+    let found = match core.start {
+        None => found,
+        Some(number) => found.with(number),
+    };
+    found.met()
 }
 
 // Marks a body that was not looked at, and adds what it names to those that wait.
 fn enter(
     marks: &mut List<bool>,
-    pending: &mut List<usize>,
+    pending: List<usize>,
     bodies: &[Shared<Body>],
     number: usize,
-) -> Result<(), NoMemory>
+) -> Result<List<usize>, NoMemory>
     ensures marks { marks.new ≡ spec.marks_after marks.old number }
-    ensures pending { OnOk result (pending.new ≡ pending.old ++ spec.names_after marks.old bodies.now number) }
+    ensures pending { IfOk result (λ waiting. waiting ≡ pending ++ spec.names_after marks.old bodies.now number) }
 {
     if is_marked(marks.as_slice(), number) {
-        return Ok(());
+        return Ok(pending);
     }
     marks.set(number, true);
     match bodies.get(number) {
-        None => Ok(()),
-        Some(body) => in_content(pending, &body.get().content),
+        None => Ok(pending),
+        Some(body) => in_content(Found::of(pending), &body.get().content).met(),
     }
 }
 
@@ -68,7 +68,7 @@ pub fn marks(alloc: Global, core: &Core) -> Result<List<bool>, NoMemory>
     let mut marks = unmarked(alloc, bodies.len())?;
     let mut pending = first_names(alloc, core)?;
     while let Some(number) = pending.pop() {
-        enter(&mut marks, &mut pending, bodies, number)?;
+        pending = enter(&mut marks, pending, bodies, number)?;
     }
     Ok(marks)
 }

@@ -12,13 +12,13 @@ loop-number-init c =
 
 pub loop-number-smaller : goal.loop-number-smaller
 loop-number-smaller c =
-    is_less c.args.core.now c.as_slice-bodies.result.now c.loop-number.marks c.enter.new.marks c.loop-number.pending c.pop.new.self c.enter.new.pending
-    c.in-Some.number c.as_slice-bodies.ensures c.in-Some.ensures c.in_ok-enter.ensures.marks c.in_ok-enter.ensures.pending
+    is_less c.args.core.now c.as_slice-bodies.result.now c.loop-number.marks c.enter.new.marks c.loop-number.pending c.pop.new.self c.in_ok-pending-2.pending
+    c.in-Some.number c.as_slice-bodies.ensures c.in-Some.ensures c.in_ok-pending-2.ensures.marks c.in_ok-pending-2.ensures.pending
 
 pub loop-number-preserved : goal.loop-number-preserved
 loop-number-preserved c =
-    goes_on c.args.core.now c.as_slice-bodies.result.now c.loop-number.marks c.enter.new.marks c.loop-number.pending c.pop.new.self c.enter.new.pending
-    c.in-Some.number c.as_slice-bodies.ensures c.in-Some.ensures c.in_ok-enter.ensures.marks c.in_ok-enter.ensures.pending c.loop-number.invariant
+    goes_on c.args.core.now c.as_slice-bodies.result.now c.loop-number.marks c.enter.new.marks c.loop-number.pending c.pop.new.self c.in_ok-pending-2.pending
+    c.in-Some.number c.as_slice-bodies.ensures c.in-Some.ensures c.in_ok-pending-2.ensures.marks c.in_ok-pending-2.ensures.pending c.loop-number.invariant
 
 pub returns : goal.returns
 returns c = ends c.args.core.now c.loop-number.marks (subst (λ (ns : Names). Walks c.args.core.now c.loop-number.marks ns) c.in_default.ensures.0 c.loop-number.invariant)

@@ -1,4 +1,4 @@
-use Rattle.std.proofs.Common.{◌<◌, ◌+◌, List, [], ◌∷◌, ◌++◌, length, sym, ap, subst, ◌∙◌, arith}
+use Rattle.std.proofs.Common.{◌<◌, ◌+◌, List, [], ◌∷◌, ◌++◌, length, refl, sym, ap, subst, ◌∙◌, arith}
 use Rattle.std.proofs.lemmas.Grind.{common_steps}
 use Rattle.elan_scope.specs.declared.env.Env.{Env}
 use Rattle.elan_check.specs.Packets.{after}
@@ -14,7 +14,8 @@ invariant_of-self-2 c =
     let old : spec.Library = record { live = c.self.inside.live.items; last = c.self.inside.last } in
     let room : length old.live < PACKETS = grind (arith, common_steps, c.if-len-eq-PACKETS.false, c.len.ensures, c.self.invariant.few) in
     subst (λ (ls : List Live). spec.IsLibrary (record { live = ls; last = old.last + 1 })) (sym c.in_ok-add.ensures.added)
-    (installed_is old _ c.self.invariant room (omega arith, i.0, i.1, c.in_ok-after.ensures i.0 i.1))
+    (installed_is old _ c.self.invariant room
+    (subst (λ (l : Live). spec.IsLive (old.last + 1) l) (sym (c.in_ok-live.ensures i.0 i.1)) (omega arith, i.0, i.1, refl)))
 
 pub returns-clause-installed : goal.returns-clause-installed
 returns-clause-installed c =
@@ -26,6 +27,6 @@ returns-clause-installed c =
       i.0,
       i.1,
       ap (λ (ls : List Live). record { live = ls; last = old.last + 1 }) c.in_ok-add.ensures.added
-          ∙ ap (with_it old) (c.in_ok-after.ensures i.0 i.1)
+          ∙ ap (λ (l : Live). record { live = old.live ++ l ∷ []; last = old.last + 1 }) (c.in_ok-live.ensures i.0 i.1)
           ∙ ap (λ (z : spec.Library). with_it z (after u.packets i.0 u.core (z.last + 1))) c.self.view_is,
     )
