@@ -25,7 +25,7 @@ use Rattle.eu_base.specs.declared.request.RequestName.{RequestName}
 use Rattle.eu_base.specs.declared.request.Request.{Request}
 use Rattle.eu_base.specs.declared.request.Reply.{Reply}
 use Rattle.eu_base.specs.declared.request.Reply.TheVariants as replies
-use Rattle.eu_base.specs.Requests.{request_kinds, request_places, request_result, request_size, request_of, reply_text, read_as, answer_of}
+use Rattle.eu_base.specs.Requests.{request_kinds, request_places, request_result, request_size, request_of, read_as, answer_of}
 use Rattle.eu_base.specs.Cells.{Cell, Free, Word, Letters, Cells, held_of, IsCell, run_cell, packet_cell, place_in, written, cell_blocks, area_blocks, blocks_in, freed}
 use Rattle.code_form.specs.declared.operand.Operand.{Operand}
 use Rattle.code_form.specs.declared.operand.Operand.TheVariants.{Value as Of, Place as At, Aggregate}
@@ -651,7 +651,7 @@ module _ (p : Program) (valid : IsValid p) (pc : ℕ) (ops : List Operand) (used
         → FitsKinds (drop (length (request_kinds q)) os) (map cell_place (request_places q) ++ []) → Next p.lines (pc + 1) (with_answer o rest) m
         → Has r rest → Safe (settles q o t now os r cells)
     settle_safe q t None e os r rest is next g =
-        or_safe (read_as q (reply_text t)) _ (λ v _. keep_safe (request_places q) (drop (length (request_kinds q)) os) v rest r is next g)
+        or_safe (read_as q t) _ (λ v _. keep_safe (request_places q) (drop (length (request_kinds q)) os) v rest r is next g)
     settle_safe q t (Some k) e os r rest is next g =
         or_safe (answer_of q t) _
         (λ v h. push_safe (Of v) (cell_value k) r rest (as_one v k (kind_is k v (answer_gives q k t e v h))) next g.0)

@@ -21,7 +21,7 @@ use Rattle.eu_base.specs.declared.value.Value.TheVariants as item
 use Rattle.eu_base.specs.Values.{number_of, truth_of, number_in, truth_in, task_in}
 use Rattle.eu_base.specs.Operations.{Given, operand_kinds, result_of, change_kind, changed, is_past, has_reached}
 use Rattle.eu_base.specs.declared.request.Reply.{Reply}
-use Rattle.eu_base.specs.Requests.{request_kinds, request_result, request_size, reply_text, read_as, answer_of}
+use Rattle.eu_base.specs.Requests.{request_kinds, request_result, request_size, read_as, answer_of}
 use Rattle.code_form.specs.declared.operand.Operand.{Operand}
 use Rattle.code_form.specs.declared.operand.Operand.TheVariants.{Value as Of, Place as At, Aggregate}
 use Rattle.code_form.specs.declared.instr.Instr.{Instr}
@@ -334,7 +334,7 @@ module _ (p : Program) (valid : IsValid p) where
 
     settle_near : (l : Line) → slice_get p.lines c.pc ≡ Some l → is_mark (Some l.instr) ≡ false → (q : RequestName) (t : Reply) (o : Option Kind)
         → (os r : List Operand) → Near (settles q o t c os r s.cells)
-    settle_near l e is q t None os r = near_or _ (λ v. keep_near l e is (drop (length (request_kinds q)) os) v r) (read_as q (reply_text t))
+    settle_near l e is q t None os r = near_or _ (λ v. keep_near l e is (drop (length (request_kinds q)) os) v r) (read_as q t)
     settle_near l e is q t (Some k) os r = near_or _ (λ v. push_near l e is (Of v) r) (answer_of q t)
 
     reply_near : (l : Line) → slice_get p.lines c.pc ≡ Some l → (t : Reply) (i : Instr) → l.instr ≡ i → Near (takes_reply (Some i) t c s.cells)

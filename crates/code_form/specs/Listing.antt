@@ -23,6 +23,7 @@ use Rattle.code_form.specs.declared.instr.Instr.TheVariants.{When, Drop, Limit, 
 use Rattle.code_form.specs.declared.code.Line.{Line}
 use Rattle.code_form.specs.declared.code.Entry.{Entry}
 use Rattle.cell_kinds.specs.declared.packet.Packet.{Packet}
+use Rattle.cell_kinds.specs.Kinds.{body_in_packet}
 use Rattle.code_form.specs.Program.{Program, layout_of, cells_at}
 
 abbrev pub truth_word : Bool → List ℕ
@@ -126,6 +127,7 @@ request_name requests.Brother = codes "brother(TASK)"
 request_name requests.Named = codes "task(TEXT)"
 request_name requests.NameOf = codes "name(TASK)"
 request_name requests.Exists = codes "exists(TASK)"
+request_name (requests.Begin start) = codes "begin(TEXT,PROC "
 request_name requests.EndOf = codes "end(TASK)"
 request_name requests.End = codes "end"
 request_name requests.Break = codes "break"
@@ -145,6 +147,11 @@ cell_in_packet (p ∷ ps) k = if nat_lt k (length p.variables) then (p.number, k
 
 abbrev pub packet_text : ℕ × ℕ → List ℕ
 packet_text at = decimal at.0 ++ codes " " ++ decimal at.1
+
+-- behind the name of a request stands its start procedure, by its packet and its number there
+abbrev pub start_text : List Packet → RequestName → List ℕ
+start_text packets (requests.Begin start) = packet_text (body_in_packet packets start) ++ codes ",TASK)"
+start_text packets _ = []
 
 -- the word of an instruction, and each argument after a blank. A text is told by its number, since so many stand before it
 abbrev pub instr_text : List Packet → List Entry → ℕ → Instr → List ℕ
@@ -171,7 +178,7 @@ instr_text packets bodies texts Drop = codes "DROP"
 instr_text packets bodies texts (Limit way a) = codes "LIMIT " ++ way_word way ++ codes " " ++ decimal a
 instr_text packets bodies texts Unlimit = codes "UNLIMIT"
 instr_text packets bodies texts (Step way a) = way_word way ++ codes " " ++ decimal a
-instr_text packets bodies texts (Ask name) = codes "ASK " ++ request_name name
+instr_text packets bodies texts (Ask name) = codes "ASK " ++ request_name name ++ start_text packets name
 instr_text packets bodies texts ErrorStop = codes "DO errorstop"
 instr_text packets bodies texts (Call n) = codes "CALL " ++ decimal (first_of (slice_get bodies n)) ++ codes " " ++ decimal (cells_of_frame (slice_get bodies n))
 instr_text packets bodies texts (Refer n) = codes "REFER " ++ decimal (first_of (slice_get bodies n))

@@ -22,7 +22,7 @@ use Rattle.eu_base.specs.Room.{value_bytes, values_bytes, place_bytes, values_bl
 use Rattle.eu_base.specs.declared.shape.Shape.{Shape}
 use Rattle.eu_base.specs.Shapes.{cell_kinds}
 use Rattle.eu_base.specs.Operations.{Given, operand_kinds, result_of, change_kind, changed, is_past, has_reached, next_number, in_row}
-use Rattle.eu_base.specs.Requests.{request_kinds, request_result, request_size, request_of, reply_text, read_as, answer_of}
+use Rattle.eu_base.specs.Requests.{request_kinds, request_result, request_size, request_of, read_as, answer_of}
 use Rattle.eu_base.specs.Cells.{Cell, Free, Word, Letters, Cells, held_of, area_cell, run_cell, packet_cell, place_number, place_in, written, without, freed, cell_blocks}
 use Rattle.eu_base.specs.Cells.{AreBare, area_blocks, blocks_in}
 use Rattle.eu_base.specs.declared.address.TheConstants.{CELLS}
@@ -393,7 +393,7 @@ keeps c _ v ops cells = Stuck
 -- what a request does with the reply, where it took these operands: what it delivers is pushed; where it delivers nothing, its variable
 -- behind its values gets what it reads
 abbrev pub settles : RequestName → Option Kind → Reply → Position → List Operand → List Operand → Cells → Move
-settles name None r c os ops cells = or_halt (read_as name (reply_text r)) (λ v. keeps c (drop (length (request_kinds name)) os) v ops cells)
+settles name None r c os ops cells = or_halt (read_as name r) (λ v. keeps c (drop (length (request_kinds name)) os) v ops cells)
 settles name (Some k) r c os ops cells = or_halt (answer_of name r) (λ v. pushes c (Of v) ops cells)
 
 -- what an instruction does that made a request, with the reply. No other makes one

@@ -1,7 +1,7 @@
 //! Code as text.
 ghost use Rattle.std.specs.Prelude.{◌≡◌, ◌++◌, IfOk, OnOk, map, flat_map, length, slice_get, codes};
 ghost use Rattle.std.specs.Fmt.{decimal, signed_decimal};
-ghost use Rattle.code_form.specs.Listing.{truth_word, kind_word, listed, shape_text, way_word, operation_word, operation_name, text_operation_name, change_name, request_name, first_of, cells_of_frame, cell_in_packet, packet_text, instr_text, texts_with};
+ghost use Rattle.code_form.specs.Listing.{truth_word, kind_word, listed, shape_text, way_word, operation_word, operation_name, text_operation_name, change_name, request_name, first_of, cells_of_frame, cell_in_packet, packet_text, start_text, instr_text, texts_with};
 ghost use Rattle.code_form.specs.Listing.{line_text, listing_text};
 ghost use Rattle.code_form.specs.Program.{cell_uses, cells_of};
 
@@ -135,7 +135,8 @@ fn append_instr(
         }
         Instr::Ask(name) => {
             out.append(b"ASK ")?;
-            out.append(request_name(*name))
+            out.append(request_name(*name))?;
+            append_start(out, packets, *name)
         }
         Instr::ErrorStop => out.append(b"DO errorstop"),
         Instr::Call(body) => {
@@ -164,14 +165,34 @@ fn cell_in_packet(packets: &[Packet], cell: usize) -> (u32, usize)
     (0, rest)
 }
 
+// The number of a packet, and a number there.
+fn append_at(out: &mut Bytes, at: (u32, usize)) -> Result<(), NoMemory>
+    ensures { OnOk result (out.new ≡ out.old ++ packet_text at) }
+{
+    let (packet, number) = at;
+    append_number(out, packet as usize)?;
+    out.append(b" ")?;
+    append_number(out, number)
+}
+
 fn append_packet(out: &mut Bytes, at: (u32, usize)) -> Result<(), NoMemory>
     ensures { OnOk result (out.new ≡ out.old ++ (codes "PACK " ++ packet_text at)) }
 {
-    let (packet, cell) = at;
     out.append(b"PACK ")?;
-    append_number(out, packet as usize)?;
-    out.append(b" ")?;
-    append_number(out, cell)
+    append_at(out, at)
+}
+
+// The start procedure of a request, where it has one.
+fn append_start(out: &mut Bytes, packets: &[Packet], name: RequestName) -> Result<(), NoMemory>
+    ensures { OnOk result (out.new ≡ out.old ++ start_text packets.now name) }
+{
+    match name {
+        RequestName::Begin(start) => {
+            append_at(out, Packet::of_body(packets, start))?;
+            out.append(b",TASK)")
+        }
+        _ => Ok(()),
+    }
 }
 
 // Where a body begins.
@@ -400,6 +421,7 @@ fn request_name(name: RequestName) -> &'static [u8]
         RequestName::Named => b"task(TEXT)",
         RequestName::NameOf => b"name(TASK)",
         RequestName::Exists => b"exists(TASK)",
+        RequestName::Begin(_) => b"begin(TEXT,PROC ",
         RequestName::EndOf => b"end(TASK)",
         RequestName::End => b"end",
         RequestName::Break => b"break",

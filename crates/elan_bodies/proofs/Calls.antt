@@ -1,5 +1,5 @@
 -- The refinements that phrases call, as they are found in the tree. One induction over trees, so it stands in one file.
-use Rattle.std.proofs.Common.{◌≡◌, ℤ, ℕ, List, [], ◌∷◌, ◌++◌, map, Option, Some, None, refl, sym, ap, ◌∙◌, append_assoc}
+use Rattle.std.proofs.Common.{◌≡◌, ℤ, ℕ, Bool, true, false, if◌then◌else◌, List, [], ◌∷◌, ◌++◌, map, Option, Some, None, refl, sym, ap, ◌∙◌, append_assoc}
 use Rattle.std.specs.Prelude.{flat_map}
 use Rattle.elan_tree.specs.declared.written_type.Name.{Name}
 use Rattle.elan_tree.specs.declared.written_type.Constant.TheVariants as constants
@@ -25,6 +25,8 @@ use Rattle.elan_scope.specs.declared.scope.Scope.{Scope}
 use Rattle.elan_scope.specs.Phrase as form
 use Rattle.elan_scope.specs.Phrase.{Form, Plain, plain, Phrase, phrase, Parts, none, part, all_of, around}
 use Rattle.elan_rules.specs.Meaning.{phrases, phrases_of}
+use Rattle.std.specs.Str.{bytes_eq}
+use Rattle.value_rules.specs.Calls.{begin}
 use Rattle.elan_judge.specs.Shape as shape
 use Rattle.elan_judge.specs.walks.Steps as walk
 use Rattle.elan_tree.specs.declared.written_type.TypePhrase.{TypePhrase}
@@ -93,6 +95,28 @@ one_calls at f p h = whole at f (part p none) h ∙ one_part p
 two_call : (at : ℕ) (f : Plain) (p q : Phrase) (xs ys : List ℕ) → called_by (phrase at (plain f) (part p (part q none))) ≡ [] → called_in p ≡ xs → called_in q ≡ ys
     → called_in (phrase at (plain f) (part p (part q none))) ≡ xs ++ ys
 two_call at f p q xs ys h e g = whole at f (part p (part q none)) h ∙ two_parts p q ∙ both (called_in p) xs (called_in q) ys e g
+
+-- a start procedure is not called, wherever it may stand
+start_calls : (p : Phrase) → called_in (shape.as_start p) ≡ called_in p
+start_calls (phrase at (plain (form.start may)) ps) = whole at (form.start true) ps refl ∙ sym (whole at (form.start may) ps refl)
+start_calls p = refl
+
+actuals_call : (x : List ℕ) (ps : List Phrase) → calls (all_of (shape.actuals x ps)) ≡ calls (all_of ps)
+actuals_call x ps = by_name (bytes_eq x begin)
+  where
+    second : (qs : List Phrase) → calls (all_of (shape.second_starts qs)) ≡ calls (all_of qs)
+    second [] = refl
+    second (p ∷ []) = refl
+    second (p ∷ q ∷ qs) =
+        let rest = all_of qs in
+        first_part p (part (shape.as_start q) rest)
+        ∙ ap (λ (ns : List ℕ). called_in p ++ ns)
+        (first_part (shape.as_start q) rest ∙ ap (λ (ns : List ℕ). ns ++ calls rest) (start_calls q) ∙ sym (first_part q rest))
+        ∙ sym (first_part p (part q rest))
+
+    by_name : (b : Bool) → calls (all_of (if b then shape.second_starts ps else ps)) ≡ calls (all_of ps)
+    by_name true = second ps
+    by_name false = refl
 
 module _ (s : Scope) where
   abbrev found : List Node → List ℕ
@@ -263,7 +287,9 @@ module _ (s : Scope) where
   expr_calls (t.Text at x) = refl
   expr_calls (t.Truth at b) = refl
   expr_calls (t.Named n) = refl
-  expr_calls (t.Call n actuals) = whole _ _ (all_of (map (shape.expr s) (map fst actuals))) refl ∙ exprs_call actuals
+  expr_calls (t.Call n actuals) =
+      let ps = map (shape.expr s) (map fst actuals) in
+      whole _ _ (all_of (shape.actuals n.text ps)) refl ∙ actuals_call n.text ps ∙ exprs_call actuals
   expr_calls (t.Procedure at n) = refl
   expr_calls (t.Concr at a) = one_calls at (form.concr s) (shape.expr s a.0) refl ∙ a.1
   expr_calls (t.Bracket at a) = one_calls at form.bracket (shape.expr s a.0) refl ∙ a.1

@@ -10,7 +10,7 @@ use Rattle.elan_names.specs.declared.entry.Denotes.{Denotes}
 use Rattle.elan_names.specs.declared.entry.Denotes.TheVariants as denotes
 use Rattle.elan_meant.specs.declared.meant.Meant.{Meant}
 use Rattle.elan_meant.specs.Parts.{nth, actions_of}
-use Rattle.elan_meant.specs.declared.meant.Meant.TheVariants.{Absent, Variable, Value, Done, Left, Labels, Bodies, Level}
+use Rattle.elan_meant.specs.declared.meant.Meant.TheVariants.{Absent, Variable, Value, Done, Left, Labels, Bodies, Level, Start}
 use Rattle.elan_scope.specs.declared.scope.Usage.{Usage}
 use Rattle.elan_scope.specs.declared.scope.Usage.TheVariants as usage
 use Rattle.elan_scope.specs.Scope.{find, left, refinement_named}
@@ -49,6 +49,7 @@ module _ (kn : Known) where
   kept (Done as') m e = ap (or_last Absent) (sym (gives_is (Done as') m e))
   kept (Left as') m e = ap (or_last Absent) (sym (gives_is (Done as') m e))
   kept (Labels ns) m e = ap (or_last Absent) (sym (gives_is (Done []) m e))
+  kept (Start k) m e = ap (or_last Absent) (sym (gives_is (Done []) m e))
   kept (Bodies bs) m e = ap (or_last Absent) (sym (gives_is (Done []) m e))
   kept (Level us bs) m e = ap (or_last Absent) (sym (gives_is (Done []) m e))
 
@@ -70,6 +71,7 @@ module _ (kn : Known) where
   first_delivers (Done as') = refl
   first_delivers (Left as') = refl
   first_delivers (Labels ns) = refl
+  first_delivers (Start k) = refl
   first_delivers (Bodies bs) = refl
   first_delivers (Level us bs) = refl
 
@@ -95,6 +97,7 @@ module _ (kn : Known) where
   ended_delivers as' (Done bs) = refl
   ended_delivers as' (Left bs) = refl
   ended_delivers as' (Labels ns) = refl
+  ended_delivers as' (Start k) = refl
   ended_delivers as' (Bodies bs) = refl
   ended_delivers as' (Level us bs) = refl
 

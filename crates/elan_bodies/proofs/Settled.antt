@@ -6,7 +6,7 @@ use Rattle.elan_scope.specs.declared.delivery.Delivery.{Delivery}
 use Rattle.elan_scope.specs.declared.delivery.Delivery.TheVariants.{Open, Nothing, Of}
 use Rattle.elan_names.specs.declared.heading.Heading.{Heading}
 use Rattle.elan_meant.specs.declared.meant.Meant.{Meant}
-use Rattle.elan_meant.specs.declared.meant.Meant.TheVariants.{Absent, Variable, Value, Done, Left, Labels, Bodies, Level}
+use Rattle.elan_meant.specs.declared.meant.Meant.TheVariants.{Absent, Variable, Value, Done, Left, Labels, Bodies, Level, Start}
 use Rattle.elan_scope.specs.Phrase.{Phrase}
 use Rattle.elan_scope.specs.Ruled.{Ruled, gives, breaks, hangs}
 use Rattle.elan_scope.specs.Known.{delivery_at}
@@ -24,6 +24,7 @@ not_open (Value at t v) e = absurd cc
 not_open (Done as') e = absurd cc
 not_open (Left as') e = absurd cc
 not_open (Labels ns) e = absurd cc
+not_open (Start k) e = absurd cc
 not_open (Bodies bs) e = absurd cc
 not_open (Level as' bs) e = absurd cc
 

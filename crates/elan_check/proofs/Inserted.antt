@@ -1,5 +1,5 @@
 -- Packets that are texts with a meaning are sound.
-use Rattle.std.proofs.Common.{◌≡◌, ℕ, Bool, true, false, List, [], ◌∷◌, ◌++◌, length, Option, Some, None, if◌then◌else◌, refl, sym, ap, subst, ◌∙◌}
+use Rattle.std.proofs.Common.{◌≡◌, ℕ, Bool, true, false, List, [], ◌∷◌, ◌++◌, length, Option, Some, None, if◌then◌else◌, refl, sym, ap, subst, ◌∙◌, ◌-◌}
 use Rattle.std.specs.Prelude.{filter, option_map}
 use Rattle.std.specs.Option.{option_or}
 use Rattle.std.specs.Str.{bytes_eq}
@@ -114,7 +114,7 @@ module _ (env : Env) (sound : IsSound env) (i : Interface) (c : Core) (n : ℕ) 
   typed_core = well_typed env sound t c p.means
 
   cells : packet_kinds next.packets ≡ packet_kinds env.packets ++ c.inserted
-  cells = kinds_behind env.packets (record { number = n; variables = c.inserted })
+  cells = kinds_behind env.packets (record { number = n; variables = c.inserted; bodies = length c.bodies - length env.bodies })
 
   outside_is : (bare next).outside ≡ outside_of c
   outside_is =

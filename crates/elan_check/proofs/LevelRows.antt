@@ -8,7 +8,7 @@ use Rattle.elan_names.specs.declared.heading.Sort.TheVariants.{Procedure, Operat
 use Rattle.elan_names.specs.declared.heading.Heading.{Heading}
 use Rattle.elan_meant.specs.declared.meant.Meant.{Meant}
 use Rattle.elan_meant.specs.Parts.{nth}
-use Rattle.elan_meant.specs.declared.meant.Meant.TheVariants.{Absent, Variable, Value, Done, Left, Labels, Bodies, Level}
+use Rattle.elan_meant.specs.declared.meant.Meant.TheVariants.{Absent, Variable, Value, Done, Left, Labels, Bodies, Level, Start}
 use Rattle.elan_scope.specs.declared.scope.Scope.{Scope}
 use Rattle.elan_levels.specs.Bodies as b
 use Rattle.elan_levels.specs.Bodies.{headings, level_names}
@@ -65,6 +65,7 @@ module _ (kn : Known) (s : Scope) (all : List Body) where
   no_bodies (Done as') m e = ap u.bodies_in (sym (gives_is (Done as') m e))
   no_bodies (Left as') m e = ap u.bodies_in (sym (gives_is (Done as') m e))
   no_bodies (Labels ns) m e = ap u.bodies_in (sym (gives_is (Done []) m e))
+  no_bodies (Start k) m e = ap u.bodies_in (sym (gives_is (Done []) m e))
   no_bodies (Bodies bs) m e = ap u.bodies_in (sym (gives_is (Done []) m e))
   no_bodies (Level us bs) m e = ap u.bodies_in (sym (gives_is (Done []) m e))
 

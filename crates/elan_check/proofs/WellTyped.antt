@@ -37,7 +37,7 @@ use Rattle.elan_names.specs.declared.heading.What.{What}
 use Rattle.elan_names.specs.declared.heading.What.TheVariants.{Routine, Refinement}
 use Rattle.elan_names.specs.declared.heading.Heading.{Heading}
 use Rattle.elan_meant.specs.declared.meant.Meant.{Meant}
-use Rattle.elan_meant.specs.declared.meant.Meant.TheVariants.{Absent, Variable, Value, Done, Left, Labels, Bodies, Level}
+use Rattle.elan_meant.specs.declared.meant.Meant.TheVariants.{Absent, Variable, Value, Done, Left, Labels, Bodies, Level, Start}
 use Rattle.std.specs.Option.{option_or}
 use Rattle.elan_scope.specs.Scope.{number_of, all_held}
 use Rattle.elan_scope.specs.declared.scope.Scope.{Scope}
@@ -96,6 +96,7 @@ content_delivers (Value at t v) c e = ap result_of_content e
 content_delivers (Done as') c e = ap result_of_content e
 content_delivers (Left as') c e = ap result_of_content e
 content_delivers (Labels ns) c e = ap result_of_content e
+content_delivers (Start k) c e = ap result_of_content e
 content_delivers (Bodies bs) c e = ap result_of_content e
 content_delivers (Level us bs) c e = ap result_of_content e
 

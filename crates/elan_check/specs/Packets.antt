@@ -1,5 +1,5 @@
 -- The packets of a task: each is a text that has a meaning after those before it.
-use Rattle.std.specs.Prelude.{◌≡◌, ℕ, ◌+◌, List, [], ◌∷◌, ◌++◌, length, map}
+use Rattle.std.specs.Prelude.{◌≡◌, ℕ, ◌+◌, ◌-◌, List, [], ◌∷◌, ◌++◌, length, map}
 use Rattle.elan_types.specs.declared.core_phrase.Core.{Core}
 use Rattle.elan_tree.specs.declared.written_type.Name.{Name}
 use Rattle.elan_tree.specs.declared.tree.Export.{Export}
@@ -30,7 +30,7 @@ interface env t = record {
 abbrev pub after : Env → Interface → Core → ℕ → Env
 after env i c n = record {
   inserted = record { interface = i; bodies_before = length env.bodies; cells_before = length (packet_cells env) } ∷ env.inserted;
-  packets = env.packets ++ record { number = n; variables = c.inserted } ∷ [];
+  packets = env.packets ++ record { number = n; variables = c.inserted; bodies = length c.bodies - length env.bodies } ∷ [];
   bodies = c.bodies;
   types = env.types + length i.types;
 }

@@ -1,6 +1,6 @@
 //! The packets of a task.
 
-ghost use Rattle.std.specs.Prelude.{◌≡◌, ◌∷◌, ◌++◌, [], length, IfOk};
+ghost use Rattle.std.specs.Prelude.{◌≡◌, ◌-◌, ◌∷◌, ◌++◌, [], length, IfOk};
 ghost use Rattle.elan_bodies.specs.Level.{packet_cells};
 ghost use Rattle.type_names.specs.Types.{names_of, level_types as types_in, level_definitions};
 ghost use Rattle.elan_levels.specs.Bodies.{names_in, headings_in};
@@ -86,17 +86,21 @@ fn inserted_behind(env: &Env, interface: &Shared<Interface>) -> Result<Inserted,
     })
 }
 
-// The variables of these packets, and behind them those of one with this core.
+// The variables of these packets, before which there are so many bodies, and behind them those of one with this core.
 fn variables_after(
     alloc: Global,
     packets: &[Packet],
+    before: usize,
     core: &Core,
     number: u32,
 ) -> Result<List<Packet>, NoMemory>
-    ensures { IfOk result (λ list. list ≡ packets.now ++ record { number = number; variables = core.now.inserted } ∷ []) }
+    ensures { IfOk result (λ list. list ≡ packets.now ++ record { number = number; variables = core.now.inserted; bodies = length core.now.bodies - before } ∷ []) }
 {
-    let variables = core.inserted.try_clone(alloc)?;
-    let packet = Packet { number, variables };
+    let packet = Packet {
+        number,
+        variables: core.inserted.try_clone(alloc)?,
+        bodies: core.bodies.len().saturating_sub(before),
+    };
     let mut packets = Packet::clone_all(packets, alloc)?;
     packets.push(packet)?;
     Ok(packets)
@@ -115,7 +119,13 @@ fn env_after(
     let types = env.types.checked_add(names).ok_or(NoMemory)?;
     let shown = inserted_behind(env, interface)?;
     let inserted = with_shown(alloc, shown, env.inserted.as_slice())?;
-    let packets = variables_after(alloc, env.packets.as_slice(), core, number)?;
+    let packets = variables_after(
+        alloc,
+        env.packets.as_slice(),
+        env.bodies.len(),
+        core,
+        number,
+    )?;
     let bodies = shared(alloc, core.bodies.as_slice())?;
     Ok(Env {
         inserted,

@@ -1,5 +1,5 @@
 -- All names in the units of a body are looked up in the scope of the body.
-use Rattle.std.proofs.Common.{◌≡◌, ℤ, ℕ, List, [], ◌∷◌, ◌++◌, map, Option, Some, None, refl}
+use Rattle.std.proofs.Common.{◌≡◌, ℤ, ℕ, Bool, true, false, if◌then◌else◌, List, [], ◌∷◌, ◌++◌, map, Option, Some, None, refl}
 use Rattle.elan_tree.specs.declared.written_type.Name.{Name}
 use Rattle.elan_tree.specs.declared.written_type.Constant.TheVariants as constants
 use Rattle.elan_tree.specs.declared.written_type.LetItem.{LetItem}
@@ -23,6 +23,8 @@ use Rattle.elan_scope.specs.declared.delivery.Delivery.TheVariants.{Open, Nothin
 use Rattle.elan_scope.specs.declared.scope.Scope.{Scope}
 use Rattle.elan_scope.specs.Phrase as form
 use Rattle.elan_scope.specs.Phrase.{Form, plain, Phrase, phrase, Parts, none, part, all_of}
+use Rattle.std.specs.Str.{bytes_eq}
+use Rattle.value_rules.specs.Calls.{begin}
 use Rattle.elan_judge.specs.Shape as shape
 use Rattle.elan_judge.specs.walks.Steps as walk
 
@@ -33,6 +35,7 @@ module _ (s : Scope) where
   abbrev pub Names : Form → Type 0
   Names (form.named u z x) = z ≡ s
   Names (plain (form.applied z sort x)) = z ≡ s
+  Names (plain (form.start_name z x)) = z ≡ s
   Names (plain (form.declares z x)) = z ≡ s
   Names (plain (form.type_name z x)) = z ≡ s
   Names (plain (form.assignment z)) = z ≡ s
@@ -115,6 +118,22 @@ module _ (s : Scope) where
   role_in Nothing p h = (tt, (h, tt))
   role_in (Of t) p h = (tt, (h, tt))
 
+  start_in : (p : Phrase) → InScope p → InScope (shape.as_start p)
+  start_in (phrase at (plain (form.start may)) ps) h = h
+  start_in p h = h
+
+  second_in : (ps : List Phrase) → AllIn (all_of ps) → AllIn (all_of (shape.second_starts ps))
+  second_in [] h = h
+  second_in (p ∷ []) h = h
+  second_in (p ∷ q ∷ ps) h = (h.0, (start_in q h.1.0, h.1.1))
+
+  actuals_in : (x : List ℕ) (ps : List Phrase) → AllIn (all_of ps) → AllIn (all_of (shape.actuals x ps))
+  actuals_in x ps h = by_name (bytes_eq x begin)
+    where
+      by_name : (b : Bool) → AllIn (all_of (if b then shape.second_starts ps else ps))
+      by_name true = second_in ps h
+      by_name false = h
+
   roles_in : (d : Delivery) (ps : List Phrase) → AllIn (all_of ps) → AllIn (all_of (shape.roles d ps))
   roles_in d [] h = tt
   roles_in d (p ∷ []) h = (role_in d p h.0, tt)
@@ -169,8 +188,8 @@ module _ (s : Scope) where
   expr_in (t.Text at x) = (tt, tt)
   expr_in (t.Truth at b) = (tt, tt)
   expr_in (t.Named n) = (refl, tt)
-  expr_in (t.Call n actuals) = (refl, exprs_in actuals)
-  expr_in (t.Procedure at n) = (tt, tt)
+  expr_in (t.Call n actuals) = (refl, actuals_in n.text (map (shape.expr s) (map fst actuals)) (exprs_in actuals))
+  expr_in (t.Procedure at n) = (tt, ((refl, tt), tt))
   expr_in (t.Concr at a) = (tt, (a.1, tt))
   expr_in (t.Bracket at a) = (tt, (a.1, tt))
   expr_in (t.If at branches None) =

@@ -68,6 +68,19 @@ module _ (k : Known) where
       subst (λ (ps : List Phrase). Is q (judged_all k (all_of ps))) (sym (map_more f xs i x lt ∙ ap (λ y. map f (take i xs) ++ f y ∷ []) (sym e)))
       (row_is q (map f (take i xs)) (f x) h)
 
+  -- and the same behind others
+  pub row_further : {X : Type 0} (f : X → Phrase) (done : List Phrase) (xs : List X) (i : ℕ) (x : X) (q : Result (List Meant) Trouble) → i < length xs
+      → x ≡ get_or xs i x → Is q (joined (judged_all k (all_of (done ++ map f (take i xs)))) (judged k (f x)))
+      → Is q (judged_all k (all_of (done ++ map f (take (i + 1) xs))))
+  row_further f done xs i x q lt e h =
+      subst (λ (ps : List Phrase). Is q (judged_all k (all_of (done ++ ps)))) (sym (map_more f xs i x lt ∙ ap (λ y. map f (take i xs) ++ f y ∷ []) (sym e)))
+      (subst (λ (ps : List Phrase). Is q (judged_all k (all_of ps))) (append_assoc done (map f (take i xs)) (f x ∷ []))
+      (row_is q (done ++ map f (take i xs)) (f x) h))
+
+  pub row_whole : {X : Type 0} (f : X → Phrase) (done : List Phrase) (xs : List X) (i : ℕ) (q : Result (List Meant) Trouble) → length xs ≤ i
+      → Is q (judged_all k (all_of (done ++ map f (take i xs)))) → Is q (judged_all k (all_of (done ++ map f xs)))
+  row_whole f done xs i q le h = subst (λ ys. Is q (judged_all k (all_of (done ++ map f ys)))) (take_all i xs le) h
+
 -- ---- a row that grows behind phrases: those that are judged, and those that are left
 
 pub record Grown (k : Known) (row : Result (List Meant) Trouble) (left whole : List Phrase) : Type 0 where

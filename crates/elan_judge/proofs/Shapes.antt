@@ -1,6 +1,7 @@
 -- The phrases of forms some of whose parts may be left out.
-use Rattle.std.proofs.Common.{◌≡◌, ℕ, ℤ, List, [], ◌∷◌, ◌++◌, map, Option, Some, None, Result, Ok, refl, sym, ap, subst, ◌∙◌}
+use Rattle.std.proofs.Common.{◌≡◌, ℕ, ℤ, Bool, true, false, if◌then◌else◌, ◌<◌, ◌≤◌, arith, List, [], ◌∷◌, ◌++◌, length, get_or, take, drop, ◌-◌, map, Option, Some, None, Result, Ok, refl, sym, ap, subst, ◌∙◌}
 use Rattle.std.specs.Prelude.{option_map}
+use Rattle.std.proofs.lemmas.List.{take_all}
 use Rattle.elan_tree.specs.declared.phrase.Expr.{Expr, roll-Expr}
 use Rattle.elan_tree.specs.declared.phrase.Expr.TheVariants as expression
 use Rattle.elan_tree.specs.declared.phrase.Branch.{Branch, rolls-Branch'}
@@ -20,15 +21,31 @@ use Rattle.elan_scope.specs.declared.trouble.Trouble.{Trouble}
 use Rattle.elan_meant.specs.declared.meant.Meant.{Meant}
 use Rattle.elan_meant.specs.declared.meant.Meant.TheVariants.{Absent}
 use Rattle.elan_scope.specs.Answer.{Is}
-use Rattle.elan_rules.specs.Meaning.{judged}
+use Rattle.std.specs.Str.{bytes_eq}
+use Rattle.value_rules.specs.Calls.{begin}
+use Rattle.elan_rules.specs.Meaning.{judged, judged_all}
 use Rattle.elan_scope.specs.declared.delivery.Delivery.TheVariants.{Open, Nothing}
 use Rattle.elan_scope.specs.declared.known.Known.{Known}
 use Rattle.elan_scope.specs.declared.scope.Scope.{Scope}
 use Rattle.elan_scope.specs.declared.scope.Usage.TheVariants.{Counter as Counts}
 use Rattle.elan_scope.specs.Phrase as form
-use Rattle.elan_scope.specs.Phrase.{plain, Phrase, phrase, Parts, part, leaf, pair, name, all_of}
+use Rattle.elan_scope.specs.Phrase.{plain, Phrase, phrase, Parts, part, leaf, around, pair, name, all_of}
 use Rattle.elan_judge.specs.Shape as shape
 use Rattle.elan_judge.specs.walks.Steps as walk
+
+-- a list by its first elements
+pub alone : {X : Type 0} (all : List X) (a : X) → 1 ≤ length all → length all < 2 → a ≡ get_or all 0 a → all ≡ a ∷ []
+alone [] a ge lt e = absurd (omega (arith, ge))
+alone (x ∷ []) a ge lt e = ap (λ y. y ∷ []) (sym e)
+alone (x ∷ y ∷ rest) a ge lt e = absurd (omega (arith, lt))
+
+pub firsts : {X : Type 0} (all : List X) (a b : X) → 2 ≤ length all → a ≡ get_or all 0 a → b ≡ get_or all 1 b
+    → all ≡ a ∷ b ∷ take (length all - 2) (drop 2 all)
+firsts [] a b ge e f = absurd (omega (arith, ge))
+firsts (x ∷ []) a b ge e f = absurd (omega (arith, ge))
+firsts (x ∷ y ∷ rest) a b ge e f =
+    ap (λ z. z ∷ y ∷ rest) (sym e) ∙ ap (λ z. a ∷ z ∷ rest) (sym f)
+    ∙ ap (λ zs. a ∷ b ∷ zs) (sym (take_all (length (x ∷ y ∷ rest) - 2) rest (omega arith)))
 
 module _ (s : Scope) where
   abbrev pub units_of : Option (List Statement) → Phrase
@@ -130,6 +147,37 @@ module _ (s : Scope) where
         (subst (λ (l : List Statement). Is r (judged known (shape.units Open (map (shape.unit s) l)))) e
         (subst (λ (z : Result Meant Trouble). Is z (judged known (shape.units Open (map (shape.unit s) us')))) (sym f) h))
 
+  -- ---- actuals
+
+  module _ (known : Known) (row : Result (List Meant) Trouble) (x : List ℕ) where
+    abbrev AreJudged : List Phrase → Type 0
+    AreJudged ps = Is row (judged_all known (all_of ps))
+
+    -- those of `begin`
+    pub begun_is : (a b : Expr) (es all : List Expr) → bytes_eq x begin ≡ true → all ≡ a ∷ b ∷ es
+        → Is row (judged_all known (all_of ((shape.expr s a ∷ shape.as_start (shape.expr s b) ∷ []) ++ map (shape.expr s) es)))
+        → Is row (judged_all known (all_of (shape.actuals x (map (shape.expr s) all))))
+    begun_is a b es all e is h =
+        subst (λ (t : Bool). AreJudged (if t then shape.second_starts (map (shape.expr s) all) else map (shape.expr s) all)) (sym e)
+        (subst (λ (ys : List Expr). AreJudged (shape.second_starts (map (shape.expr s) ys))) (sym is) h)
+
+    -- those of others, and fewer than two
+    pub others_are : (all : List Expr) → bytes_eq x begin ≡ false → Is row (judged_all known (all_of (map (shape.expr s) all)))
+        → Is row (judged_all known (all_of (shape.actuals x (map (shape.expr s) all))))
+    others_are all e h = subst (λ (t : Bool). AreJudged (if t then shape.second_starts (map (shape.expr s) all) else map (shape.expr s) all)) (sym e) h
+
+    pub only_is : (a : Expr) (all : List Expr) → all ≡ a ∷ [] → Is row (judged_all known (all_of (shape.expr s a ∷ [])))
+        → Is row (judged_all known (all_of (shape.actuals x (map (shape.expr s) all))))
+    only_is a all is h = by_name (bytes_eq x begin)
+      where
+        by_name : (t : Bool) → AreJudged (if t then shape.second_starts (map (shape.expr s) all) else map (shape.expr s) all)
+        by_name true = subst (λ (ys : List Expr). AreJudged (shape.second_starts (map (shape.expr s) ys))) (sym is) h
+        by_name false = subst (λ (ys : List Expr). AreJudged (map (shape.expr s) ys)) (sym is) h
+
+  procedure_shape : (at : ℕ) (n : Name)
+      → shape.expr s (expression.Procedure at n) ≡ around at (form.start false) (leaf n.at (form.start_name s n.text))
+  procedure_shape at n = ap (shape.expr s) (sym (expression.rolls-Procedure at n)) ∙ rw fold-roll-Expr refl
+
   module _ (known : Known) (q : Result Meant Trouble) where
     pub choice_is : (w : Expr) (at : ℕ) (bs bs' : List Branch) (o : Option (List Statement)) → w ≡ expression.If at bs o → bs' ≡ bs
         → Is q (judged known (phrase at (plain form.choice) (choice_parts bs' o))) → Is q (judged known (shape.expr s w))
@@ -152,6 +200,16 @@ module _ (s : Scope) where
         (ap (λ (y : Expr). pair at form.cand (shape.expr s y) (shape.expr s r')) e
         ∙ ap (λ (y : Expr). pair at form.cand (shape.expr s l) (shape.expr s y)) f
         ∙ sym (ap (shape.expr s) (i ∙ sym (expression.rolls-Cand at l r)) ∙ rw fold-roll-Expr refl)) h
+
+    pub procedure_is : (w : Expr) (at : ℕ) (n : Name) → w ≡ expression.Procedure at n
+        → Is q (judged known (around at (form.start false) (leaf n.at (form.start_name s n.text)))) → Is q (judged known (shape.expr s w))
+    procedure_is w at n i h =
+        subst (λ (p : Phrase). Is q (judged known p)) (sym (ap (shape.expr s) i ∙ procedure_shape at n)) h
+
+    pub second_is : (w : Expr) (at : ℕ) (n : Name) → w ≡ expression.Procedure at n
+        → Is q (judged known (around at (form.start true) (leaf n.at (form.start_name s n.text)))) → Is q (judged known (shape.as_start (shape.expr s w)))
+    second_is w at n i h =
+        subst (λ (p : Phrase). Is q (judged known (shape.as_start p))) (sym (ap (shape.expr s) i ∙ procedure_shape at n)) h
 
     pub cor_is : (w : Expr) (at : ℕ) (l l' r r' : Expr) → w ≡ expression.Cor at l r → l' ≡ l → r' ≡ r
         → Is q (judged known (pair at form.cor (shape.expr s l') (shape.expr s r'))) → Is q (judged known (shape.expr s w))

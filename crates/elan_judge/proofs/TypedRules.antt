@@ -17,6 +17,7 @@ use Rattle.elan_meant.specs.Parts as p
 use Rattle.value_rules.specs.Calls as r
 use Rattle.choice_rules.specs.walks.Steps as walk
 use Rattle.elan_rules.specs.Rules as all
+use Rattle.elan_meant.specs.declared.meant.Meant.TheVariants.{Start}
 use Rattle.elan_rules.specs.Rules.{rule, ruled}
 use Rattle.elan_rules.specs.Meaning.{judged, judged_all}
 use Rattle.elan_rules.proofs.First.{bind_gives, before_gives, gives_is}
@@ -28,7 +29,7 @@ use Rattle.elan_rules.proofs.TypedUnits.{number_good, truth_good, text_good, bra
 use Rattle.elan_rules.proofs.TypedUnits.{indexed_good, field_part_good, alone_good, without_value_good, must_deliver_good}
 use Rattle.elan_rules.proofs.TypedChoices.{choice_good, selected_good, label_named_good}
 use Rattle.elan_rules.proofs.TypedLoops.{counted_good, loop_good}
-use Rattle.elan_rules.proofs.TypedCalls.{Fits, named_good, applied_good, declared_good, leaving_good}
+use Rattle.elan_rules.proofs.TypedCalls.{Fits, named_good, applied_good, start_named_good, declared_good, leaving_good}
 
 module _ (here : Stand) (s : Scope) (k : Known) (fits : Fits here s k) where
   abbrev Good : Meant → Type 0
@@ -64,6 +65,11 @@ module _ (here : Stand) (s : Scope) (k : Known) (fits : Fits here s k) where
   exported_good at (Some false) = tt
   exported_good at (Some true) = refl
 
+  started_good : (at : ℕ) (may : Bool) (m : Meant) → Gives Good (r.started at may m)
+  started_good at true (Start n) = tt
+  started_good at true m = tt
+  started_good at false m = tt
+
   plain_rules : (at : ℕ) (f : Plain) (ms : List Meant) → Names s (plain f) → AllGood ms → Gives Good (rule at f ms)
   plain_rules at form.absent ms i g = tt
   plain_rules at form.not_built ms i g = tt
@@ -71,6 +77,8 @@ module _ (here : Stand) (s : Scope) (k : Known) (fits : Fits here s k) where
   plain_rules at (form.truth b) ms i g = truth_good here at b
   plain_rules at (form.text x) ms i g = text_good here at x
   plain_rules at (form.applied z sort x) ms i g = in_scope (λ y. r.applied at y sort x ms) z i (applied_good here s k fits at sort x ms g)
+  plain_rules at (form.start_name z x) ms i g = in_scope (λ y. r.start_named at y x) z i (start_named_good here s k fits at x)
+  plain_rules at (form.start may) ms i g = started_good at may (p.nth ms 0)
   plain_rules at form.bracket ms i g = bracketed_good here at (p.nth ms 0) (good_part ms 0 g)
   plain_rules at (form.concr z) ms i g = concr_good here at z (p.nth ms 0) (good_part ms 0 g)
   plain_rules at form.index ms i g = indexed_good here at (p.nth ms 0) (p.nth ms 1) (good_part ms 0 g) (good_part ms 1 g)

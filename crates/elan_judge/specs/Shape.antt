@@ -1,6 +1,8 @@
 -- The phrases of expressions and units.
-use Rattle.std.specs.Prelude.{ℕ, ℤ, Bool, List, [], ◌∷◌, ◌++◌, map, flat_map, Option, Some, None, is_none, option_to_list}
+use Rattle.std.specs.Prelude.{ℕ, ℤ, Bool, true, false, if◌then◌else◌, List, [], ◌∷◌, ◌++◌, map, flat_map, Option, Some, None, is_none, option_to_list}
 use Rattle.std.specs.List.{list_all}
+use Rattle.std.specs.Str.{bytes_eq}
+use Rattle.value_rules.specs.Calls.{begin}
 use Rattle.std.specs.Option.{option_map, option_map_or, unwrap_or}
 use Rattle.eu_base.specs.declared.operation.Way.{Way}
 use Rattle.eu_base.specs.declared.operation.Way.TheVariants.{Up, Down}
@@ -63,6 +65,21 @@ units d us = row 0 form.units (roles d (filled us))
 abbrev pub branches : List (Phrase × Phrase) → List Phrase
 branches bs = flat_map (λ b. b.0 ∷ b.1 ∷ []) bs
 
+-- ---- actuals
+
+-- PROC with a name, where it may stand
+abbrev pub as_start : Phrase → Phrase
+as_start (phrase at (form.plain (form.start may)) ps) = phrase at (form.plain (form.start true)) ps
+as_start p = p
+
+abbrev pub second_starts : List Phrase → List Phrase
+second_starts (p ∷ q ∷ ps) = p ∷ as_start q ∷ ps
+second_starts ps = ps
+
+-- It may stand as the second actual of `begin`.
+abbrev pub actuals : List ℕ → List Phrase → List Phrase
+actuals x ps = if bytes_eq x begin then second_starts ps else ps
+
 -- ---- loops
 
 -- the counter of a loop: the name, what it begins with, the limit, and the way to it
@@ -116,7 +133,7 @@ module _ (s : Scope) where
   expr_step (t.Truth at b) = leaf at (form.truth b)
   expr_step (t.Text at x) = leaf at (form.text x)
   expr_step (t.Named n) = name Expression n.at s n.text
-  expr_step (t.Call n actuals) = row n.at (form.applied s Procedure n.text) actuals
+  expr_step (t.Call n as') = row n.at (form.applied s Procedure n.text) (actuals n.text as')
   expr_step (t.Bracket at a) = around at form.bracket a
   expr_step (t.If at bs other) = row at form.choice (branches bs ++ written (option_map (units Open) other) ∷ [])
   expr_step (t.Select at of cases other) = row at form.selection (of ∷ arms [] cases ++ written (option_map (units Open) other) ∷ [])
@@ -124,7 +141,7 @@ module _ (s : Scope) where
   expr_step (t.Dyadic at o a b) = pair at (form.applied s Operator (operator_text o)) a b
   expr_step (t.Cand at a b) = pair at form.cand a b
   expr_step (t.Cor at a b) = pair at form.cor a b
-  expr_step (t.Procedure at n) = leaf at form.not_built
+  expr_step (t.Procedure at n) = around at (form.start false) (leaf n.at (form.start_name s n.text))
   expr_step (t.Concr at a) = around at (form.concr s) a
   expr_step (t.Index at of index) = pair at form.index of index
   expr_step (t.Field at of field) = around at (form.field field.text) of

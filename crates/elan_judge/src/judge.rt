@@ -3,7 +3,8 @@
 ghost use Rattle.std.specs.Prelude.{option_map, ℕ, ◌≡◌, ◌++◌, ◌∷◌, [], List, map};
 ghost use Rattle.elan_scope.specs.declared.scope.Scope.{Scope};
 ghost use Rattle.elan_scope.specs.Phrase as form;
-ghost use Rattle.elan_scope.specs.Phrase.{Phrase, row, all_of};
+ghost use Rattle.elan_scope.specs.Phrase.{Phrase, row, leaf, around, all_of};
+ghost use Rattle.elan_scope.specs.declared.known.Known.{Known as Knowns};
 ghost use Rattle.elan_rules.specs.Meaning.{judged, judged_all};
 ghost use Rattle.elan_scope.specs.Answer.{Is};
 ghost use Rattle.elan_meant.specs.walks.Arity.{triple};
@@ -27,17 +28,25 @@ use elan_rules::whole::{
 use elan_scope::known::Known;
 use elan_scope::scope::{Scope, Usage};
 use elan_scope::trouble::Trouble;
-use elan_tree::{Branch, Case, Counter, Expr, Item, Limit, Unit};
+use elan_tree::{Branch, Case, Counter, Expr, Item, Limit, Name, Unit};
 use elan_types::{Way, Why};
 use elan_unbuilt::operator_text;
 use eu_base::List;
 use std::alloc::Global;
 use unit_rules::list::{alone, declaration, in_order, must_deliver, without_value};
-use value_rules::call::applied;
+use value_rules::call::{applied, is_begin_name};
 use value_rules::leave::leaving;
-use value_rules::name::{declared, named};
+use value_rules::name::{declared, named, start_named, started};
 use value_rules::part::field_part;
 use value_rules::value::{bracketed, concr, number, text, truth};
+
+// PROC with a name.
+fn start(at: u32, scope: &Scope, may: bool, name: &Name) -> Judged
+    ensures { (known : Knowns) → Is result (judged known (around at (form.start may) (leaf name.now.at (form.start_name scope.now name.now.text)))) }
+{
+    let meant = start_named(name.at, scope, name.text.as_slice())?;
+    started(at, may, meant)
+}
 
 fn way(limit: &Limit) -> Way
     ensures { (s : Scope) → result ≡ (shape.limit s limit.now).0 }
@@ -63,12 +72,10 @@ fn judge(alloc: Global, known: &Known, scope: &Scope, expr: &Expr) -> Judged
             named(alloc, known, Usage::Expression, name.at, scope, text)
         },
         Expr::Call(name, actuals) => {
-            match judge_exprs(alloc, known, scope, actuals.as_slice()) {
+            let text = name.text.as_slice();
+            match judge_actuals(alloc, known, scope, text, actuals.as_slice()) {
                 Err(trouble) => Err(trouble),
-                Ok(actuals) => {
-                    let text = name.text.as_slice();
-                    applied(alloc, name.at, scope, Sort::Procedure, text, actuals)
-                }
+                Ok(actuals) => applied(alloc, name.at, scope, Sort::Procedure, text, actuals),
             }
         }
         Expr::Bracket(at, inner) => {
@@ -158,7 +165,7 @@ fn judge(alloc: Global, known: &Known, scope: &Scope, expr: &Expr) -> Judged
             let right = judge(alloc, known, scope, right.get());
             cor_phrase(alloc, *at, left, right)
         }
-        Expr::Procedure(at, _) => Err(Trouble::Breaks(*at, Why::Unknown)),
+        Expr::Procedure(at, name) => start(*at, scope, false, name),
         Expr::Concr(at, inner) => {
             match judge(alloc, known, scope, inner.get()) {
                 Err(trouble) => Err(trouble),
@@ -179,12 +186,43 @@ fn judge(alloc: Global, known: &Known, scope: &Scope, expr: &Expr) -> Judged
     }
 }
 
+// PROC with a name, where it may stand.
+#[cycle(judge)]
+fn judge_second(alloc: Global, known: &Known, scope: &Scope, expr: &Expr) -> Judged
+    ensures { Is result (judged known.now (shape.as_start (shape.expr scope.now expr.now))) }
+{
+    match expr {
+        Expr::Procedure(at, name) => start(*at, scope, true, name),
+        _ => judge(alloc, known, scope, expr),
+    }
+}
+
 // The operands of a call.
 #[cycle(judge)]
-fn judge_exprs(alloc: Global, known: &Known, scope: &Scope, exprs: &[Expr]) -> Row
-    ensures { Is result (judged_all known.now (all_of (map (shape.expr scope.now) exprs.now))) }
+fn judge_actuals(alloc: Global, known: &Known, scope: &Scope, name: &[u8], exprs: &[Expr]) -> Row
+    ensures { Is result (judged_all known.now (all_of (shape.actuals name.now (map (shape.expr scope.now) exprs.now)))) }
 {
-    let mut row = none(alloc);
+    if !is_begin_name(name) {
+        return add_exprs(alloc, known, scope, none(alloc), exprs);
+    }
+    match exprs {
+        [] => Ok(List::new(alloc)),
+        [only] => one(alloc, judge(alloc, known, scope, only)),
+        [first, second, others @ ..] => {
+            let first = judge(alloc, known, scope, first);
+            let row = pair(alloc, first, judge_second(alloc, known, scope, second));
+            add_exprs(alloc, known, scope, row, others)
+        }
+    }
+}
+
+// A row, and behind it expressions.
+#[cycle(judge)]
+fn add_exprs(alloc: Global, known: &Known, scope: &Scope, front: Row, exprs: &[Expr]) -> Row
+    ensures { (done : List Phrase) → Is front (judged_all known.now (all_of done)) → Is result
+        (judged_all known.now (all_of (done ++ map (shape.expr scope.now) exprs.now))) }
+{
+    let mut row = front;
     for expr in exprs {
         row = with(row, judge(alloc, known, scope, expr));
     }

@@ -1,5 +1,5 @@
 -- The names that units declare are found, where their scope has what they declare.
-use Rattle.std.proofs.Common.{◌≡◌, ℤ, ℕ, true, List, [], ◌∷◌, ◌++◌, map, Option, Some, None}
+use Rattle.std.proofs.Common.{◌≡◌, ℤ, ℕ, Bool, true, false, if◌then◌else◌, List, [], ◌∷◌, ◌++◌, map, Option, Some, None}
 use Rattle.std.specs.Prelude.{flat_map}
 use Rattle.std.specs.Option.{is_some}
 use Rattle.elan_tree.specs.declared.written_type.Name.{Name}
@@ -24,7 +24,9 @@ use Rattle.elan_scope.specs.declared.delivery.Delivery.{Delivery}
 use Rattle.elan_scope.specs.declared.delivery.Delivery.TheVariants.{Open, Nothing, Of}
 use Rattle.elan_scope.specs.declared.scope.Scope.{Scope}
 use Rattle.elan_scope.specs.Phrase as form
-use Rattle.elan_scope.specs.Phrase.{Phrase, all_of}
+use Rattle.elan_scope.specs.Phrase.{plain, Phrase, phrase, all_of}
+use Rattle.std.specs.Str.{bytes_eq}
+use Rattle.value_rules.specs.Calls.{begin}
 use Rattle.elan_judge.specs.Shape as shape
 use Rattle.elan_judge.specs.walks.Steps as walk
 use Rattle.elan_tree.specs.declared.written_type.TypePhrase.{TypePhrase}
@@ -147,6 +149,22 @@ module _ (s : Scope) (ts : List TypeName) where
     exprs_in : (es : List ((e : Expr) × E e)) → Fine (nodes.all (map nodes.in_expr (map fst es))) → AllServed (all_of (map (shape.expr s) (map fst es)))
     exprs_in [] h = tt
     exprs_in (e ∷ es) h = let q = split (nodes.in_expr e.0) (nodes.all (map nodes.in_expr (map fst es))) h in (e.1 q.0, exprs_in es q.1)
+
+    actuals_in : (x : List ℕ) (ps : List Phrase) → AllServed (all_of ps) → AllServed (all_of (shape.actuals x ps))
+    actuals_in x ps h = by_name (bytes_eq x begin)
+      where
+        start_in : (p : Phrase) → AreServed p → AreServed (shape.as_start p)
+        start_in (phrase at (plain (form.start may)) qs) g = g
+        start_in p g = g
+
+        second : (qs : List Phrase) → AllServed (all_of qs) → AllServed (all_of (shape.second_starts qs))
+        second [] g = g
+        second (p ∷ []) g = g
+        second (p ∷ q ∷ qs) g = (g.0, (start_in q g.1.0, g.1.1))
+
+        by_name : (b : Bool) → AllServed (all_of (if b then shape.second_starts ps else ps))
+        by_name true = second ps h
+        by_name false = h
 
     append_in : (ps qs : List Phrase) → AllServed (all_of ps) → AllServed (all_of qs) → AllServed (all_of (ps ++ qs))
     append_in [] qs h g = g
@@ -298,8 +316,9 @@ module _ (s : Scope) (ts : List TypeName) where
     expr_in (t.Text at x) h = (tt, tt)
     expr_in (t.Truth at b) h = (tt, tt)
     expr_in (t.Named n) h = (bodies n.text, tt)
-    expr_in (t.Call n actuals) h = (tt, exprs_in actuals (rest (other n) (nodes.all (map nodes.in_expr (map fst actuals))) h))
-    expr_in (t.Procedure at n) h = (tt, tt)
+    expr_in (t.Call n actuals) h =
+        (tt, actuals_in n.text (map (shape.expr s) (map fst actuals)) (exprs_in actuals (rest (other n) (nodes.all (map nodes.in_expr (map fst actuals))) h)))
+    expr_in (t.Procedure at n) h = (tt, ((tt, tt), tt))
     expr_in (t.Concr at a) h = (tt, (a.1 h, tt))
     expr_in (t.Bracket at a) h = (tt, (a.1 h, tt))
     expr_in (t.If at branches None) h = (branches_odd (form.leaf 0 form.absent) branches, choice_in branches None h)

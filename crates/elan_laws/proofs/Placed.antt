@@ -1,6 +1,6 @@
 -- Rules break at the place of their phrase or of a part, and what phrases mean keeps such a place.
 use Rattle.eu_base.specs.declared.operation.Way.{Way}
-use Rattle.std.proofs.Common.{ℕ, ◌+◌, ℤ, Bool, true, false, ◌&&◌, if◌then◌else◌, nat_le, List, [], ◌∷◌, length, drop, Option, Some, None, nat_eq, zero, suc}
+use Rattle.std.proofs.Common.{ℕ, ◌+◌, ℤ, Bool, true, false, ◌&&◌, ◌||◌, if◌then◌else◌, nat_le, List, [], ◌∷◌, length, drop, Option, Some, None, nat_eq, zero, suc}
 use Rattle.elan_types.specs.declared.elan_type.ElanType.{ElanType}
 use Rattle.elan_types.specs.declared.elan_type.ElanType.TheVariants as type
 use Rattle.elan_types.specs.Types.{concrete, is_own_from, shape_in, has_own, items, field}
@@ -47,9 +47,9 @@ use Rattle.elan_scope.specs.Phrase.{Form, Plain, plain}
 use Rattle.elan_scope.specs.Ruled as ruled
 use Rattle.elan_scope.specs.Ruled.{Ruled, hangs}
 use Rattle.elan_meant.specs.declared.meant.Meant.{Meant}
-use Rattle.elan_meant.specs.declared.meant.Meant.TheVariants.{Absent, Variable, Value, Left, Labels}
+use Rattle.elan_meant.specs.declared.meant.Meant.TheVariants.{Absent, Variable, Value, Left, Labels, Start}
 use Rattle.elan_meant.specs.Verdict.{Verdict, gives, breaks, ◌>>=◌, told, unless}
-use Rattle.elan_meant.specs.Operands.{delivers, chosen, becomes}
+use Rattle.elan_meant.specs.Operands.{delivers, fit, chosen, becomes}
 use Rattle.elan_meant.specs.Parts as p
 use Rattle.value_rules.specs.Values as v
 use Rattle.value_rules.specs.walks.Steps as value_walk
@@ -220,7 +220,25 @@ module _ (ns : List ℕ) where
     applied_as_placed known ms None h = on_if Placed known _ _ here here
 
     applied_placed : (s : Scope) (sort : Sort) (x : List ℕ) (ms : List Meant) → AllPlaced ms → Tells Placed (r.applied at s sort x ms)
-    applied_placed s sort x ms h = applied_as_placed (is_known s sort x (length ms)) ms (chosen s sort x ms) h
+    applied_placed s sort x ms h = by_start (r.start_among ms)
+      where
+        by_start : (o : Option ℕ) → Tells Placed (r.applied_or at s sort x ms o)
+        by_start (Some n) =
+            let two = p.nth ms 0 ∷ p.nth ms 2 ∷ [] in
+            on_if Placed (fit (r.begins n).parameters two) _ _ (called_placed (r.begins n) two (nth_placed ms 0 h, (nth_placed ms 2 h, tt))) here
+        by_start None = applied_as_placed (r.is_begin sort x (length ms) || is_known s sort x (length ms)) ms (chosen s sort x ms) h
+
+    start_named_placed : (s : Scope) (x : List ℕ) → Tells Placed (r.start_named at s x)
+    start_named_placed s x = by_number (r.start_of s x)
+      where
+        by_number : (o : Option ℕ) → Tells Placed (r.start_as at (r.is_name_known s x) o)
+        by_number (Some n) = tt
+        by_number None = on_if Placed (r.is_name_known s x) _ _ tt here
+
+    started_placed : (may : Bool) (m : Meant) → Tells Placed (r.started at may m)
+    started_placed true (Start n) = tt
+    started_placed true m = here
+    started_placed false m = here
 
     -- ---- names
 
@@ -388,6 +406,8 @@ module _ (ns : List ℕ) where
   rule_placed at (form.truth b) ms h g = h
   rule_placed at (form.text x) ms h g = text_placed at h x
   rule_placed at (form.applied s sort x) ms h g = applied_placed at h s sort x ms g
+  rule_placed at (form.start_name s x) ms h g = start_named_placed at h s x
+  rule_placed at (form.start may) ms h g = started_placed at h may (p.nth ms 0)
   rule_placed at form.bracket ms h g = bracketed_placed at h (p.nth ms 0)
   rule_placed at (form.concr s) ms h g = concr_placed at h s (p.nth ms 0)
   rule_placed at form.index ms h g = indexed_placed at h (p.nth ms 0) (p.nth ms 1)

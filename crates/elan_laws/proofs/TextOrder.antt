@@ -1,5 +1,5 @@
 -- The phrases of expressions and units stand in text order.
-use Rattle.std.proofs.Common.{◌≡◌, ℤ, ℕ, List, [], ◌∷◌, ◌++◌, map, Option, Some, None, refl, sym, ap, subst, ◌∙◌, append_assoc}
+use Rattle.std.proofs.Common.{◌≡◌, ℤ, ℕ, Bool, true, false, if◌then◌else◌, List, [], ◌∷◌, ◌++◌, map, Option, Some, None, refl, sym, ap, subst, ◌∙◌, append_assoc}
 use Rattle.std.proofs.lemmas.List.{append-nil}
 use Rattle.elan_tree.specs.declared.written_type.Name.{Name}
 use Rattle.elan_tree.specs.declared.written_type.Constant.TheVariants as constants
@@ -23,7 +23,9 @@ use Rattle.elan_scope.specs.declared.delivery.Delivery.{Delivery}
 use Rattle.elan_scope.specs.declared.delivery.Delivery.TheVariants.{Open, Nothing, Of}
 use Rattle.elan_scope.specs.declared.scope.Scope.{Scope}
 use Rattle.elan_scope.specs.Phrase as form
-use Rattle.elan_scope.specs.Phrase.{Phrase, all_of}
+use Rattle.elan_scope.specs.Phrase.{plain, Phrase, phrase, all_of}
+use Rattle.std.specs.Str.{bytes_eq}
+use Rattle.value_rules.specs.Calls.{begin}
 use Rattle.elan_judge.specs.Shape as shape
 use Rattle.elan_judge.specs.walks.Steps as walk
 use Rattle.elan_laws.specs.Places as at
@@ -103,6 +105,23 @@ roles_follow d (p ∷ q ∷ ps) ns h =
 
 list_follows : (d : Delivery) (us : List (Option Phrase)) (rest : List (List ℕ)) → AllStart us rest → IsSame (in_phrase (shape.units d us)) (at.all rest)
 list_follows d us rest h = roles_follow d (shape.filled us) (at.all rest) (filled_start us rest h)
+
+-- PROC has its place wherever it may stand
+start_places : (p : Phrase) → in_phrase (shape.as_start p) ≡ in_phrase p
+start_places (phrase at (plain (form.start may)) ps) = refl
+start_places p = refl
+
+actuals_places : (x : List ℕ) (ps : List Phrase) → places_of (shape.actuals x ps) ≡ places_of ps
+actuals_places x ps = by_name (bytes_eq x begin)
+  where
+    second : (qs : List Phrase) → places_of (shape.second_starts qs) ≡ places_of qs
+    second [] = refl
+    second (p ∷ []) = refl
+    second (p ∷ q ∷ qs) = ap (λ (l : List ℕ). in_phrase p ++ (l ++ places_of qs)) (start_places q)
+
+    by_name : (b : Bool) → places_of (if b then shape.second_starts ps else ps) ≡ places_of ps
+    by_name true = second ps
+    by_name false = refl
 
 module _ (s : Scope) where
   abbrev E : Expr → Type 0
@@ -211,8 +230,10 @@ module _ (s : Scope) where
   expr_starts (t.Text a x) = placed a nothing
   expr_starts (t.Truth a b) = placed a nothing
   expr_starts (t.Named n) = placed n.at nothing
-  expr_starts (t.Call n actuals) = placed n.at (exprs_follow actuals)
-  expr_starts (t.Procedure a n) = placed a nothing
+  expr_starts (t.Call n actuals) =
+      let all = at.all (map at.in_expr (map fst actuals)) in
+      placed n.at (subst (λ (l : List ℕ). IsSame l all) (sym (actuals_places n.text (map (shape.expr s) (map fst actuals)))) (exprs_follow actuals))
+  expr_starts (t.Procedure a n) = placed a (equal (n.at ∷ []))
   expr_starts (t.Concr a b) = placed a (one_part (shape.expr s b.0) (whole (shape.expr s b.0) b.1))
   expr_starts (t.Bracket a b) = placed a (one_part (shape.expr s b.0) (whole (shape.expr s b.0) b.1))
   expr_starts (t.If a branches None) =

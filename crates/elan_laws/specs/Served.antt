@@ -30,6 +30,7 @@ HasOdd (part p (part q ps)) = HasOdd ps
 abbrev pub IsServed : Form → Parts → Type 0
 IsServed (form.named u s x) ps = HasBody s x (find s x)
 IsServed (form.leave s x) ps = Has 1 ps
+IsServed (plain (form.start may)) ps = Has 1 ps
 IsServed (plain form.bracket) ps = Has 1 ps
 IsServed (plain (form.concr s)) ps = Has 1 ps
 IsServed (plain form.index) ps = Has 2 ps

@@ -25,6 +25,8 @@ pub enum Meant {
     /// A phrase that ends with a LEAVE: it delivers nothing, and agrees with every type.
     Left(List<Action>),
     Labels(List<i16>),
+    /// The PROC, by its number among all bodies, in which a task can start.
+    Start(usize),
     /// PROCs, OPs and refinements.
     Bodies(List<Body>),
     /// The units of a level, and its bodies.

@@ -40,8 +40,8 @@ pub fn delivers_kind(kind: Kind, meant: &Meant) -> bool
     delivered
 }
 
-// Whether parameters take these operands.
-fn fit(parameters: Parameters<'_>, operands: &[Meant]) -> bool
+/// Whether parameters take these operands.
+pub fn fit(parameters: Parameters<'_>, operands: &[Meant]) -> bool
     ensures { result ≡ spec.fit (seen.parameters parameters.entry) operands.now }
 {
     match (parameters, operands) {

@@ -14,7 +14,7 @@ use Rattle.elan_names.specs.declared.heading.What.TheVariants.{Routine, Refineme
 use Rattle.elan_names.specs.Callees.{Body}
 use Rattle.std.specs.Option.{option_or}
 use Rattle.elan_names.specs.Callables.{Callable, own_callable, own_callables, first, first_heading}
-use Rattle.elan_names.specs.Callables.{is_alike, is_routine, is_refined, is_refinement_of, is_called, same_sort, has_as_many}
+use Rattle.elan_names.specs.Callables.{is_alike, is_routine, is_refined, is_refinement_of, is_called, same_sort, are_many, has_as_many}
 use Rattle.elan_names.specs.walks.Numbers.{numbers_from, numbers_named, if_passes, first_among, callable_at, callables_among}
 
 and_left : (a b : Bool) → (a && b) ≡ true → a ≡ true
@@ -127,9 +127,9 @@ pub refined_first : (home : Option ℕ) (x : List ℕ) (hs : List Heading)
     → first_among (is_refined home x) hs (numbers_named hs x) ≡ first_heading (is_refined home x) hs
 refined_first home x hs = headings x hs (is_refined home x) (refined_named home x)
 
-pub callables_known : (sort : Sort) (x : List ℕ) (n b : ℕ) (hs : List Heading)
-    → first (has_as_many sort x n) (callables_among b hs (numbers_named hs x)) ≡ first (has_as_many sort x n) (own_callables b hs)
-callables_known sort x n b hs = callables x hs (has_as_many sort x n) (λ c. called_named sort x (length c.parameters == n) c) b
+pub callables_known : (sort : Sort) (x : List ℕ) (count : Option ℕ) (b : ℕ) (hs : List Heading)
+    → first (has_as_many sort x count) (callables_among b hs (numbers_named hs x)) ≡ first (has_as_many sort x count) (own_callables b hs)
+callables_known sort x count b hs = callables x hs (has_as_many sort x count) (λ c. called_named sort x (are_many count c.parameters) c) b
 
 -- ---- one number after another
 

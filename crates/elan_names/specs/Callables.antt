@@ -1,5 +1,5 @@
 -- What can be called, and bodies by their headings.
-use Rattle.std.specs.Prelude.{ℕ, Bool, true, false, ◌&&◌, ◌||◌, ◌==◌, List, [], ◌∷◌, flat_map, length, Option, option_map}
+use Rattle.std.specs.Prelude.{ℕ, Bool, true, false, ◌&&◌, ◌||◌, ◌==◌, List, [], ◌∷◌, flat_map, length, Option, Some, None, option_map}
 pub use Rattle.std.specs.Prelude.{find as first}
 use Rattle.std.specs.List.{enumerate_from, list_any}
 use lib.Pointwise.{pointwise}
@@ -48,8 +48,13 @@ predefined_callable r = record { sort = r.0; name = r.1; parameters = parameters
 abbrev pub is_called : Sort → List ℕ → Callable → Bool
 is_called sort x c = same_sort sort c.sort && bytes_eq c.name x
 
-abbrev pub has_as_many : Sort → List ℕ → ℕ → Callable → Bool
-has_as_many sort x n c = is_called sort x c && length c.parameters == n
+-- so many parameters, or any number of them
+abbrev pub are_many : Option ℕ → List Parameter → Bool
+are_many None ps = true
+are_many (Some n) ps = length ps == n
+
+abbrev pub has_as_many : Sort → List ℕ → Option ℕ → Callable → Bool
+has_as_many sort x count c = is_called sort x c && are_many count c.parameters
 
 -- ---- what has no meaning
 

@@ -49,6 +49,16 @@ impl<'a> Parameters<'a> {
         }
     }
 
+    // Whether they are so many; any number of them will do where none is told.
+    fn are_many(self, count: Option<usize>) -> bool
+        ensures { result ≡ spec.are_many count (seen.parameters self.entry) }
+    {
+        match count {
+            None => true,
+            Some(count) => self.len() == count,
+        }
+    }
+
     /// What a core knows of the first, if there is one.
     #[tactic(auto, using(elan_types::proofs::Types::type_shape))]
     pub fn first(self, alloc: Global) -> Result<Option<Formal>, NoMemory>
@@ -144,10 +154,11 @@ impl Callable<'_> {
         sort.is_same(self.sort) && is_one(self.name, name)
     }
 
-    fn has_as_many(&self, sort: Sort, name: &[u8], count: usize) -> bool
+    // With so many parameters, or with any number of them.
+    fn has_as_many(&self, sort: Sort, name: &[u8], count: Option<usize>) -> bool
         ensures { result ≡ spec.has_as_many sort name.now count (seen.callable self.now) }
     {
-        self.is_called(sort, name) && self.what.parameters().len() == count
+        self.is_called(sort, name) && self.what.parameters().are_many(count)
     }
 }
 
@@ -178,7 +189,7 @@ pub fn predefined_callable(row: &Row) -> Callable<'static>
 }
 
 // Whether what is called, if anything is, has a name and so many parameters.
-fn is_such(callable: Option<Callable<'_>>, sort: Sort, name: &[u8], count: usize) -> bool
+fn is_such(callable: Option<Callable<'_>>, sort: Sort, name: &[u8], count: Option<usize>) -> bool
     ensures { result ≡ is_some (spec.first (spec.has_as_many sort name.now count) (seen.listed callable.entry)) }
 {
     match callable {
@@ -187,8 +198,14 @@ fn is_such(callable: Option<Callable<'_>>, sort: Sort, name: &[u8], count: usize
     }
 }
 
-/// Whether a PROC or OP of a level, before whose bodies there are so many, has a name and so many parameters.
-pub fn is_own(headings: &Headings, before: usize, sort: Sort, name: &[u8], count: usize) -> bool
+/// Whether a PROC or OP of a level, before whose bodies there are so many, has a name and so many parameters, or any number of them.
+pub fn is_own(
+    headings: &Headings,
+    before: usize,
+    sort: Sort,
+    name: &[u8],
+    count: Option<usize>,
+) -> bool
     ensures { result ≡ is_some (spec.first (spec.has_as_many sort name.now count) (spec.own_callables before headings.now)) }
 {
     for number in headings.named(name) {
@@ -199,8 +216,8 @@ pub fn is_own(headings: &Headings, before: usize, sort: Sort, name: &[u8], count
     false
 }
 
-/// Whether what is predefined has a name and so many parameters.
-pub fn is_predefined(sort: Sort, name: &[u8], count: usize) -> bool
+/// Whether what is predefined has a name and so many parameters, or any number of them.
+pub fn is_predefined(sort: Sort, name: &[u8], count: Option<usize>) -> bool
     ensures { result ≡ is_some (spec.first (spec.has_as_many sort name.now count) (map spec.predefined_callable predefined)) }
 {
     let mut rest = rows();

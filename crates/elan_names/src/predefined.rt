@@ -376,6 +376,11 @@ const TEXT_VAR: Operand = Operand {
     access: Access::Var,
 };
 
+const TASK_VAR: Operand = Operand {
+    kind: Kind::Task,
+    access: Access::Var,
+};
+
 // The operands of an operation are values.
 fn operands(operation: Operation) -> &'static [Operand]
     ensures { map seen.operand result.now ≡ values_of (operand_kinds operation) }
@@ -436,6 +441,7 @@ fn request_operands(name: RequestName) -> &'static [Operand]
         | RequestName::End
         | RequestName::Break => &[],
         RequestName::Named => &[TEXT],
+        RequestName::Begin(_) => &[TEXT, TASK_VAR],
         RequestName::FatherOf
         | RequestName::Son
         | RequestName::Brother

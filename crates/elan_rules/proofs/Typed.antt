@@ -12,7 +12,7 @@ use Rattle.elan_types.specs.declared.core_phrase.ValuePhrase.TheVariants as valu
 use Rattle.elan_types.specs.declared.core_phrase.Action.{Action}
 use Rattle.elan_types.specs.declared.core_phrase.Action.TheVariants as action
 use Rattle.elan_meant.specs.declared.meant.Meant.{Meant}
-use Rattle.elan_meant.specs.declared.meant.Meant.TheVariants.{Absent, Variable, Value, Done, Left, Labels, Bodies, Level}
+use Rattle.elan_meant.specs.declared.meant.Meant.TheVariants.{Absent, Variable, Value, Done, Left, Labels, Bodies, Level, Start}
 use Rattle.elan_scope.specs.Ruled as ruled
 use Rattle.elan_scope.specs.Ruled.{Ruled, hangs}
 use Rattle.elan_meant.specs.Verdict.{Verdict, gives, breaks, ◌>>=◌, told, unless}
@@ -101,6 +101,7 @@ module _ (here : Stand) where
   Good (Done as') = AllTyped as'
   Good (Left as') = AllTyped as'
   Good (Labels ns) = Unit {0}
+  Good (Start k) = Unit {0}
   Good (Bodies bs) = Unit {0}
   Good (Level us bs) = Unit {0}
 
@@ -149,6 +150,7 @@ module _ (here : Stand) where
   value_typed t (Done as') g e = absurd cc
   value_typed t (Left as') g e = absurd cc
   value_typed t (Labels ns) g e = absurd cc
+  value_typed t (Start k) g e = absurd cc
   value_typed t (Bodies bs) g e = absurd cc
   value_typed t (Level us bs) g e = absurd cc
 
@@ -160,6 +162,7 @@ module _ (here : Stand) where
   variable_good at t (Done as') g e = tt
   variable_good at t (Left as') g e = tt
   variable_good at t (Labels ns) g e = tt
+  variable_good at t (Start k) g e = tt
   variable_good at t (Bodies bs) g e = tt
   variable_good at t (Level us bs) g e = tt
 
@@ -170,6 +173,7 @@ module _ (here : Stand) where
   may_typed t (Done as') g e = absurd cc
   may_typed t (Left as') g e = absurd cc
   may_typed t (Labels ns) g e = absurd cc
+  may_typed t (Start k) g e = absurd cc
   may_typed t (Bodies bs) g e = absurd cc
   may_typed t (Level us bs) g e = absurd cc
 
@@ -194,6 +198,7 @@ module _ (here : Stand) where
   actions_typed (Done as') g = g
   actions_typed (Left as') g = g
   actions_typed (Labels ns) g = refl
+  actions_typed (Start k) g = refl
   actions_typed (Bodies bs) g = refl
   actions_typed (Level us bs) g = refl
 

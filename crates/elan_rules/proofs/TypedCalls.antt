@@ -1,6 +1,6 @@
 -- Names, calls and LEAVE have the shapes that they ask for.
 -- This file is long since one record, what a scope tells of the bodies, is the premise of all that stands in it.
-use Rattle.std.proofs.Common.{◌≡◌, ℕ, Bool, true, false, if◌then◌else◌, List, [], ◌∷◌, ◌++◌, ◌+◌, suc, length, drop, arith, map, Option, Some, None, refl}
+use Rattle.std.proofs.Common.{◌≡◌, ℕ, Bool, true, false, if◌then◌else◌, ◌||◌, List, [], ◌∷◌, ◌++◌, ◌+◌, suc, length, drop, arith, map, Option, Some, None, refl}
 use Rattle.std.proofs.Common.{sym, ap, subst, ◌∙◌}
 use Rattle.elan_types.specs.declared.elan_type.ElanType.{ElanType}
 use Rattle.elan_types.specs.declared.core_phrase.PlacePhrase.{PlacePhrase}
@@ -11,7 +11,7 @@ use Rattle.elan_types.specs.declared.core_phrase.Action.TheVariants as action
 use Rattle.elan_meant.specs.declared.meant.Meant.{Meant}
 use Rattle.elan_scope.specs.declared.scope.Usage.{Usage}
 use Rattle.elan_scope.specs.declared.scope.Usage.TheVariants as usage
-use Rattle.elan_meant.specs.declared.meant.Meant.TheVariants.{Absent, Variable, Value, Done, Left, Labels, Bodies, Level}
+use Rattle.elan_meant.specs.declared.meant.Meant.TheVariants.{Absent, Variable, Value, Done, Left, Labels, Bodies, Level, Start}
 use Rattle.std.specs.Prelude.{slice_get, nat_eq, option_and_then, option_map, option_to_list, ◌==◌, ◌&&◌}
 use lib.Seq.{drop-drop}
 use Rattle.std.proofs.Common.{append-nil}
@@ -57,7 +57,7 @@ use Rattle.elan_scope.specs.walks.Seen.{called_in_packets, found_in_packets, fou
 use Rattle.elan_names.specs.declared.interface.Inserted.{Inserted}
 use Rattle.elan_names.specs.Interfaces.{exports}
 use Rattle.elan_names.proofs.Named.{first_heading_from, and_right}
-use Rattle.elan_meant.specs.Operands.{delivers, takes, chosen}
+use Rattle.elan_meant.specs.Operands.{delivers, fit, takes, chosen}
 use Rattle.eu_base.specs.Shapes.{cell_kinds}
 use Rattle.elan_types.specs.declared.core_phrase.PlacePhrase.TheVariants as place
 use Rattle.elan_types.proofs.Sized.{is_sized, is_sized_type}
@@ -72,7 +72,10 @@ use Rattle.value_rules.specs.walks.Steps as walk
 use Rattle.elan_rules.proofs.TypeEquations.{Stand, typed, cells, frame, variable_is, packet_is, local_is, parameter_is, refer_is, action_refer_is, leave_is, leave_with_is}
 use Rattle.std.proofs.lemmas.Bool.Decides.{Decides-eqb}
 use Rattle.elan_rules.proofs.TypedPerformed.{owner_with, behind, Headed, Delivering, BodyFits, Fitting, MayCall, none_holds, has_holds, own_calls, predefined_calls}
-use Rattle.elan_rules.proofs.TypedPerformed.{first_calls, else_calls, called_good}
+use Rattle.elan_rules.proofs.TypedPerformed.{first_calls, else_calls, called_good, predefined_performs}
+use Rattle.eu_base.specs.declared.request.RequestName.TheVariants as requests
+use Rattle.elan_names.specs.declared.predefined.Predefined.TheVariants.{Request}
+use Rattle.elan_meant.specs.Parts as p
 
 -- ---- look-ups
 
@@ -312,9 +315,27 @@ module _ (here : Stand) where
     applied_as_good at known sort x ms (Some c) h g = called_good here at c ms h.0 g (both _ _ h.1).1
     applied_as_good at known sort x ms None h g = on_if Good known _ _ (λ e. tt) (λ e. tt)
 
+    -- `begin` is as every request
+    begun_good : (at n : ℕ) (ms : List Meant) → AllGood ms → Gives Good (r.begun at n ms)
+    begun_good at n ms g =
+        on_if Good (fit (r.begins n).parameters ms) _ _ (λ e. called_good here at (r.begins n) ms (predefined_performs here (Request (requests.Begin n))) g e)
+        (λ e. tt)
+
     pub applied_good : (at : ℕ) (sort : Sort) (x : List ℕ) (ms : List Meant) → AllGood ms → Gives Good (r.applied at s sort x ms)
-    applied_good at sort x ms g =
-        applied_as_good at (scope.is_known s sort x (length ms)) sort x ms (chosen s sort x ms) (chosen_good sort x ms) g
+    applied_good at sort x ms g = by_start (r.start_among ms)
+      where
+        by_start : (o : Option ℕ) → Gives Good (r.applied_or at s sort x ms o)
+        by_start (Some n) = begun_good at n (p.nth ms 0 ∷ p.nth ms 2 ∷ []) (ty.nth_good here ms 0 g, (ty.nth_good here ms 2 g, tt))
+        by_start None =
+            applied_as_good at (r.is_begin sort x (length ms) || scope.is_known s sort x (length ms)) sort x ms (chosen s sort x ms) (chosen_good sort x ms) g
+
+    -- a start procedure is no phrase that has a shape
+    pub start_named_good : (at : ℕ) (x : List ℕ) → Gives Good (r.start_named at s x)
+    start_named_good at x = by_number (r.start_of s x)
+      where
+        by_number : (o : Option ℕ) → Gives Good (r.start_as at (r.is_name_known s x) o)
+        by_number (Some n) = tt
+        by_number None = on_if Good (r.is_name_known s x) _ _ (λ e. tt) (λ e. tt)
 
     -- ---- refinements
 
@@ -480,6 +501,7 @@ module _ (here : Stand) where
     delivered_leave e t (Done as') h g d = absurd cc
     delivered_leave e t (Left as') h g d = absurd cc
     delivered_leave e t (Labels ns) h g d = absurd cc
+    delivered_leave e t (Start k) h g d = absurd cc
     delivered_leave e t (Bodies bs) h g d = absurd cc
     delivered_leave e t (Level us bs) h g d = absurd cc
 
@@ -492,6 +514,7 @@ module _ (here : Stand) where
     leave_of_typed e n b Nothing (Done as') h i j g a = absurd cc
     leave_of_typed e n b Nothing (Left as') h i j g a = absurd cc
     leave_of_typed e n b Nothing (Labels ns) h i j g a = absurd cc
+    leave_of_typed e n b Nothing (Start k) h i j g a = absurd cc
     leave_of_typed e n b Nothing (Bodies bs) h i j g a = absurd cc
     leave_of_typed e n b Nothing (Level us bs) h i j g a = absurd cc
     leave_of_typed e n b (Of t) m h i j g a = delivered_leave e t m (left_result e n b (Some (shape_in t)) h i j) g a

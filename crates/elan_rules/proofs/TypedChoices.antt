@@ -9,7 +9,7 @@ use Rattle.elan_types.specs.declared.core_phrase.ValuePhrase.{ValuePhrase}
 use Rattle.elan_types.specs.declared.core_phrase.Action.{Action}
 use Rattle.elan_types.specs.declared.core_phrase.Action.TheVariants as action
 use Rattle.elan_meant.specs.declared.meant.Meant.{Meant}
-use Rattle.elan_meant.specs.declared.meant.Meant.TheVariants.{Absent, Variable, Value, Done, Left, Labels, Bodies, Level}
+use Rattle.elan_meant.specs.declared.meant.Meant.TheVariants.{Absent, Variable, Value, Done, Left, Labels, Bodies, Level, Start}
 use Rattle.elan_types.specs.Typing.{Typed, all_agree, all_true}
 use Rattle.elan_types.specs.Types.{same_type, shape_in}
 use Rattle.elan_scope.specs.declared.delivery.Delivery.{Delivery}
@@ -66,6 +66,7 @@ module _ (here : Stand) where
   value_as_typed t (Done as') g e = absurd e
   value_as_typed t (Left as') g e = unreached_typed here t as' g
   value_as_typed t (Labels ns) g e = absurd e
+  value_as_typed t (Start k) g e = absurd e
   value_as_typed t (Bodies bs) g e = absurd e
   value_as_typed t (Level us bs) g e = absurd e
 

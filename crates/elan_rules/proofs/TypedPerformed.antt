@@ -229,7 +229,7 @@ module _ (here : Stand) where
       answer_is here q as'
       ∙ only_if_holds _ _ _ k (ap (λ (o : Option Kind). option_map Cell o) e ∙ ap (λ (i : Shape). Some i) (sym (type_shape kind)))
 
-  predefined_performs : (f : Predefined) → Performs (Callees.Predefined f) (parameters f) (result f)
+  pub predefined_performs : (f : Predefined) → Performs (Callees.Predefined f) (parameters f) (result f)
   predefined_performs (Operation o) as' h at =
       let ks = operand_kinds o in
       let k = result_kind o in

@@ -18,7 +18,7 @@ use Rattle.elan_types.specs.declared.core_phrase.ValuePhrase.{ValuePhrase}
 use Rattle.elan_types.specs.declared.core_phrase.ValuePhrase.TheVariants as value
 use Rattle.elan_types.specs.declared.core_phrase.Action.{Action}
 use Rattle.elan_meant.specs.declared.meant.Meant.{Meant}
-use Rattle.elan_meant.specs.declared.meant.Meant.TheVariants.{Absent, Variable, Value, Done, Left, Labels, Bodies, Level}
+use Rattle.elan_meant.specs.declared.meant.Meant.TheVariants.{Absent, Variable, Value, Done, Left, Labels, Bodies, Level, Start}
 use Rattle.elan_types.specs.Typing.{is_content_typed, starts, if_true, item_kinds, has_part}
 use Rattle.eu_base.specs.Operations.{in_range}
 use Rattle.elan_names.specs.declared.denoter.Denoter.{Denoter}
@@ -76,6 +76,7 @@ module _ (here : Stand) where
   bracketed_good at (Done as') g = g
   bracketed_good at (Left as') g = g
   bracketed_good at (Labels ns) g = g
+  bracketed_good at (Start k) g = g
   bracketed_good at (Bodies bs) g = g
   bracketed_good at (Level us bs) g = g
 
@@ -114,6 +115,7 @@ module _ (here : Stand) where
   concr_good at s (Done as') g = tt
   concr_good at s (Left as') g = tt
   concr_good at s (Labels ns) g = tt
+  concr_good at s (Start k) g = tt
   concr_good at s (Bodies bs) g = tt
   concr_good at s (Level us bs) g = tt
 
@@ -155,6 +157,7 @@ module _ (here : Stand) where
   item_good at (Done as') i g h = tt
   item_good at (Left as') i g h = tt
   item_good at (Labels ns) i g h = tt
+  item_good at (Start k) i g h = tt
   item_good at (Bodies bs) i g h = tt
   item_good at (Level us bs) i g h = tt
 
@@ -187,6 +190,7 @@ module _ (here : Stand) where
   field_part_good at x (Done as') g = tt
   field_part_good at x (Left as') g = tt
   field_part_good at x (Labels ns) g = tt
+  field_part_good at x (Start k) g = tt
   field_part_good at x (Bodies bs) g = tt
   field_part_good at x (Level us bs) g = tt
 
@@ -202,6 +206,7 @@ module _ (here : Stand) where
   agreed_good at (Done as') m g h = tt
   agreed_good at (Left as') m g h = tt
   agreed_good at (Labels ns) m g h = tt
+  agreed_good at (Start k) m g h = tt
   agreed_good at (Bodies bs) m g h = tt
   agreed_good at (Level us bs) m g h = tt
 
@@ -231,6 +236,7 @@ module _ (here : Stand) where
   or_last_good n (Done as') g h = g
   or_last_good n (Left as') g h = refl
   or_last_good n (Labels ns) g h = g
+  or_last_good n (Start k) g h = g
   or_last_good n (Bodies bs) g h = g
   or_last_good n (Level us bs) g h = g
 
@@ -245,6 +251,7 @@ module _ (here : Stand) where
   ended_good as' (Done bs) h g = h
   ended_good as' (Left bs) h g = h
   ended_good as' (Labels ns) h g = h
+  ended_good as' (Start k) h g = h
   ended_good as' (Bodies bs) h g = h
   ended_good as' (Level us bs) h g = h
 
@@ -258,6 +265,7 @@ module _ (here : Stand) where
   alone_good (Done as') g = ty.unit_typed here as' g
   alone_good (Left as') g = ty.unit_typed here as' g
   alone_good (Labels ns) g = ty.unit_typed here [] refl
+  alone_good (Start k) g = ty.unit_typed here [] refl
   alone_good (Bodies bs) g = ty.unit_typed here [] refl
   alone_good (Level us bs) g = ty.unit_typed here [] refl
 
@@ -268,6 +276,7 @@ module _ (here : Stand) where
   without_value_good (Done as') g = g
   without_value_good (Left as') g = g
   without_value_good (Labels ns) g = refl
+  without_value_good (Start k) g = refl
   without_value_good (Bodies bs) g = refl
   without_value_good (Level us bs) g = refl
 
@@ -298,5 +307,6 @@ module _ (here : Stand) where
   content_of_good (Done as') g = g
   content_of_good (Left as') g = g
   content_of_good (Labels ns) g = refl
+  content_of_good (Start k) g = refl
   content_of_good (Bodies bs) g = refl
   content_of_good (Level us bs) g = refl

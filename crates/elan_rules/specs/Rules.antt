@@ -13,7 +13,7 @@ use Rattle.elan_scope.specs.declared.known.Known.{Known}
 use Rattle.elan_meant.specs.Parts.{nth, unit_of, actions_of}
 use Rattle.elan_scope.specs.declared.scope.Scope.{Scope}
 use Rattle.elan_names.specs.declared.heading.Sort.TheVariants.{Procedure, Operator}
-use Rattle.value_rules.specs.Calls.{named, applied, called, declared, heading, leaving}
+use Rattle.value_rules.specs.Calls.{named, applied, start_named, started, called, declared, heading, leaving}
 use Rattle.value_rules.specs.Calls.{type_declared, exported, leaves_open, is_open_name, declares_open, is_open_type, heading_open}
 use Rattle.unit_rules.specs.Units.{assigned, initial, in_order, alone, without_value, must_deliver, body_with, content_as, content_of, bodies_in}
 use Rattle.choice_rules.specs.Choices.{choice, label_is, label_named, labels_in, selected}
@@ -24,9 +24,13 @@ use Rattle.elan_scope.specs.Ruled.{Ruled}
 
 -- ---- assignments
 
+-- a call that stands alone
+abbrev pub called_alone : ℕ → Callable → List Meant → Verdict Meant
+called_alone at c ms = called at c ms >>= (λ m. gives (alone m))
+
 -- An own operator `:=` is looked at first. It is called, and the assignment delivers what it delivers.
 abbrev pub assignment_as : ℕ → Meant → Meant → Option Callable → Verdict Meant
-assignment_as at l r (Some c) = called at c (l ∷ r ∷ []) >>= (λ m. gives (alone m))
+assignment_as at l r (Some c) = called_alone at c (l ∷ r ∷ [])
 assignment_as at l r None = assigned at l r
 
 abbrev pub assignment : ℕ → Scope → Meant → Meant → Verdict Meant
@@ -42,6 +46,8 @@ rule at (form.number n) ms = number at n
 rule at (form.truth b) ms = gives (Value at Truths (value.Truth b))
 rule at (form.text x) ms = text at x
 rule at (form.applied s sort x) ms = applied at s sort x ms
+rule at (form.start_name s x) ms = start_named at s x
+rule at (form.start may) ms = started at may (nth ms 0)
 rule at form.bracket ms = gives (bracketed at (nth ms 0))
 rule at (form.concr s) ms = concr at s (nth ms 0)
 rule at form.index ms = indexed at (nth ms 0) (nth ms 1)

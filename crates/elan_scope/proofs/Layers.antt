@@ -1,6 +1,6 @@
 -- The layers, one after another.
-use Rattle.std.proofs.Common.{◌≡◌, ℕ, Bool, true, false, ◌||◌, ◌&&◌, List, [], ◌∷◌, ◌++◌, map, Option, Some, None, refl, sym, ap, ◌∙◌, if◌then◌else◌, length}
-use Rattle.std.specs.Prelude.{◌==◌, option_map, option_to_list, option_and_then}
+use Rattle.std.proofs.Common.{◌≡◌, ℕ, Bool, true, false, ◌||◌, ◌&&◌, List, [], ◌∷◌, ◌++◌, map, Option, Some, None, refl, sym, ap, ◌∙◌, if◌then◌else◌}
+use Rattle.std.specs.Prelude.{option_map, option_to_list, option_and_then}
 use Rattle.std.specs.Option.{is_some, option_or}
 use Rattle.std.specs.Str.{bytes_eq}
 use Rattle.std.proofs.lemmas.Slice.Eq.{bytes_eq-Decides}
@@ -12,7 +12,7 @@ use Rattle.elan_names.proofs.Named.{called_named}
 use Rattle.elan_scope.specs.declared.scope.Scope.{Scope}
 use Rattle.elan_scope.specs.declared.scope.Within.{Within}
 use Rattle.elan_scope.specs.Scope.{Callable, own_callables, predefined_callable, Layer, first, first_in, called_by, has_as_many, Found, found, find_in, find, from_inside}
-use Rattle.elan_scope.specs.Scope.{is_known, layers, packet_layer, level_layer, routine_layer, predefined_layer}
+use Rattle.elan_scope.specs.Scope.{are_many, layers, packet_layer, level_layer, routine_layer, predefined_layer}
 use Rattle.elan_scope.specs.walks.Seen.{called_in, called_in_packet, called_in_packets, found_in_packets, found_around, found_within}
 
 pub or_none : {A : Type 0} (o : Option A) → option_or o None ≡ o
@@ -102,7 +102,7 @@ module _ (test : Callable → Bool) (sees : List ℕ → Bool) (x : List ℕ) (n
       by_test true = all_seen cs
       by_test false = none_seen cs
 
--- ---- what can be called with so many operands
+-- ---- what can be called with so many operands, or with any number of them
 
 seen_known : {A : Type 0} (o : Option A) (b : Bool) → is_some (if b then o else None) ≡ (is_some o && b)
 seen_known None true = refl
@@ -110,22 +110,22 @@ seen_known None false = refl
 seen_known (Some x) true = refl
 seen_known (Some x) false = refl
 
-pub packet_known : (sort : Sort) (x : List ℕ) (n : ℕ) (p : Inserted)
-    → is_some (called_in_packet (has_as_many sort x n) p)
-    ≡ (is_some (first (has_as_many sort x n) (own_callables p.bodies_before p.interface.headings)) && exports p.interface x)
-packet_known sort x n p =
+pub packet_known : (sort : Sort) (x : List ℕ) (count : Option ℕ) (p : Inserted)
+    → is_some (called_in_packet (has_as_many sort x count) p)
+    ≡ (is_some (first (has_as_many sort x count) (own_callables p.bodies_before p.interface.headings)) && exports p.interface x)
+packet_known sort x count p =
     ap is_some
-    (seen_first (has_as_many sort x n) (exports p.interface) x (λ c. called_named sort x (length c.parameters == n) c)
+    (seen_first (has_as_many sort x count) (exports p.interface) x (λ c. called_named sort x (are_many count c.parameters) c)
     (own_callables p.bodies_before p.interface.headings))
-    ∙ seen_known (first (has_as_many sort x n) (own_callables p.bodies_before p.interface.headings)) (exports p.interface x)
+    ∙ seen_known (first (has_as_many sort x count) (own_callables p.bodies_before p.interface.headings)) (exports p.interface x)
 
 some_or : {A : Type 0} (o q : Option A) → is_some (option_or o q) ≡ (is_some o || is_some q)
 some_or None q = refl
 some_or (Some x) q = refl
 
-pub known_by : (s : Scope) (sort : Sort) (x : List ℕ) (n : ℕ) → is_known s sort x n ≡
-    (is_some (own (has_as_many sort x n) s) || (is_some (called_in_packets (has_as_many sort x n) s.packets) || is_some (others (has_as_many sort x n))))
-known_by s sort x n =
-    let test = has_as_many sort x n in
+pub known_by : (s : Scope) (sort : Sort) (x : List ℕ) (count : Option ℕ) → is_some (called_by (has_as_many sort x count) s) ≡
+    (is_some (own (has_as_many sort x count) s) || (is_some (called_in_packets (has_as_many sort x count) s.packets) || is_some (others (has_as_many sort x count))))
+known_by s sort x count =
+    let test = has_as_many sort x count in
     ap is_some (called_as test s) ∙ some_or (own test s) (option_or (called_in_packets test s.packets) (others test))
     ∙ ap (λ (b : Bool). is_some (own test s) || b) (some_or (called_in_packets test s.packets) (others test))

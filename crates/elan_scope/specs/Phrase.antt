@@ -19,6 +19,9 @@ pub data Plain : Type 0 where
   text : List ℕ → Plain
   -- an operator with its operands, or a procedure with its actuals
   applied : Scope → Sort → List ℕ → Plain
+  -- the name behind PROC, and PROC with it: whether it stands where it may
+  start_name : Scope → List ℕ → Plain
+  start : Bool → Plain
   bracket : Plain
   -- CONCR of a value or place of one of the text's own types
   concr : Scope → Plain

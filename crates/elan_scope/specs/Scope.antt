@@ -19,7 +19,7 @@ use Rattle.elan_scope.specs.declared.scope.Scope.{Scope}
 use Rattle.elan_scope.specs.declared.scope.Home.{Home}
 use Rattle.elan_scope.specs.declared.scope.Home.TheVariants.{Level as of_level, Routine as of_routine, Packet as of_packet}
 pub use Rattle.elan_names.specs.Names.{held, cells_held, first_from, first_named, all_held, types_of, variables_of, is_refinement, number_of_denoter}
-pub use Rattle.elan_names.specs.Callables.{Callable, first, same_sort, own_callable, own_callables, predefined_callable, is_called, has_as_many}
+pub use Rattle.elan_names.specs.Callables.{Callable, first, same_sort, own_callable, own_callables, predefined_callable, is_called, are_many, has_as_many}
 pub use Rattle.elan_names.specs.Callables.{has_open, is_open_result, delivers_open, is_open_heading, is_open_callable}
 pub use Rattle.elan_names.specs.Callables.{first_heading, is_routine, is_refinement_of, is_alike, is_refined, number_in}
 
@@ -111,7 +111,11 @@ called_by test s = first_in (λ l. first (λ c. l.sees c.name && test c) l.calla
 
 -- The name can be called with that number of operands.
 abbrev pub is_known : Scope → Sort → List ℕ → ℕ → Bool
-is_known s sort x n = is_some (called_by (has_as_many sort x n) s)
+is_known s sort x n = is_some (called_by (has_as_many sort x (Some n)) s)
+
+-- The name can be called with some number of operands.
+abbrev pub can_be_called : Scope → Sort → List ℕ → Bool
+can_be_called s sort x = is_some (called_by (has_as_many sort x None) s)
 
 -- the name of a type in the scope that declares it
 abbrev pub find_own_type : Scope → List ℕ → Option TypeName

@@ -136,7 +136,7 @@ fn from_inside(found: Option<Found<'_>>) -> Option<Found<'_>>
 
 // Whether a packet shows a PROC or OP of a name with so many parameters.
 #[tactic(auto, using(crate::proofs::Layers::packet_known))]
-fn is_in_packet(packet: &Inserted, sort: Sort, name: &[u8], count: usize) -> bool
+fn is_in_packet(packet: &Inserted, sort: Sort, name: &[u8], count: Option<usize>) -> bool
     ensures { result ≡ is_some (seen.called_in_packet (spec.has_as_many sort name.now count) packet.now) }
 {
     let interface = packet.interface.get();
@@ -144,7 +144,7 @@ fn is_in_packet(packet: &Inserted, sort: Sort, name: &[u8], count: usize) -> boo
 }
 
 // Whether a packet does.
-fn is_inserted(packets: &[Inserted], sort: Sort, name: &[u8], count: usize) -> bool
+fn is_inserted(packets: &[Inserted], sort: Sort, name: &[u8], count: Option<usize>) -> bool
     ensures { result ≡ is_some (seen.called_in_packets (spec.has_as_many sort name.now count) packets.now) }
 {
     let mut rest = packets;
@@ -293,13 +293,27 @@ impl Scope {
         }
     }
 
-    /// Whether a name can be called with that number of operands.
+    // Whether a name can be called with that number of operands, or with any where none is told.
     #[tactic(auto, using(crate::proofs::Layers::known_by))]
-    pub fn is_known(&self, sort: Sort, name: &[u8], count: usize) -> bool
-        ensures { result ≡ spec.is_known self.now sort name.now count }
+    fn is_called_with(&self, sort: Sort, name: &[u8], count: Option<usize>) -> bool
+        ensures { result ≡ is_some (spec.called_by (spec.has_as_many sort name.now count) self.now) }
     {
         is_own(&self.headings, self.bodies_before, sort, name, count)
             || is_inserted(self.packets.as_slice(), sort, name, count)
             || is_predefined(sort, name, count)
+    }
+
+    /// Whether a name can be called with that number of operands.
+    pub fn is_known(&self, sort: Sort, name: &[u8], count: usize) -> bool
+        ensures { result ≡ spec.is_known self.now sort name.now count }
+    {
+        self.is_called_with(sort, name, Some(count))
+    }
+
+    /// Whether a name can be called with some number of operands.
+    pub fn can_be_called(&self, sort: Sort, name: &[u8]) -> bool
+        ensures { result ≡ spec.can_be_called self.now sort name.now }
+    {
+        self.is_called_with(sort, name, None)
     }
 }

@@ -24,7 +24,7 @@ use Rattle.eu_base.specs.Cells.{same_area}
 use Rattle.eu_base.specs.Shapes.{cell_kinds}
 use Rattle.eu_base.specs.Room.{values_bytes, value_blocks, values_blocks, place_bytes, cells_fit, bytes_fit, texts_fit}
 use Rattle.eu_base.specs.Operations.{Given, result_of, changed, is_past, has_reached, next_number, in_row}
-use Rattle.eu_base.specs.Requests.{request_kinds, request_of, reply_text, read_as, answer_of}
+use Rattle.eu_base.specs.Requests.{request_kinds, request_of, read_as, answer_of}
 use Rattle.elan_types.specs.declared.core_phrase.Exit.{Exit}
 use Rattle.elan_types.specs.declared.core_phrase.Exit.TheVariants as exits
 use Rattle.elan_types.specs.declared.core_phrase.Scope.{Scope}
@@ -316,7 +316,7 @@ keep _ v w = Gives tt w
 -- makes a request with what it is given, its variable behind its values
 abbrev pub request : RequestName → List Passed → World → Outcome (Unit {0})
 request name as' =
-    ask (request_of name (map value_given as')) (λ r. or_stop (read_as name (reply_text r)) (keep (drop (length (request_kinds name)) as')))
+    ask (request_of name (map value_given as')) (λ r. or_stop (read_as name r) (keep (drop (length (request_kinds name)) as')))
 
 -- makes a request that delivers a value
 abbrev pub request_value : RequestName → List Passed → Run (List Value)

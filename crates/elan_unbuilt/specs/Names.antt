@@ -5,7 +5,7 @@ use Rattle.std.specs.Str.{bytes_eq}
 
 unfoldable pub names_not_built : List (List ℕ)
 names_not_built =
-    codes "begin" ∷ codes "nilspace" ∷ codes "type" ∷ codes "forget" ∷ codes "new" ∷ codes "old" ∷ codes "rename" ∷ codes "copy"
+    codes "nilspace" ∷ codes "type" ∷ codes "forget" ∷ codes "new" ∷ codes "old" ∷ codes "rename" ∷ codes "copy"
     ∷ codes "send" ∷ codes "wait" ∷ codes "call" ∷ []
 
 abbrev pub is_not_built : List ℕ → Bool

@@ -5,8 +5,7 @@ ghost use Rattle.std.specs.List.{list_any};
 ghost use Rattle.std.specs.Str.{bytes_eq};
 ghost use Rattle.elan_unbuilt.specs.Names as spec;
 
-const NOT_BUILT: [&[u8]; 11] = [
-    b"begin",
+const NOT_BUILT: [&[u8]; 10] = [
     b"nilspace",
     b"type",
     b"forget",

@@ -36,7 +36,7 @@ use Rattle.elan_walk.specs.declared.node.Node.TheVariants as lent
 pub data Node : Type 0 where
   -- an identifier that stands alone in an expression
   alone : Name → Node
-  -- a name with actuals, as a label, after FOR or after LEAVE
+  -- a name with actuals, as a label, after FOR, PROC or LEAVE
   other : Name → Node
   sign : Operator → Node
   of_type : TypePhrase → Node
@@ -98,7 +98,7 @@ expr_step (t.Cand at a b) = a ++ b
 expr_step (t.Cor at a b) = a ++ b
 expr_step (t.Index at of index) = of ++ index
 expr_step (t.Field at of field) = of ++ other field ∷ []
-expr_step _ = unbuilt ∷ []
+expr_step (t.Procedure at n) = other n ∷ []
 
 abbrev pub limit_step : Layer Limit-F → List Node
 limit_step t.Without = []

@@ -16,7 +16,7 @@ pub enum Held {
 pub enum Node<'a> {
     /// An identifier that stands alone in an expression.
     Alone(&'a Name),
-    /// A name with actuals, as a label, after FOR or after LEAVE.
+    /// A name with actuals, as a label, after FOR, PROC or LEAVE.
     Other(&'a Name),
     Operator(&'a Operator),
     /// The type of a declaration.

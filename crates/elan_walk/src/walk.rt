@@ -97,7 +97,7 @@ fn in_expr<V: Visitor>(visitor: V, expr: &Expr) -> V
             let visitor = in_expr(visitor, of.get());
             visitor.visit(Node::Other(field))
         }
-        Expr::Procedure(_, _) => visitor.visit(Node::Unbuilt),
+        Expr::Procedure(_, name) => visitor.visit(Node::Other(name)),
     }
 }
 

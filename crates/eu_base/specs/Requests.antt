@@ -9,7 +9,7 @@ use Rattle.eu_base.specs.declared.request.RequestName.{RequestName}
 use Rattle.eu_base.specs.declared.request.RequestName.TheVariants.{PutNumber, PutText, Write, PutLine, Line, GetNumber, GetText, GetLine}
 use Rattle.eu_base.specs.declared.request.RequestName.TheVariants as names
 use Rattle.eu_base.specs.declared.request.Request.{Request}
-use Rattle.eu_base.specs.declared.request.Request.TheVariants.{Out, Input, Myself, Father, Son, Brother, Named, Name, Exists, End, Break}
+use Rattle.eu_base.specs.declared.request.Request.TheVariants.{Out, Input, Begin, End, Myself, Father, Son, Brother, Named, Name, Exists, Break}
 use Rattle.eu_base.specs.declared.request.Reply.{Reply}
 use Rattle.eu_base.specs.declared.request.Reply.TheVariants.{Done, Text, Task, Truth, Stopped}
 use Rattle.eu_base.specs.Operations.{Given, fitting, ranged, number_at, text_at, task_at}
@@ -28,6 +28,7 @@ request_kinds names.Brother = kinds.Task ∷ []
 request_kinds names.Named = kinds.Text ∷ []
 request_kinds names.NameOf = kinds.Task ∷ []
 request_kinds names.Exists = kinds.Task ∷ []
+request_kinds (names.Begin start) = kinds.Text ∷ []
 request_kinds names.EndOf = kinds.Task ∷ []
 request_kinds _ = []
 
@@ -36,6 +37,7 @@ abbrev pub request_places : RequestName → List Kind
 request_places GetNumber = kinds.Int ∷ []
 request_places GetText = kinds.Text ∷ []
 request_places GetLine = kinds.Text ∷ []
+request_places (names.Begin start) = kinds.Task ∷ []
 request_places _ = []
 
 -- the kind of the value that it delivers, if it does. A request that has a variable delivers none
@@ -55,8 +57,8 @@ abbrev pub request_size : RequestName → ℕ
 request_size name = length (request_kinds name) + length (request_places name)
 
 -- what it asks for with these values. `put` writes a number or a text and a blank, `write` a text alone, `putline` a text
--- and the end of the line, `line` the end of the line. `get` and `getline` ask for the next line that is typed, and the others for what they
--- are called, of the task itself or of the one that they are given
+-- and the end of the line, `line` the end of the line. `get` and `getline` ask for the next line that is typed, `begin` for a son of a name
+-- that runs a start procedure, and the others for what they are called, of the task itself or of the one that they are given
 abbrev pub request_of : RequestName → List Value → Request
 request_of PutNumber vs = Out (signed_decimal (number_at vs 0) ++ 32 ∷ []) false
 request_of PutText vs = Out (text_at vs 0 ++ 32 ∷ []) false
@@ -74,6 +76,7 @@ request_of names.Brother vs = Brother (task_at vs 0)
 request_of names.Named vs = Named (text_at vs 0)
 request_of names.NameOf vs = Name (task_at vs 0)
 request_of names.Exists vs = Exists (task_at vs 0)
+request_of (names.Begin start) vs = Begin (text_at vs 0) start
 request_of names.EndOf vs = End (Some (task_at vs 0))
 request_of names.End vs = End None
 request_of names.Break vs = Break
@@ -95,13 +98,14 @@ abbrev pub reply_truth : Reply → Bool
 reply_truth (Truth b) = b
 reply_truth _ = false
 
--- what a request reads out of a text for its variable: `getline` all of it, `get` a text without the blanks at its ends, or the number
--- that it spells. A request without a variable has 0, for which nobody asks
-abbrev pub read_as : RequestName → List ℕ → Given
-read_as GetNumber t = Ok (Int (ranged (number_spelled (trimmed t))))
-read_as GetText t = fitting (trimmed t)
-read_as GetLine t = fitting t
-read_as _ t = Ok (Int (pos 0))
+-- what a request takes out of a reply for its variable: `getline` all of a text, `get` a text without the blanks at its ends, or the number
+-- that it spells, `begin` a task. A request without a variable has 0, for which nobody asks
+abbrev pub read_as : RequestName → Reply → Given
+read_as GetNumber r = Ok (Int (ranged (number_spelled (trimmed (reply_text r)))))
+read_as GetText r = fitting (trimmed (reply_text r))
+read_as GetLine r = fitting (reply_text r)
+read_as (names.Begin start) r = Ok (Tasks (reply_task r))
+read_as _ r = Ok (Int (pos 0))
 
 -- what a request delivers of a reply: a task, a name, or whether it is so. One that delivers nothing has 0, for which nobody asks
 abbrev pub answer_of : RequestName → Reply → Given

@@ -49,16 +49,18 @@ fn serve<M: Memory>(
             Halt::Stopped(stop) => return Ok(screen.finish(alloc, Some(stop))?),
             Halt::Marked => return Ok(screen.finish(alloc, Some(Stop::LineMarks))?),
             Halt::Asks(request) => {
-                screen.show(alloc, &request)?;
-                command.answer(code, memory, reply_to(&request))?;
+                let shown = screen.show(alloc, &request);
+                let reply = reply_to(request);
+                shown?;
+                command.answer(code, memory, reply)?;
             }
         }
     }
 }
 
-/// What is replied: it was written; and all else that is asked for is there in a session alone.
-fn reply_to(request: &Request) -> Reply
-    ensures { result ≡ reply_to request.now }
+/// What is replied: it was written; and all else that is asked for is there in a session alone. The request is let go here, whose forms are many.
+fn reply_to(request: Request) -> Reply
+    ensures { result ≡ reply_to request }
 {
     match request {
         Request::Out { .. } => Reply::Done,

@@ -389,7 +389,7 @@ FEHLER : unbekannt (Zeile 1, Stelle 1)
 > put (CONCR (1))
 FEHLER : falscher Typ (Zeile 1, Stelle 6)
 > begin
-FEHLER : kein ELAN-Text
+FEHLER : unbekannt (Zeile 1, Stelle 1)
 > FOR type REP line PER
 FEHLER : kein ELAN-Text
 > OP SUB (INT CONST a): END OP SUB

@@ -187,6 +187,52 @@ None
 1
 < start 2 0
 None
+> programs that begin tasks
+< PACKET o DEFINES one: INT PROC one: 1 END PROC one END PACKET o
+1
+< PACKET p DEFINES first, second, value, with: PROC help: put (1) END PROC help; PROC first: help END PROC first; PROC second: TASK VAR t; begin (\"s\", PROC first, t); put (name (t)) END PROC second; INT PROC value: 4 END PROC value; PROC with (INT CONST n): put (n) END PROC with END PACKET p
+2
+< TASK VAR t; begin (\"s\", PROC first, t); put (name (t))
+PUBLIC 
+< second
+PUBLIC 
+< TASK VAR t; begin (\"s\", PROC second, t); put (name (t))
+a 
+< TASK VAR t; begin (\"s\", PROC value, t)
+WrongPlace 25
+< TASK VAR t; begin (\"s\", PROC with, t)
+WrongPlace 25
+< TASK VAR t; begin (\"s\", PROC help, t)
+Unknown 30
+< TASK VAR t; begin (1, PROC first, t)
+WrongType 13
+< begin (\"s\", PROC first, niltask)
+NoVariable 25
+< begin (\"s\", PROC first)
+Unknown 1
+< put (PROC first)
+WrongPlace 6
+< PACKET q: PROC own: put (1) END PROC own; TASK VAR t; begin (\"s\", PROC own, t); IF NOT exists (t) THEN put (6) FI END PACKET q
+3
+6 
+< listing TASK VAR t; begin (\"s\", PROC second, t)
+0 MARK
+1 MARK
+2 TEXT 0
+3 OUTER 0
+4 ASK begin(TEXT,PROC 2 2,TASK)
+5 END
+6 MARK
+7 JUMP 6
+8 BACK
+9 BACK
+10 BACK
+11 BACK
+12 MARK
+13 JUMP 12
+14 BACK
+15 BACK
+16 BACK
 > code of what is reached
 < PACKET p DEFINES go, other: PROC go: INT VAR i; help; i := 2 END PROC go; PROC help: put (1) END PROC help; PROC other: put (3); other END PROC other; INT PROC value: 4 END PROC value END PACKET p
 1
@@ -358,7 +404,7 @@ impl Task {
     fn starting(&self, alloc: Global, out: &mut Bytes, numbers: &str) -> Option<Unit> {
         let (packet, number) = numbers.split_once(' ')?;
         let packet = packet.parse::<u32>().ok()?;
-        let number = number.parse::<u16>().ok()?;
+        let number = number.parse::<usize>().ok()?;
         let unit = self
             .library
             .starting(alloc, self.packets.as_slice(), packet, number)

@@ -38,7 +38,7 @@ fn son_of(task: u32) -> u32 {
     }
 }
 
-/// What these tasks answer to a request that is no output and no input.
+/// What these tasks answer to a request that is no output and no input. A son has the number of its start procedure, for a test to see it.
 pub fn reply_to(alloc: Global, request: &Request) -> Reply {
     match request {
         Request::Myself => Reply::Task(3),
@@ -51,6 +51,7 @@ pub fn reply_to(alloc: Global, request: &Request) -> Reply {
             Err(_) => Reply::Done,
         },
         Request::Exists(task) => Reply::Truth(!name_of(*task).is_empty()),
+        Request::Begin { start, .. } => Reply::Task(u32::try_from(*start).unwrap_or(0)),
         _ => Reply::Stopped(Stop::OnlySession),
     }
 }
@@ -229,4 +230,54 @@ FEHLER : keine Variable (Zeile 1, Stelle 1)
 3 
 > son. son: put (1)
 1 
+> TASK VAR t; begin (\"s\", PROC nix, t)
+FEHLER : unbekannt (Zeile 1, Stelle 30)
+> TASK VAR t; begin (\"s\", PROC line, t)
+FEHLER : falsche Stelle (Zeile 1, Stelle 25)
+> TASK VAR t; begin (\"s\", PROC begin, t)
+FEHLER : falsche Stelle (Zeile 1, Stelle 25)
+> PROC p: END PROC p; TASK VAR t; begin (\"s\", PROC p, t)
+FEHLER : falsche Stelle (Zeile 1, Stelle 45)
+> PROC p (INT CONST n): END PROC p; TASK VAR t; begin (\"s\", PROC p, t)
+FEHLER : falsche Stelle (Zeile 1, Stelle 59)
+> INT VAR p; TASK VAR t; begin (\"s\", PROC p, t)
+FEHLER : falsche Stelle (Zeile 1, Stelle 36)
+> TASK VAR t; begin (\"s\", PROC r, t). r: put (1)
+FEHLER : falsche Stelle (Zeile 1, Stelle 25)
+> put (PROC line)
+FEHLER : falsche Stelle (Zeile 1, Stelle 6)
+> put (PROC nix)
+FEHLER : unbekannt (Zeile 1, Stelle 11)
+> put (PROC line, nix)
+FEHLER : falsche Stelle (Zeile 1, Stelle 6)
+> TASK VAR t; begin (PROC line, PROC line, t)
+FEHLER : falsche Stelle (Zeile 1, Stelle 20)
+> begin (1, 2, 3)
+FEHLER : falscher Typ (Zeile 1, Stelle 1)
+> begin (1, 2)
+FEHLER : unbekannt (Zeile 1, Stelle 1)
+> begin
+FEHLER : unbekannt (Zeile 1, Stelle 1)
+> begin (\"a\", \"b\")
+FEHLER : unbekannt (Zeile 1, Stelle 1)
+> TASK VAR t; begin (\"s\", t, t)
+FEHLER : falscher Typ (Zeile 1, Stelle 13)
+> PROC begin (INT CONST n): put (n) END PROC begin; begin (3)
+3 
+> PROC begin (INT CONST a, b, c): put (a + b + c) END PROC begin; begin (3, 4, 5)
+12 
+> PROC begin (INT CONST a, b): put (a + b) END PROC begin; begin (3, PROC line)
+FEHLER : falsche Stelle (Zeile 1, Stelle 68)
+> PROC begin (INT CONST a, b): put (a + b) END PROC begin; begin (3, PROC nix)
+FEHLER : unbekannt (Zeile 1, Stelle 73)
+> INT VAR begin :: 3; put (begin)
+3 
+> PROC p (INT CONST a): END PROC p; p (PROC p)
+FEHLER : falsche Stelle (Zeile 1, Stelle 38)
+> put (nix, PROC line)
+FEHLER : unbekannt (Zeile 1, Stelle 6)
+> INT PROC f: 3 END PROC f; TASK VAR t; begin (\"s\", PROC f, t)
+FEHLER : falsche Stelle (Zeile 1, Stelle 51)
+> begin (nix, PROC line, 3)
+FEHLER : unbekannt (Zeile 1, Stelle 8)
 ";

@@ -1,5 +1,5 @@
 -- Packets stand in later texts, and behind further packets, as they were compiled.
-use Rattle.std.proofs.Common.{◌≡◌, ℕ, Bool, List, [], ◌∷◌, ◌++◌, sym, ap, ◌∙◌, append_assoc, append-nil}
+use Rattle.std.proofs.Common.{◌≡◌, ℕ, ◌-◌, length, Bool, List, [], ◌∷◌, ◌++◌, sym, ap, ◌∙◌, append_assoc, append-nil}
 use Rattle.std.specs.Prelude.{slice_get}
 use Rattle.cell_kinds.specs.declared.packet.Packet.{Packet}
 use Rattle.place_gen.proofs.Cells.{get_left}
@@ -29,7 +29,7 @@ pub keeping : BodiesKeepTheirNumbers
 keeping env later none = kept env env [] [] (sym (append-nil env.packets)) (sym (append-nil env.bodies))
 keeping env later (more {later = before} i c n grows is) =
     let k = keeping env before grows in
-    let installed : List Packet = record { number = n; variables = c.inserted } ∷ [] in
+    let installed : List Packet = record { number = n; variables = c.inserted; bodies = length c.bodies - length before.bodies } ∷ [] in
     kept env later (k.further_packets ++ installed) (k.further_bodies ++ is.means.own)
     (ap (λ ps. ps ++ installed) k.packets ∙ append_assoc env.packets k.further_packets installed)
     (is.means.bodies ∙ ap (λ bs. bs ++ is.means.own) k.bodies ∙ append_assoc env.bodies k.further_bodies is.means.own)

@@ -7,6 +7,7 @@ use Rattle.elan_check.specs.Packets.{nothing, after}
 use Rattle.packet_store.specs.declared.library.Live.{Live}
 use Rattle.packet_store.specs.declared.library.TheConstants.{PACKETS, LAST_NUMBER}
 use Rattle.packet_store.specs.declared.unit.Compiled.{Compiled}
+use Rattle.cell_kinds.specs.Kinds.{body_in_packet}
 use Rattle.packet_store.specs.Units.{start_unit}
 
 -- the live packets in the order in which they were installed, and the last number that was given
@@ -56,6 +57,13 @@ start_unit_at env packet k (Some n) = start_unit env packet k n
 -- the unit of a start procedure, for a task with these packets
 abbrev pub started : Library → List ℕ → ℕ → ℕ → Option Compiled
 started lib ns packet k = start_unit_at (env_of lib ns) packet k (start_number lib ns packet k)
+
+-- the same, by the PROC's number among the bodies of all these packets
+abbrev pub start_unit_behind : Env → ℕ → Option Compiled
+start_unit_behind env n = let at = body_in_packet env.packets n in start_unit env at.0 at.1 n
+
+abbrev pub started_at : Library → List ℕ → ℕ → Option Compiled
+started_at lib ns n = start_unit_behind (env_of lib ns) n
 
 -- The live packet is a packet, and behind it stand the packets before it, and it under its number in place of 0.
 abbrev pub IsLive : ℕ → Live → Type 0

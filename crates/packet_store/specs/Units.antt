@@ -1,5 +1,5 @@
 -- What a text, or a start procedure, is compiled to.
-use Rattle.std.specs.Prelude.{◌≡◌, ℕ, Bool, List, [], ◌∷◌, ◌++◌, Option, Some, None, is_some, option_map, slice_get}
+use Rattle.std.specs.Prelude.{◌≡◌, ℕ, ◌-◌, Bool, length, List, [], ◌∷◌, ◌++◌, Option, Some, None, is_some, option_map, slice_get}
 use Rattle.cell_kinds.specs.declared.packet.Packet.{Packet}
 use Rattle.elan_types.specs.Typing.{IsWellTyped}
 use Rattle.elan_names.specs.declared.interface.Interface.{Interface}
@@ -57,7 +57,7 @@ pub data IsUnit (u : Compiled) : Type 0 where
 -- number, behind those of the packets before it.
 abbrev pub HasPacket : Env → Core → ℕ → Core → Type 0
 HasPacket env c n later =
-    (later.packets ≡ env.packets ++ record { number = n; variables = c.inserted } ∷ []) × (own : List Body) × (later.bodies ≡ c.bodies ++ own)
+    (later.packets ≡ env.packets ++ record { number = n; variables = c.inserted; bodies = length c.bodies - length env.bodies } ∷ []) × (own : List Body) × (later.bodies ≡ c.bodies ++ own)
 
 -- what stands behind these packets after further ones were installed, each compiled behind those before it
 pub data Grows (env : Env) : Env → Type 0 where

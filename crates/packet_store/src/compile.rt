@@ -122,7 +122,7 @@ pub fn start_behind(
     alloc: Global,
     packets: Shared<Packets>,
     packet: u32,
-    number: u16,
+    number: usize,
     body: usize,
 ) -> Result<Option<Unit>, NoMemory>
     ensures { IfOk result (λ unit. unit ≡ spec.start_unit packets packet number body) }

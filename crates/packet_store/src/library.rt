@@ -3,7 +3,7 @@
 ghost use Rattle.std.specs.List.{list_any};
 ghost use Rattle.std.specs.Prelude.{◌≡◌, ◌==◌, ◌+◌, ◌<◌, ◌^◌, ◌↔◌, ◌++◌, ◌∷◌, [], true, Err, Some, length, option_map, is_some, IfErr, IfOk, OnErr, OnOk};
 ghost use Rattle.elan_names.specs.declared.interface.Interface as interfaces;
-ghost use Rattle.elan_check.specs.Packets.{after};
+ghost use Rattle.elan_check.specs.Packets.{after, AreCompiled};
 ghost use Rattle.packet_store.specs.declared.error.InstallError.TheVariants as install_errors;
 ghost use Rattle.packet_store.specs.Meaning.{IsCause};
 ghost use Rattle.packet_store.specs.Units.{IsUnitOf};
@@ -12,6 +12,7 @@ ghost use Rattle.packet_store.specs.Library as spec;
 use crate::compile::{compile_behind, start_behind};
 use crate::error::{CompileError, InstallError};
 use crate::unit::Unit;
+use cell_kinds::Packet;
 use elan_check::Packets;
 use eu_base::{NoMemory, Shared};
 use std::alloc::Global;
@@ -139,7 +140,8 @@ impl Library {
 
     // The packets of a task as texts see them, by their numbers in order.
     fn packets_of(&self, alloc: Global, of: &[u32]) -> Result<Shared<Packets>, NoMemory>
-        ensures { IfOk result (λ packets. packets ≡ spec.env_of self.now of.now) }
+        ensures packets { IfOk result (λ packets. packets ≡ spec.env_of self.now of.now) }
+        ensures compiled { AreCompiled (spec.env_of self.now of.now) }
     {
         let mut last = None;
         for number in of {
@@ -150,7 +152,11 @@ impl Library {
         }
         match last {
             None => Shared::new(alloc, Packets::new(alloc)),
-            Some(live) => live.after.share(),
+            Some(live) => {
+                // What packets share is compiled, whether they are shared once more or not.
+                live.after.get().env();
+                live.after.share()
+            }
         }
     }
 
@@ -164,6 +170,7 @@ impl Library {
         packet: bool,
     ) -> Result<Unit, CompileError>
         requires { length text.now < 2 ^ 32 }
+        ensures compiled { AreCompiled (spec.env_of self.now of.now) }
         ensures unit { IfOk result (IsUnitOf (spec.env_of self.now of.now) packet text.now) }
         ensures refused { IfErr result (IsCause (spec.env_of self.now of.now) packet text.now) }
     {
@@ -172,7 +179,7 @@ impl Library {
     }
 
     // The number of a PROC of a packet that stands among these, among all bodies of packets.
-    fn start_number(&self, of: &[u32], packet: u32, number: u16) -> Option<usize>
+    fn start_number(&self, of: &[u32], packet: u32, number: usize) -> Option<usize>
         ensures { result ≡ spec.start_number self.now of.now packet number }
     {
         if !is_among(of, packet) {
@@ -180,7 +187,7 @@ impl Library {
         }
         let compiled = self.get(packet)?.unit.compiled();
         let before = compiled.packets.get().env().bodies.len();
-        let body = before.saturating_add(usize::from(number));
+        let body = before.saturating_add(number);
         if body < compiled.core.bodies.len() {
             Some(body)
         } else {
@@ -196,7 +203,7 @@ impl Library {
         alloc: Global,
         of: &[u32],
         packet: u32,
-        number: u16,
+        number: usize,
     ) -> Result<Option<Unit>, NoMemory>
         ensures { IfOk result (λ unit. unit ≡ spec.started self.now of.now packet number) }
     {
@@ -205,6 +212,21 @@ impl Library {
             None => Ok(None),
             Some(body) => start_behind(alloc, packets, packet, number, body),
         }
+    }
+
+    /// The same, where the PROC is told by its number among the bodies of all these packets, as a program that begins a task has it. `None`
+    /// exactly where this is no PROC of them without parameters that delivers nothing.
+    pub fn starting_at(
+        &self,
+        alloc: Global,
+        of: &[u32],
+        body: usize,
+    ) -> Result<Option<Unit>, NoMemory>
+        ensures { IfOk result (λ unit. unit ≡ spec.started_at self.now of.now body) }
+    {
+        let packets = self.packets_of(alloc, of)?;
+        let (packet, number) = Packet::of_body(packets.get().env().packets.as_slice(), body);
+        start_behind(alloc, packets, packet, number, body)
     }
 
     /// Installs a packet under the next number, which it gives: no number is given twice. A refusal changes nothing; the packet is

@@ -18,7 +18,7 @@ pub enum Source {
     /// A text.
     Text(Bytes),
     /// A PROC of a packet, in which a task starts: the packet's number, and the number of the PROC among the packet's bodies, from 0.
-    Start { packet: u32, number: u16 },
+    Start { packet: u32, number: usize },
 }
 
 /// A text or a start procedure, and what it means.
@@ -59,7 +59,7 @@ impl Model for Unit {
 
 impl Unit {
     /// The unit of what has this meaning, with its code.
-    pub(crate) fn of(compiled: Compiled, code: Code) -> Unit
+    pub fn of(compiled: Compiled, code: Code) -> Unit
         requires unit { spec.IsUnit compiled }
         requires behaves { Behaves compiled.core code }
         ensures { result ≡ compiled }
@@ -70,6 +70,16 @@ impl Unit {
     /// Lets it go, with all its parts.
     pub fn let_go(self) {
         mem::drop(self);
+    }
+
+    /// What it is compiled from and to, and its code.
+    pub fn parts(self) -> (Compiled, Code)
+        ensures compiled { result.0 ≡ self }
+        ensures unit { spec.IsUnit result.0 }
+        ensures behaves { Behaves self.core result.1 }
+    {
+        let Unit { compiled, code } = self;
+        (compiled, code)
     }
 
     /// What it is compiled from and to, lent.

@@ -12,7 +12,7 @@ use Rattle.eu_base.specs.declared.stop.Stop.TheVariants.{OperandRoom}
 use Rattle.eu_base.specs.Room.{values_bytes, bytes_fit}
 use Rattle.eu_base.specs.Values.{IsOf}
 use Rattle.eu_base.specs.Operations.{Given}
-use Rattle.eu_base.specs.Requests.{request_kinds, request_places, request_result, request_size, request_of, reply_text, read_as, answer_of}
+use Rattle.eu_base.specs.Requests.{request_kinds, request_places, request_result, request_size, request_of, read_as, answer_of}
 use Rattle.eu_base.specs.Cells.{Cells}
 use Rattle.eu_base.proofs.Results.{read_gives, answer_gives}
 use Rattle.code_form.specs.declared.operand.Operand.{Operand}
@@ -96,16 +96,16 @@ module _ (p : Program) (body : Option ℕ) where
             let places =
             subst (λ n. TakeAll p (map cell_place (request_places name)) L (drop n ss)) (length-map (request_kinds name) cell_value)
             (behind p L (map cell_value (request_kinds name)) (map cell_place (request_places name)) ss oks) in
-            ask_carries p b (request_of name (map value_given ss)) now (λ r. or_stop (read_as name (reply_text r)) (keep (drop n ss))) (λ _. at c (q + 1) ops)
+            ask_carries p b (request_of name (map value_given ss)) now (λ r. or_stop (read_as name r) (keep (drop n ss))) (λ _. at c (q + 1) ops)
             (λ cells. here p q (Ask name) (f.leaves ks) m h.0 c (pushed_passed p ss ops) cells
             ∙ all_taken p L (request_operands name) (request_size name) ss ops (λ os ops. Spends (Asks now (request_of name (map value_in os)) cells)) many oks
             ∙ ap (λ vs. Spends (Asks now (request_of name vs) cells)) (values_same ss))
             (λ b' r. record {
               by = λ k l hk w le' cells kept.
-                  let read = read_as name (reply_text r) in
+                  let read = read_as name r in
                   let move = λ (os : List Operand). or_halt read (λ v. keeps now os v ops cells) in
                   reply_ends p L le.stands.packets le.stands.room now r ops w cells k l kept (λ w' fewer. hk tt w' tt (omega (arith, le', fewer))) read (request_places name)
-                  (drop n ss) places (λ v e k' ks' is. read_gives name k' ks' (reply_text r) is v e)
+                  (drop n ss) places (λ v e k' ks' is. read_gives name k' ks' r is v e)
                   (does_given p now r (scene_of w cells) _ (ap (λ o. takes_reply (instr_of o) r now cells) h.0
                   ∙ all_taken p L (request_operands name) (request_size name) ss ops
                   (λ os ops. settles name (request_result name) r now os ops cells) many oks

@@ -4,6 +4,7 @@ pub mod Systems
 pub mod Ends
 pub mod Serving
 pub mod Monitor
+pub mod Readings
 pub mod Turns
 pub mod Supervisor
 pub mod Events

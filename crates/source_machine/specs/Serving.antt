@@ -6,7 +6,7 @@ use Rattle.task_numbers.specs.Numbers.{is_task}
 use Rattle.eu_base.specs.declared.stop.Stop.{Stop}
 use Rattle.eu_base.specs.declared.stop.Stop.TheVariants.{BadName, NotInserted, NoRight}
 use Rattle.eu_base.specs.declared.request.Request.{Request}
-use Rattle.eu_base.specs.declared.request.Request.TheVariants.{Out, Input, Myself, Father, Son, Brother, Named, Name, Exists, End, Break}
+use Rattle.eu_base.specs.declared.request.Request.TheVariants.{Out, Input, Begin, End, Myself, Father, Son, Brother, Named, Name, Exists, Break}
 use Rattle.eu_base.specs.declared.request.Reply.{Reply}
 use Rattle.eu_base.specs.declared.request.Reply.TheVariants.{Done, Text, Stopped}
 use Rattle.eu_base.specs.declared.request.Reply.TheVariants as replies
@@ -14,7 +14,7 @@ use Rattle.task_tree.specs.Tree as tree
 use Rattle.task_walks.specs.Families.{family}
 use Rattle.terminals.specs.Channels as channels
 use Rattle.packet_store.specs.declared.unit.Compiled.{Compiled}
-use Rattle.packet_store.specs.Library.{started}
+use Rattle.packet_store.specs.Library.{started_at}
 use Rattle.source_machine.specs.Stores.{is_name, heir}
 use Rattle.source_machine.specs.Tasks.{Running, starting}
 use Rattle.source_machine.specs.Systems.{System, Moment, packets, kept, on_system, on_channels, back, write, uncouple_at}
@@ -83,6 +83,7 @@ named_or (Some n) t = number n
 abbrev pub serve : TaskNo → Request → Moment → Served
 serve t (Out bytes ends) m = put (channels.channel_of t m.system.shared.channels) bytes ends m
 serve t Input m = input (channels.channel_of t m.system.shared.channels) m
+serve t (Begin name start) m = begin_with (begin_refusal name m.system) (started_at m.system.shared.library (packets t m.system) start) name t m
 serve t Myself m = Replies (of_task t) m
 serve t (Father of) m = Replies (of_task (tree.father (named_or of t) m.system.shared.tree)) m
 serve t (Son of) m = Replies (of_task (tree.son (number of) m.system.shared.tree)) m
@@ -92,5 +93,3 @@ serve t (Name of) m = Replies (Text (tree.name (number of) m.system.shared.tree)
 serve t (Exists of) m = Replies (replies.Truth (tree.lives (number of) m.system.shared.tree)) m
 serve t (End of) m = end_living (tree.lives (named_or of t) m.system.shared.tree) t (named_or of t) m
 serve t Break m = Replies Done (uncouple_at (channels.channel_of t m.system.shared.channels) m)
-
--- serve t (Begin name packet start) m = begin_with (begin_refusal name m.system) (started m.system.shared.library (packets t m.system) packet start) name t m

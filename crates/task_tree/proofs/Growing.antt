@@ -1,12 +1,12 @@
 -- The tree stays one.
-use Rattle.std.proofs.Common.{◌≡◌, ℕ, zero, suc, cond, ◌+◌, ◌<◌, Bool, true, false, not, ◌||◌, List, [], ◌∷◌, ◌++◌, length, get_or, find, Some, sym, refl, ap}
+use Rattle.std.proofs.Common.{◌≡◌, ℕ, zero, suc, cond, ◌+◌, ◌<◌, Bool, true, false, not, ◌||◌, List, [], ◌∷◌, ◌++◌, length, get_or, find, Some, All, sym, refl, ap}
 use Rattle.std.proofs.Common.{◌∙◌, arith}
 use Rattle.std.specs.List.{list_any}
 use Rattle.std.specs.Str.{bytes_eq}
-use Rattle.std.proofs.lemmas.Bool.{false≢true}
+use Rattle.std.proofs.lemmas.Bool.{false≢true, eqb-true}
 use Rattle.std.proofs.lemmas.Grind.{common_steps}
 use Rattle.std.proofs.lemmas.List.Elements.{All-filter, All-push}
-use Rattle.std.proofs.lemmas.List.Folds.{list_any-append, list_any_at}
+use Rattle.std.proofs.lemmas.List.Folds.{list_any-append, list_any_at, Any-from_list_any}
 use Rattle.std.proofs.lemmas.List.Kept.{AllPairs-filter}
 use Rattle.std.proofs.lemmas.List.Quantifiers.{all_pairs_push}
 use Rattle.std.proofs.lemmas.List.Sums.{length-filter, count_by-le-length}
@@ -16,7 +16,7 @@ use Rattle.task_numbers.specs.declared.number.TaskNo.{TaskNo}
 use Rattle.task_numbers.specs.Numbers.{niltask, is_nil}
 use Rattle.task_tree.specs.declared.task.Task.{Task}
 use Rattle.task_tree.specs.Tree as spec
-use Rattle.task_tree.specs.Trees.{IsYounger, IsGiven, has_live_father, IsTree}
+use Rattle.task_tree.specs.Trees.{IsYounger, IsGiven, IsYoungerThanFather, has_live_father, IsTree}
 
 -- a name that no task has is another than that of each
 other_name : (name : List ℕ) (xs : List Task) (k : ℕ) (d : Task) → list_any (spec.has_name name) xs ≡ false → k < length xs
@@ -57,6 +57,14 @@ lives_without s t u other e =
     let kept = any-filter_same (spec.has_number u.father) (λ v. not (spec.has_number t v)) true (λ v same. grind (arith, same, other)) s.tasks in
     grind (arith, kept, e)
 
+-- numbers are given in order, so a new task has a greater one than its father
+younger_than_father : (s : spec.Tree) (father : TaskNo) → All (IsGiven s.last) s.tasks → spec.lives father s ≡ true → father.0 < s.last + 1
+younger_than_father s father given live =
+    let found = Any-from_list_any (spec.has_number father) s.tasks live in
+    let low = (given found.0 found.1 found.2).1 in
+    let here : (get_or s.tasks found.0 found.1).number.0 ≡ father.0 = ap (λ (u : Task). u.number.0) found.3 ∙ eqb-true found.1.number.0 father.0 found.4 in
+    omega (arith, low, here)
+
 pub begun_is_tree : (s : spec.Tree) (name : List ℕ) (father : TaskNo) → IsTree s → list_any (spec.has_name name) s.tasks ≡ false → length s.tasks < TASKS
     → spec.lives father s ≡ true → IsTree (spec.begun name father s)
 begun_is_tree s name father tree free room live = record {
@@ -68,6 +76,7 @@ begun_is_tree s name father tree free room live = record {
   fathers = All-push (λ u. has_live_father (spec.begun name father s) u ≡ true) s.tasks (spec.task (spec.next s) name father)
       (λ k d lt. still_lives s (get_or s.tasks k d) (spec.task (spec.next s) name father) (s.last + 1) (tree.fathers k d lt))
       (grind (arith, common_steps, live, list_any-append (spec.has_number father) s.tasks (spec.task (spec.next s) name father ∷ [])));
+  older = All-push IsYoungerThanFather s.tasks (spec.task (spec.next s) name father) tree.older (younger_than_father s father tree.given live);
 }
 
 pub ended_is_tree : (s : spec.Tree) (t : TaskNo) → IsTree s → spec.son t s ≡ niltask → is_nil t ≡ false → IsTree (spec.ended t s)
@@ -80,4 +89,5 @@ ended_is_tree s t tree none some = record {
       (λ k d lt. lives_without s t (get_or s.tasks k d)
       (childless (spec.has_father t) s.tasks (λ j c less. (tree.given j c less).0) (grind (arith, none, some)) k d lt)
       (tree.fathers k d lt));
+  older = All-filter (λ u. not (spec.has_number t u)) IsYoungerThanFather s.tasks tree.older;
 }

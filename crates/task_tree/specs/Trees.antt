@@ -16,9 +16,13 @@ IsGiven last u = (0 < u.number.0) × (u.number.0 ≤ last)
 abbrev pub has_live_father : Tree → Task → Bool
 has_live_father s u = is_nil u.father || lives u.father s
 
--- at most 16 tasks live; they stand by age, with different numbers and names; their numbers were given, and their fathers live
+abbrev pub IsYoungerThanFather : Task → Type 0
+IsYoungerThanFather u = u.father.0 < u.number.0
+
+-- at most 16 tasks live; they stand by age, with different numbers and names; their numbers were given, and their fathers live and are older
 pub record IsTree (s : Tree) : Type 0 where
   pub few : length s.tasks ≤ TASKS
   pub apart : AllPairs IsYounger s.tasks
   pub given : All (IsGiven s.last) s.tasks
   pub fathers : All (λ u. has_live_father s u ≡ true) s.tasks
+  pub older : All IsYoungerThanFather s.tasks

@@ -188,8 +188,8 @@ impl TaskTree {
             .find(|other| is_younger_brother(task, other))
     }
 
-    /// What holds of every tree: at most 16 tasks, by age, no two with one number or one name, each with a living father but
-    /// `UR`; and a number that was given is not given again.
+    /// What holds of every tree: at most 16 tasks, by age, no two with one number or one name, each but `UR` with a living
+    /// father that is older; and a number that was given is not given again.
     pub fn law(&self)
         ensures { IsTree self.now }
     {

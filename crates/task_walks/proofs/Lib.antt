@@ -1,1 +1,5 @@
 mod Added
+mod Members
+mod Sons
+mod Descents
+pub mod Ending

@@ -134,7 +134,7 @@ size_range at n = if is_some (size_in n) then [] else (at, TooLarge) ∷ []
 module _ (seen : List TypeName) (refinements : List Refinement) where
   -- a name that no definition gives: that of a refinement, or of a predefined procedure without parameters
   abbrev pub is_known : List ℕ → Bool
-  is_known x = list_any (λ r. bytes_eq r.name.text x) refinements || is_some (first (has_as_many Procedure x 0) (map predefined_callable predefined))
+  is_known x = list_any (λ r. bytes_eq r.name.text x) refinements || is_some (first (has_as_many Procedure x (Some 0)) (map predefined_callable predefined))
 
   -- An identifier as a size names a LET of a number.
   abbrev pub size_named_fault : Name → Option Named → List Fault

@@ -74,7 +74,7 @@ impl<'a> Visible<'a> {
     fn is_known(self, name: &[u8]) -> bool
         ensures { result ≡ faults.is_known (names_seen self.entry) self.entry.refinements.now name.now }
     {
-        is_refinement(self.refinements, name) || is_predefined(Sort::Procedure, name, 0)
+        is_refinement(self.refinements, name) || is_predefined(Sort::Procedure, name, Some(0))
     }
 
     /// The number of items of a row.

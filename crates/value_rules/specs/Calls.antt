@@ -1,6 +1,8 @@
 -- Names, calls of PROCs, OPs and refinements, and LEAVE.
-use Rattle.std.specs.Prelude.{ℕ, ◌+◌, Bool, true, false, ◌||◌, ◌&&◌, List, [], ◌∷◌, length, Option, Some, None, is_some, if◌then◌else◌, nat_eq, slice_get}
+use Rattle.std.specs.Prelude.{ℕ, ◌+◌, ◌==◌, Bool, true, false, ◌||◌, ◌&&◌, List, [], ◌∷◌, length, Option, Some, None, is_some, if◌then◌else◌, nat_eq, slice_get, codes}
 use Rattle.std.specs.Option.{option_map_or}
+use Rattle.std.specs.Str.{bytes_eq}
+use Rattle.eu_base.specs.declared.request.RequestName.TheVariants as requests
 use Rattle.elan_types.specs.declared.elan_type.ElanType.{ElanType}
 use Rattle.elan_types.specs.Types.{shape_in, is_open}
 use Rattle.elan_types.specs.declared.core_phrase.PlacePhrase.{PlacePhrase}
@@ -21,14 +23,14 @@ use Rattle.elan_names.specs.declared.entry.Denotes.TheVariants as denotes
 use Rattle.elan_scope.specs.declared.delivery.Delivery.{Delivery}
 use Rattle.elan_scope.specs.declared.delivery.Delivery.TheVariants.{Open, Nothing, Of}
 use Rattle.elan_names.specs.declared.heading.Sort.{Sort}
-use Rattle.elan_names.specs.declared.heading.Sort.TheVariants.{Procedure}
+use Rattle.elan_names.specs.declared.heading.Sort.TheVariants.{Procedure, Operator}
 use Rattle.elan_names.specs.declared.heading.Heading.{Heading}
 use Rattle.elan_meant.specs.declared.meant.Meant.{Meant}
-use Rattle.elan_meant.specs.declared.meant.Meant.TheVariants.{Absent, Variable, Value, Done, Left}
+use Rattle.elan_meant.specs.declared.meant.Meant.TheVariants.{Absent, Variable, Value, Done, Left, Start}
 use Rattle.elan_names.specs.Callees.{Callee}
 use Rattle.elan_names.specs.Callees.{Predefined, Body}
 use Rattle.elan_names.specs.declared.predefined.Predefined.TheVariants.{Operation, Change, Request, ErrorStop}
-use Rattle.elan_scope.specs.Scope.{Callable, is_known, refinement_named, held, has_open, is_open_result, is_open_heading}
+use Rattle.elan_scope.specs.Scope.{Callable, predefined_callable, find, is_known, can_be_called, refinement_named, held, has_open, is_open_result, is_open_heading}
 use Rattle.elan_names.specs.declared.type_name.TypeName.{TypeName}
 use Rattle.elan_names.specs.Types.{is_open_named}
 use Rattle.elan_scope.specs.declared.scope.Scope.{Scope}
@@ -36,12 +38,12 @@ use Rattle.elan_scope.specs.Scope.{Found}
 use Rattle.elan_scope.specs.declared.scope.Home.{Home}
 use Rattle.elan_scope.specs.declared.scope.Home.TheVariants.{Level as of_level, Routine as of_routine, Packet as of_packet}
 use Rattle.elan_meant.specs.Verdict.{Verdict, gives, breaks, ◌>>=◌, told, is_given, unless}
-use Rattle.elan_meant.specs.Operands.{delivers, chosen, is_unclear}
+use Rattle.elan_meant.specs.Operands.{delivers, fit, chosen, is_unclear}
 use Rattle.elan_scope.specs.Known.{leads_back, delivery_at}
 use Rattle.elan_scope.specs.declared.known.Known.{Known}
 use Rattle.elan_scope.specs.declared.scope.Usage.{Usage}
 use Rattle.elan_scope.specs.declared.scope.Usage.TheVariants.{Expression, Counter}
-use Rattle.elan_meant.specs.Parts.{value_of, variable, type_in}
+use Rattle.elan_meant.specs.Parts.{nth, value_of, variable, type_in}
 use Rattle.elan_scope.specs.Ruled.{Ruled, hangs}
 use Rattle.value_rules.specs.Values.{denoter}
 
@@ -97,13 +99,81 @@ called at c ms = given at c.parameters ms >>= performed at c.callee c.result
 
 -- ---- operators, and identifiers with actuals
 
+-- `begin` takes three operands, of which the second is PROC with the name of a start procedure
+abbrev pub begin : List ℕ
+begin = codes "begin"
+
+abbrev pub is_begin : Sort → List ℕ → ℕ → Bool
+is_begin Procedure x n = n == 3 && bytes_eq x begin
+is_begin Operator x n = false
+
 -- A name that exists with that number of operands, but not for these types, has the wrong type.
 abbrev pub applied_as : ℕ → Bool → List Meant → Option Callable → Verdict Meant
 applied_as at known ms (Some c) = called at c ms
 applied_as at known ms None = if known then breaks (at, WrongType) else breaks (at, Unknown)
 
+-- `begin` with a start procedure, which is no value: the request has it in its name
+abbrev pub begins : ℕ → Callable
+begins n = predefined_callable (Procedure, begin, Request (requests.Begin n))
+
+abbrev pub begun : ℕ → ℕ → List Meant → Verdict Meant
+begun at n ms = if fit (begins n).parameters ms then called at (begins n) ms else breaks (at, WrongType)
+
+-- the start procedure, where the second of three operands is one
+abbrev pub start_in : Meant → Option ℕ
+start_in (Start n) = Some n
+start_in m = None
+
+abbrev pub start_among : List Meant → Option ℕ
+start_among (a ∷ m ∷ b ∷ []) = start_in m
+start_among ms = None
+
+abbrev pub applied_or : ℕ → Scope → Sort → List ℕ → List Meant → Option ℕ → Verdict Meant
+applied_or at s sort x ms (Some n) = begun at n (nth ms 0 ∷ nth ms 2 ∷ [])
+applied_or at s sort x ms None = applied_as at (is_begin sort x (length ms) || is_known s sort x (length ms)) ms (chosen s sort x ms)
+
 abbrev pub applied : ℕ → Scope → Sort → List ℕ → List Meant → Verdict Meant
-applied at s sort x ms = applied_as at (is_known s sort x (length ms)) ms (chosen s sort x ms)
+applied at s sort x ms = applied_or at s sort x ms (start_among ms)
+
+-- ---- PROC with a name
+
+-- a PROC of a packet
+abbrev pub is_procedure_in : Home → Denotes → Bool
+is_procedure_in (of_packet b) denotes.Procedure = true
+is_procedure_in home d = false
+
+abbrev pub is_procedure : Option Found → Bool
+is_procedure None = false
+is_procedure (Some f) = is_procedure_in f.home f.denotes
+
+-- a body that delivers nothing
+abbrev pub without_result : Callee → Option ElanType → Option ℕ
+without_result (Body n) None = Some n
+without_result c r = None
+
+abbrev pub body_of : Option Callable → Option ℕ
+body_of None = None
+body_of (Some c) = without_result c.callee c.result
+
+-- the number among all bodies of the PROC of that name in which a task can start: one of a packet, without parameters, that delivers nothing
+abbrev pub start_of : Scope → List ℕ → Option ℕ
+start_of s x = if is_procedure (find s x) then body_of (chosen s Procedure x []) else None
+
+-- A name is known that denotes something, or that can be called; `begin` can.
+abbrev pub is_name_known : Scope → List ℕ → Bool
+is_name_known s x = is_some (find s x) || (bytes_eq x begin || can_be_called s Procedure x)
+
+abbrev pub start_as : ℕ → Bool → Option ℕ → Verdict Meant
+start_as at known (Some n) = gives (Start n)
+start_as at known None = if known then gives Absent else breaks (at, Unknown)
+
+abbrev pub start_named : ℕ → Scope → List ℕ → Verdict Meant
+start_named at s x = start_as at (is_name_known s x) (start_of s x)
+
+-- It stands as the second actual of `begin`, and nowhere else.
+abbrev pub started : ℕ → Bool → Meant → Verdict Meant
+started at true (Start n) = gives (Start n)
+started at may m = breaks (at, WrongPlace)
 
 -- ---- refinements
 

@@ -1,6 +1,6 @@
 //! Calls: operators with their operands, and procedures with their actuals.
 
-ghost use Rattle.std.specs.Prelude.{◌≡◌, ◌++◌, ◌∷◌, [], ℕ, IfOk, Option, Some, List, option_map};
+ghost use Rattle.std.specs.Prelude.{◌≡◌, ◌++◌, ◌∷◌, [], ℕ, IfOk, Option, Some, None, List, length, option_map};
 ghost use Rattle.elan_types.specs.declared.elan_type.ElanType.{ElanType as ElanTypes};
 ghost use Rattle.elan_types.specs.declared.core_phrase.Actual.{Actual as Actuals};
 ghost use Rattle.eu_base.specs.Operations.{result_kind};
@@ -15,12 +15,14 @@ ghost use Rattle.value_rules.specs.Calls as spec;
 ghost use Rattle.value_rules.specs.walks.Steps as walk;
 ghost use Rattle.elan_scope.specs.Answer.{Is};
 ghost use Rattle.elan_meant.specs.Operands.{is_unclear};
+ghost use Rattle.elan_meant.specs.Parts.{nth};
+ghost use Rattle.std.specs.Str.{bytes_eq};
 ghost use Rattle.elan_meant.specs.Verdict.{Verdict, Tells, told, unless};
 
 use crate::numbered::behind;
 use elan_meant::arity::two_of;
 use elan_meant::meant::Meant;
-use elan_meant::operands::{chosen, is_unclear};
+use elan_meant::operands::{chosen, fit, is_unclear};
 use elan_meant::part::{delivering, delivering_as, done, value_in, variable};
 use elan_meant::row::{Judged, and, pushed};
 use elan_names::callable::{Callable, Called, Parameters};
@@ -281,15 +283,91 @@ pub fn applied(
         Meant::all_let_go(operands);
         return Err(Trouble::Hangs);
     }
+    match start_among(operands.as_slice()) {
+        Some(start) => begun(alloc, at, start, operands),
+        None => applied_to(alloc, at, scope, sort, name, operands),
+    }
+}
+
+fn applied_to(
+    alloc: Global,
+    at: u32,
+    scope: &Scope,
+    sort: Sort,
+    name: &[u8],
+    operands: List<Meant>,
+) -> Judged
+    ensures { Tells result (spec.applied_or at scope.now sort name.now operands None) }
+{
     match chosen(scope, sort, name, operands.as_slice()) {
         Some(callable) => called(alloc, at, callable, operands),
         None => {
-            if scope.is_known(sort, name, operands.len()) {
+            let count = operands.len();
+            if is_begin(sort, name, count) || scope.is_known(sort, name, count) {
                 Err(Trouble::Breaks(at, Why::WrongType))
             } else {
                 Err(Trouble::Breaks(at, Why::Unknown))
             }
         }
+    }
+}
+
+// ---- `begin`
+
+/// Whether a name is that of `begin`.
+pub fn is_begin_name(name: &[u8]) -> bool
+    ensures { result ≡ bytes_eq name.now spec.begin }
+{
+    name == b"begin".as_slice()
+}
+
+fn is_begin(sort: Sort, name: &[u8], count: usize) -> bool
+    ensures { result ≡ spec.is_begin sort name.now count }
+{
+    match sort {
+        Sort::Procedure => count == 3 && is_begin_name(name),
+        Sort::Operator => false,
+    }
+}
+
+fn start_among(operands: &[Meant]) -> Option<usize>
+    ensures { result ≡ spec.start_among operands.now }
+{
+    match operands {
+        [_name, Meant::Start(start), _task] => Some(*start),
+        _ => None,
+    }
+}
+
+// The first and the last of three operands.
+fn outer_two(mut operands: List<Meant>) -> Result<List<Meant>, NoMemory>
+    requires { length operands ≡ 3 }
+    ensures { IfOk result (λ two. two ≡ nth operands 0 ∷ nth operands 2 ∷ []) }
+{
+    let last = operands.pop();
+    operands.pop();
+    if let Some(last) = last {
+        operands.push(last)?;
+    }
+    Ok(operands)
+}
+
+// What the request takes beside its start procedure is given for it.
+fn begun(alloc: Global, at: u32, start: usize, operands: List<Meant>) -> Judged
+    requires { length operands ≡ 3 }
+    ensures { Tells result (spec.begun at start (nth operands 0 ∷ nth operands 2 ∷ [])) }
+{
+    let operands = outer_two(operands)?;
+    let callable = Callable {
+        sort: Sort::Procedure,
+        name: b"begin",
+        what: Called::Predefined(Predefined::Request(RequestName::Begin(start))),
+    };
+    if fit(callable.what.parameters(), operands.as_slice()) {
+        called(alloc, at, callable, operands)
+    } else {
+        Meant::all_let_go(operands);
+        Err(Trouble::Breaks(at, Why::WrongType))
     }
 }
 

@@ -7,16 +7,19 @@ ghost use Rattle.elan_types.specs.declared.core_phrase.Access.TheVariants as acc
 ghost use Rattle.elan_meant.specs.declared.meant.Meant.TheVariants as means;
 ghost use Rattle.value_rules.specs.Calls as spec;
 ghost use Rattle.elan_scope.specs.Scope as scopes;
+ghost use Rattle.elan_scope.specs.walks.Seen as looked;
+ghost use Rattle.elan_names.specs.walks.Seen as seen;
 ghost use Rattle.elan_scope.specs.Answer.{Is};
 ghost use Rattle.elan_meant.specs.Verdict.{gives, told, unless, Tells};
 
-use crate::call::applied_alone;
+use crate::call::{applied_alone, is_begin_name};
 use crate::numbered::behind;
 use crate::value::denoter;
 use elan_meant::meant::Meant;
+use elan_meant::operands::chosen;
 use elan_meant::part::{delivering_as, done};
 use elan_meant::row::Judged;
-use elan_names::callable::{has_open, is_open_result};
+use elan_names::callable::{Callable, Called, has_open, is_open_result};
 use elan_names::entry::Denotes;
 use elan_names::heading::Sort;
 use elan_scope::delivery::Delivery;
@@ -185,6 +188,78 @@ fn denoted(
         Denotes::Procedure => applied_alone(alloc, at, scope, name),
         Denotes::Refinement => refined_as(alloc, known, usage, at, scope, name),
         Denotes::Denoter(written) => denoter(alloc, at, written),
+    }
+}
+
+// ---- PROC with a name
+
+// The number of a body that delivers nothing.
+fn body_of(callable: Option<Callable<'_>>) -> Result<Option<usize>, NoMemory>
+    ensures { IfOk result (λ number. number ≡ spec.body_of (option_map seen.callable callable.entry)) }
+{
+    match callable {
+        None => Ok(None),
+        Some(callable) => match callable.what {
+            Called::Predefined(_) | Called::Body(_, _, _, Some(_)) => Ok(None),
+            Called::Body(before, number, _, None) => Ok(Some(behind(before, number)?)),
+        },
+    }
+}
+
+fn is_procedure(found: Option<Found<'_>>) -> bool
+    ensures { result ≡ spec.is_procedure (option_map looked.found_there found.entry) }
+{
+    match found {
+        None => false,
+        Some(found) => match (found.home, found.denotes) {
+            (Home::Packet(_), Denotes::Procedure) => true,
+            _ => false,
+        },
+    }
+}
+
+fn start_of(scope: &Scope, name: &[u8]) -> Result<Option<usize>, NoMemory>
+    ensures { IfOk result (λ number. number ≡ spec.start_of scope.now name.now) }
+{
+    if is_procedure(scope.find(name)) {
+        body_of(chosen(scope, Sort::Procedure, name, &[]))
+    } else {
+        Ok(None)
+    }
+}
+
+fn is_name_known(scope: &Scope, name: &[u8]) -> bool
+    ensures { result ≡ spec.is_name_known scope.now name.now }
+{
+    scope.find(name).is_some() || is_begin_name(name) || scope.can_be_called(Sort::Procedure, name)
+}
+
+/// The name behind PROC: the PROC of a packet in which a task can start. Another name that is known means nothing there.
+pub fn start_named(at: u32, scope: &Scope, name: &[u8]) -> Judged
+    ensures { Tells result (spec.start_named at scope.now name.now) }
+{
+    match start_of(scope, name)? {
+        Some(number) => Ok(Meant::Start(number)),
+        None => {
+            if is_name_known(scope, name) {
+                Ok(Meant::Absent)
+            } else {
+                Err(Trouble::Breaks(at, Why::Unknown))
+            }
+        }
+    }
+}
+
+/// PROC with a name, where it may stand.
+pub fn started(at: u32, may: bool, name: Meant) -> Judged
+    ensures { Tells result (spec.started at may name) }
+{
+    match name {
+        Meant::Start(number) if may => Ok(Meant::Start(number)),
+        other => {
+            other.let_go();
+            Err(Trouble::Breaks(at, Why::WrongPlace))
+        }
     }
 }
 

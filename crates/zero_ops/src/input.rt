@@ -1,4 +1,4 @@
-//! What is read out of a line that was typed, and out of an answer.
+//! What is taken out of a reply.
 ghost use Rattle.eu_base.specs.Requests.{read_as, answer_of};
 ghost use Rattle.zero_ops.specs.Given.{Gives};
 
@@ -9,14 +9,15 @@ use crate::trim::trimmed;
 use eu_base::{Reply, RequestName, Value};
 use std::alloc::Global;
 
-/// What a request reads out of a line for its variable; 0 where it has none.
-pub fn read_as(alloc: Global, name: RequestName, line: &[u8]) -> Result<Value, OpError>
-    ensures { Gives result (read_as name line.now) }
+/// What a request takes out of a reply for its variable; 0 where it has none.
+pub fn read_as(alloc: Global, name: RequestName, reply: &Reply) -> Result<Value, OpError>
+    ensures { Gives result (read_as name reply.now) }
 {
     match name {
-        RequestName::GetNumber => Ok(Value::Int(number_in(line))),
-        RequestName::GetText => fitting(alloc, trimmed(line)),
-        RequestName::GetLine => fitting(alloc, line),
+        RequestName::GetNumber => Ok(Value::Int(number_in(reply.text()))),
+        RequestName::GetText => fitting(alloc, trimmed(reply.text())),
+        RequestName::GetLine => fitting(alloc, reply.text()),
+        RequestName::Begin(_) => Ok(Value::Task(reply.task())),
         _ => Ok(Value::Int(0)),
     }
 }

@@ -9,11 +9,12 @@ use Rattle.eu_base.specs.declared.stop.Stop.TheVariants.{OperandRoom}
 use Rattle.eu_base.specs.declared.set.Set.{Set}
 use Rattle.eu_base.specs.declared.set.Set.TheVariants.{Done, HeapFull}
 use Rattle.eu_base.specs.declared.request.RequestName.{RequestName}
-use Rattle.eu_base.specs.declared.request.RequestName.TheVariants.{PutNumber, PutText, Write, PutLine, Line, GetNumber, GetText, GetLine}
+use Rattle.eu_base.specs.declared.request.RequestName.TheVariants.{GetNumber, GetText, GetLine}
+use Rattle.eu_base.specs.declared.request.RequestName.TheVariants as names
 use Rattle.eu_base.specs.declared.request.Reply.{Reply}
 use Rattle.eu_base.specs.declared.request.Reply.TheVariants as replies
 use Rattle.eu_base.specs.declared.value.Kind.{Kind}
-use Rattle.eu_base.specs.Requests.{request_kinds, request_result, request_size, reply_text, read_as, answer_of}
+use Rattle.eu_base.specs.Requests.{request_kinds, request_result, request_size, read_as, answer_of}
 use Rattle.eu_base.specs.Cells.{Cells, IsCell, held_of, written}
 use Rattle.code_form.specs.declared.halt.Halt.TheVariants as halts
 use Rattle.code_form.specs.declared.operand.Operand.{Operand}
@@ -32,11 +33,12 @@ use Rattle.zero_steps.specs.Replying.{IsAt, PutsIn, replied_by, Replies, Answers
 use Rattle.zero_steps.proofs.Accessing.{Keeps, puts_on, put_done, put_full}
 use Rattle.eu_base.specs.Room.{bytes_fit}
 
--- what is read out of no text is "" or a number
-read_empty : (name : RequestName) → (v : Value) × (read_as name [] ≡ Ok (emptied v))
+-- what is taken out of a reply that brings nothing is "", a number or niltask
+read_empty : (name : RequestName) → (v : Value) × (read_as name replies.Done ≡ Ok (emptied v))
 read_empty GetNumber = (item.Int (pos 0), refl)
 read_empty GetText = (item.Text [], refl)
 read_empty GetLine = (item.Text [], refl)
+read_empty (names.Begin start) = (item.Task 0, refl)
 read_empty _ = (item.Int (pos 0), refl)
 
 module _ (before after : Cells → Type 0) (name : RequestName) (r : Reply) (c : Position) (le : request_size name ≤ length c.ops)
@@ -49,18 +51,18 @@ module _ (before after : Cells → Type 0) (name : RequestName) (r : Reply) (c :
 
   -- it takes the operands on top
   settled : (r : Reply) (cells : Cells) → takes_reply (Some (Ask name)) r c cells
-      ≡ or_halt (read_as name (reply_text r)) (λ v. keeps c (behind_values name c.ops) v rest cells)
+      ≡ or_halt (read_as name r) (λ v. keeps c (behind_values name c.ops) v rest cells)
   settled r cells =
       taken_all (request_size name) c.ops _ le ∙ ap (λ o. settles name o r c (reverse (take (request_size name) c.ops)) rest cells) none
 
   -- where this is read
-  takes : (r : Reply) (cells : Cells) (v : Value) → read_as name (reply_text r) ≡ Ok v
+  takes : (r : Reply) (cells : Cells) (v : Value) → read_as name r ≡ Ok v
       → takes_reply (Some (Ask name)) r c cells ≡ keeps c (behind_values name c.ops) v rest cells
   takes r cells v read =
       settled r cells ∙ ap (λ g. or_halt g (λ v. keeps c (behind_values name c.ops) v rest cells)) read
 
   -- what cannot be read stops it
-  pub reply_stops : (after_is : Keeps before after) (stop : Stop) (how : Next) → read_as name (reply_text r) ≡ Err stop
+  pub reply_stops : (after_is : Keeps before after) (stop : Stop) (how : Next) → read_as name r ≡ Err stop
       → halt_of how ≡ Some (halts.Stopped stop) → Replies before after name r c (given c r) how
   reply_stops kept stop how read is = record {
     does = λ marks cells h.
@@ -72,7 +74,7 @@ module _ (before after : Cells → Type 0) (name : RequestName) (r : Reply) (c :
   }
 
   -- a request without a variable goes on
-  reply_goes : Keeps before after → (v : Value) → read_as name (reply_text r) ≡ Ok v → behind_values name c.ops ≡ []
+  reply_goes : Keeps before after → (v : Value) → read_as name r ≡ Ok v → behind_values name c.ops ≡ []
       → Replies before after name r c next On'
   reply_goes kept v read empty = record {
     does = λ marks cells h.
@@ -80,13 +82,13 @@ module _ (before after : Cells → Type 0) (name : RequestName) (r : Reply) (c :
     leads = inl (replies.Done, λ marks. ((λ _. held_of v), ((λ _. held_of v), so replies.Done (emptied (read_empty name).0) (read_empty name).1 marks (λ _. held_of v))));
   }
     where
-      so : (r : Reply) (v : Value) → read_as name (reply_text r) ≡ Ok v → (marks : ℕ) (cells : Cells)
+      so : (r : Reply) (v : Value) → read_as name r ≡ Ok v → (marks : ℕ) (cells : Cells)
           → On next (scene_of cells marks) ≡ replied_by name r marks c cells
       so r v read marks cells =
           ap (λ m. move_stage m (given c r) (scene_of cells marks)) (sym (takes r cells v read ∙ ap (λ os. keeps c os v rest cells) empty))
 
-  module _ (v : Value) (read : read_as name (reply_text r) ≡ Ok v) (a : Addr) (os : List Operand) (is : behind_values name c.ops ≡ At a ∷ os) where
-    keeps_it : (r : Reply) (v : Value) → read_as name (reply_text r) ≡ Ok v → (cells : Cells)
+  module _ (v : Value) (read : read_as name r ≡ Ok v) (a : Addr) (os : List Operand) (is : behind_values name c.ops ≡ At a ∷ os) where
+    keeps_it : (r : Reply) (v : Value) → read_as name r ≡ Ok v → (cells : Cells)
         → takes_reply (Some (Ask name)) r c cells ≡ keeps c (At a ∷ os) v rest cells
     keeps_it r v read cells = takes r cells v read ∙ ap (λ os. keeps c os v rest cells) is
 
@@ -122,13 +124,13 @@ module _ (before after : Cells → Type 0) (name : RequestName) (r : Reply) (c :
     }
 
   -- its variable got the value, or it has none
-  pub reply_done : (v : Value) → read_as name (reply_text r) ≡ Ok v → (o : Option Addr) (set : Set) → IsAt (behind_values name c.ops) o → set ≡ Done
+  pub reply_done : (v : Value) → read_as name r ≡ Ok v → (o : Option Addr) (set : Set) → IsAt (behind_values name c.ops) o → set ≡ Done
       → PutsIn before after o (held_of v) set → Replies before after name r c next On'
   reply_done v read None set is so put = reply_goes put.1 v read is
   reply_done v read (Some a) set is so put = reply_kept v read a is.0 is.1 (subst (PutsTaken before after a (held_of v)) so put)
 
   -- or it has no room
-  pub reply_unkept : (v : Value) → read_as name (reply_text r) ≡ Ok v → (o : Option Addr) (set : Set) → IsAt (behind_values name c.ops) o → set ≡ HeapFull
+  pub reply_unkept : (v : Value) → read_as name r ≡ Ok v → (o : Option Addr) (set : Set) → IsAt (behind_values name c.ops) o → set ≡ HeapFull
       → PutsIn before after o (held_of v) set → Replies before after name r c (given c r) TextRoom
   reply_unkept v read None set is so put = let f : Done ≡ HeapFull = sym put.0 ∙ so in absurd (cc f)
   reply_unkept v read (Some a) set is so put = reply_full v read a is.0 is.1 (subst (PutsTaken before after a (held_of v)) so put)

@@ -59,6 +59,10 @@ fn request(alloc: Global, name: RequestName, operands: &[Operand]) -> Result<Req
         }),
         RequestName::GetNumber | RequestName::GetText | RequestName::GetLine => Ok(Request::Input),
         RequestName::Named => Ok(Request::Named(Bytes::from(alloc, text_at(operands, 0))?)),
+        RequestName::Begin(start) => Ok(Request::Begin {
+            name: Bytes::from(alloc, text_at(operands, 0))?,
+            start,
+        }),
         RequestName::Myself => Ok(Request::Myself),
         RequestName::Father => Ok(Request::Father(None)),
         RequestName::FatherOf => Ok(Request::Father(Some(task_at(operands, 0)))),

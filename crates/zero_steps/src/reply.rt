@@ -2,7 +2,7 @@
 ghost use Rattle.std.specs.Prelude.{◌≡◌, ◌+◌, ◌^◌, ◌<◌, ◌≤◌, true, length, drop, IfOk, IsSome, None, MatchOption};
 ghost use Rattle.eu_base.specs.declared.request.Reply.{Reply};
 ghost use Rattle.eu_base.specs.Cells.{IsCell, held_of, HasFaultCause};
-ghost use Rattle.eu_base.specs.Requests.{request_size, request_result, reply_text, answer_of};
+ghost use Rattle.eu_base.specs.Requests.{request_size, request_result, read_as, answer_of};
 ghost use Rattle.zero_ops.specs.Given.{Gives};
 ghost use Rattle.code_form.specs.declared.waits.Waits.TheVariants as waits;
 ghost use Rattle.zero_state.specs.Finds.{FindsReply, IsVariable};
@@ -80,7 +80,7 @@ fn keep_line<M: Memory>(s: &mut State, m: &mut M, name: RequestName) -> Result<N
     ensures cause { HasFaultCause (M.faults m.old) (M.faults m.new) result }
     ensures follows { M.follows m.old m.new }
 {
-    let value = match read_as(s.alloc, name, text_of(&s.waits)) {
+    let value = match read(s.alloc, name, &s.waits) {
         Ok(value) => value,
         Err(OpError::Stop(fault)) => return Ok(stopped(fault)),
         Err(OpError::NoMemory) => return Err(MemFault::NoMemory),
@@ -98,13 +98,13 @@ fn keep_line<M: Memory>(s: &mut State, m: &mut M, name: RequestName) -> Result<N
     }
 }
 
-// The text that a reply brings; "" where none is there.
-fn text_of(waiting: &Waits) -> &[u8]
-    ensures { (r : Reply) → waiting.now ≡ waits.Given r → result.now ≡ reply_text r }
+// What a request takes for its variable out of the reply that is there.
+fn read(alloc: Global, name: RequestName, waiting: &Waits) -> Result<Value, OpError>
+    ensures { (r : Reply) → waiting.now ≡ waits.Given r → Gives result (read_as name r) }
 {
     match waiting {
-        Waits::Given(reply) => reply.text(),
-        Waits::Nothing | Waits::Asked(_) | Waits::Refused(_) => &[],
+        Waits::Given(reply) => read_as(alloc, name, reply),
+        Waits::Nothing | Waits::Asked(_) | Waits::Refused(_) => Ok(Value::Int(0)),
     }
 }
 

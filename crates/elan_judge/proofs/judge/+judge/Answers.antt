@@ -1,4 +1,4 @@
-use Rattle.std.proofs.Common.{rules, arith, ℕ, ℤ, ◌≡◌, ◌++◌, ◌∷◌, ◌∙◌, List, [], map, take, Ok, Err, Option, Some, None, option_map, ap, sym, subst}
+use Rattle.std.proofs.Common.{drop, length, ◌-◌, rules, arith, ℕ, ℤ, ◌≡◌, ◌++◌, ◌∷◌, ◌∙◌, List, [], map, take, Ok, Err, Option, Some, None, option_map, ap, sym, subst}
 use Rattle.elan_tree.specs.declared.phrase.Counter.{Counter}
 use Rattle.elan_tree.specs.declared.phrase.Expr.TheViews.{size-Expr, size-Unit, size_is-Branch, sized-Select, sized-Loop, weight-Expr-If-2}
 use Rattle.std.proofs.lemmas.List.{append-nil}
@@ -15,9 +15,9 @@ use Rattle.elan_meant.specs.walks.Arity.{triple}
 use Rattle.eu_base.specs.declared.operation.Way.{Way}
 use Rattle.elan_judge.specs.Shape as shape
 use Rattle.elan_judge.specs.walks.Steps as walk
-use Rattle.elan_judge.proofs.Rows.{row_goes, two_more, roles_go, roles_end, row_is, one_is, branches_go, branches_end, cases_go, cases_end}
+use Rattle.elan_judge.proofs.Rows.{row_further, row_whole, row_goes, two_more, roles_go, roles_end, row_is, one_is, branches_go, branches_end, cases_go, cases_end}
 use Rattle.elan_judge.proofs.Rows.{first_fails, first_is, whole_fails, whole_is}
-use Rattle.elan_judge.proofs.Shapes.{units_of, units_absent, units_written, choice_parts, case_parts, loop_of, choice_is, selection_is, cand_is, cor_is, index_is}
+use Rattle.elan_judge.proofs.Shapes.{units_of, units_absent, units_written, choice_parts, case_parts, loop_of, choice_is, selection_is, procedure_is, second_is, begun_is, alone, firsts, others_are, only_is, cand_is, cor_is, index_is}
 use Rattle.elan_judge.proofs.Shapes.{loop_is, branch_shape, case_shape, counter_shape, item_is, variables_is, constants_is, let_is}
 use Rattle.elan_judge.proofs.judge.+judge.Goals as goal
 use Rattle.elan_judge.proofs.judge.+judge.Goals.{judge-in-None, judge-in-Some, judge-in-None-otherwise, judge-in-Some-otherwise}
@@ -133,12 +133,51 @@ judge-returns-in-Index t c =
     (c.index_phrase.ensures c.args.known.now (shape.expr c.args.scope.now c.get-in-Index.result.now)
     (shape.expr c.args.scope.now c.get-in-Index-2.result.now) c.judge-of-in-Index.ensures c.judge-index.ensures)
 
-pub judge_exprs-loop-expr-preserved : goal.judge_exprs-loop-expr-preserved
-judge_exprs-loop-expr-preserved t c =
-    row_goes c.args.known.now (shape.expr c.args.scope.now) c.args.exprs.now c.loop-expr.expr-index c.expr-item.result c.with-row.result c.loop-expr-test.true
-    c.expr-item.is
-    (c.with-row.ensures (judged_all c.args.known.now (all_of (map (shape.expr c.args.scope.now) (take c.loop-expr.expr-index c.args.exprs.now))))
-    (judged c.args.known.now (shape.expr c.args.scope.now c.expr-item.result)) c.loop-expr.invariant c.judge.ensures)
+pub add_exprs-loop-expr-preserved : goal.add_exprs-loop-expr-preserved
+add_exprs-loop-expr-preserved t c = λ done h.
+    row_further c.args.known.now (shape.expr c.args.scope.now) done c.args.exprs.now c.loop-expr.expr-index c.expr-item.result c.with-row.result
+    c.loop-expr-test.true c.expr-item.is
+    (c.with-row.ensures (judged_all c.args.known.now (all_of (done ++ map (shape.expr c.args.scope.now) (take c.loop-expr.expr-index c.args.exprs.now))))
+    (judged c.args.known.now (shape.expr c.args.scope.now c.expr-item.result)) (c.loop-expr.invariant done h) c.judge.ensures)
+
+pub add_exprs-returns : goal.add_exprs-returns
+add_exprs-returns t c = λ done h.
+    row_whole c.args.known.now (shape.expr c.args.scope.now) done c.args.exprs.now c.loop-expr.expr-index c.loop-expr.row c.loop-expr-test.false
+    (c.loop-expr.invariant done h)
+
+pub judge-returns-in-Procedure : goal.judge-returns-in-Procedure
+judge-returns-in-Procedure t c =
+    procedure_is c.args.scope.now c.args.known.now c.start.result c.args.expr.now c.in-Procedure.at c.in-Procedure.name c.in-Procedure.is
+    (c.start.ensures c.args.known.now)
+
+pub judge_second-returns-in-Procedure : goal.judge_second-returns-in-Procedure
+judge_second-returns-in-Procedure t c =
+    second_is c.args.scope.now c.args.known.now c.start.result c.args.expr.now c.in-Procedure.at c.in-Procedure.name c.in-Procedure.is
+    (c.start.ensures c.args.known.now)
+
+pub judge_actuals-returns-then-not-is_begin_name : goal.judge_actuals-returns-then-not-is_begin_name
+judge_actuals-returns-then-not-is_begin_name t c =
+    others_are c.args.scope.now c.args.known.now c.add_exprs.result c.args.name.now c.args.exprs.now
+    (sym c.is_begin_name.ensures ∙ c.if-not-is_begin_name.true) (c.add_exprs.ensures [] c.none.ensures)
+
+pub judge_actuals-returns-in-len1 : goal.judge_actuals-returns-in-len1
+judge_actuals-returns-in-len1 t c =
+    let only = c.only-item.result in
+    only_is c.args.scope.now c.args.known.now c.one.result c.args.name.now only c.args.exprs.now
+    (alone c.args.exprs.now only c.in-len1.len_at_least c.in-len1.len_below c.only-item.is)
+    (c.one.ensures (judged c.args.known.now (shape.expr c.args.scope.now only)) c.judge.ensures)
+
+pub judge_actuals-returns-in-len2-up : goal.judge_actuals-returns-in-len2-up
+judge_actuals-returns-in-len2-up t c =
+    let s = c.args.scope.now in
+    let k = c.args.known.now in
+    let first = shape.expr s c.first-item.result in
+    let second = shape.as_start (shape.expr s c.second-item.result) in
+    begun_is s k c.add_exprs-in-len2-up.result c.args.name.now c.first-item.result c.second-item.result (take (length c.args.exprs.now - 2) (drop 2 c.args.exprs.now))
+    c.args.exprs.now
+    (sym c.is_begin_name.ensures ∙ c.if-not-is_begin_name.false)
+    (firsts c.args.exprs.now c.first-item.result c.second-item.result c.in-len2-up.len_at_least c.first-item.is c.second-item.is)
+    (c.add_exprs-in-len2-up.ensures (first ∷ second ∷ []) (c.pair-row.ensures (judged k first) (judged k second) c.judge-first.ensures c.judge_second.ensures))
 
 -- ---- branches and cases
 

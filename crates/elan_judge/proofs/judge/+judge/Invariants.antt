@@ -1,14 +1,16 @@
-use Rattle.std.proofs.Common.{[], map, take, drop}
+use Rattle.std.proofs.Common.{List, [], ◌++◌, map, take, drop}
 use Rattle.elan_scope.specs.Answer.{Is}
 use Rattle.elan_rules.specs.Meaning.{judged_all}
-use Rattle.elan_scope.specs.Phrase.{all_of}
+use Rattle.elan_scope.specs.Phrase.{Phrase, all_of}
 use Rattle.elan_judge.specs.Shape.{expr, item}
 use Rattle.elan_judge.specs.walks.Steps.{wanted}
 use Rattle.elan_judge.proofs.Rows.{Grown, left_roles, left_branches, left_cases}
 use Rattle.elan_judge.proofs.judge.+judge.Given as goal
 
-abbrev pub invariant-judge_exprs-loop-expr : goal.invariant-judge_exprs-loop-expr
-invariant-judge_exprs-loop-expr l = Is l.row (judged_all l.known (all_of (map (expr l.scope) (take l.expr-index l.exprs))))
+abbrev pub invariant-add_exprs-loop-expr : goal.invariant-add_exprs-loop-expr
+invariant-add_exprs-loop-expr l =
+    (done : List Phrase) → Is l.fn.front (judged_all l.known (all_of done))
+    → Is l.row (judged_all l.known (all_of (done ++ map (expr l.scope) (take l.expr-index l.exprs))))
 
 abbrev pub invariant-judge_items-loop-item : goal.invariant-judge_items-loop-item
 invariant-judge_items-loop-item l = Is l.row (judged_all l.known (all_of (map (item l.scope) (take l.item-index l.items))))

@@ -56,7 +56,7 @@ loop-screen-preserved g c =
     let waits : c.go.new.self.waits ≡ Asked c.in-Asks.request = c.in_ok-go.ensures.asks c.in-Asks.request c.in-Asks.is in
     let answer =
     c.in_ok-answer-in-Asks.ensures.answered c.in-Asks.request waits
-    ∙ ap (λ r. answered c.in-Asks.request r c.go.new.self.position) c.reply_to.ensures in
+    ∙ ap (λ r. answered c.in-Asks.request r c.go.new.self.position) c.reply_to-reply.ensures in
     let less = c.in_ok-go.ensures.pays c.in-Asks.request c.in-Asks.is c.loop-screen.invariant.free in
     record {
       served = λ core first held b has.
@@ -69,64 +69,8 @@ loop-screen-preserved g c =
             (
               c.in_ok-answer-in-Asks.ensures.kept r.scene.cells so.0,
               served_on core c.args.code.now first c.loop-screen.command x.0 c.loop-screen.marks c.loop-screen.screen x.1.1 b has (g.M.Memory.holds c.go.new.m)
-                  c.in_ok-go.field-0 c.go.new.self c.go.new.marks so c.in-Asks.request c.show.new.self c.answer.new.self c.in-Asks.is
-                  c.in_ok-show-in-Asks.ensures waits
-                  answer less,
-            ),
-          );
-      free = ap (λ (d : Control). asked d.waits) answer ∙ answered_free c.in-Asks.request (reply_to c.in-Asks.request) c.go.new.self.position;
-      fits = c.in_ok-answer-in-Asks.ensures.fits;
-      later = omega (arith, c.loop-screen.invariant.later, c.go.ensures.cause.later, c.answer.ensures.cause.later);
-    }
-
-pub loop-screen-preserved-in_ok-answer-in-Asks : goal.loop-screen-preserved-in_ok-answer-in-Asks
-loop-screen-preserved-in_ok-answer-in-Asks g c =
-    let waits : c.go.new.self.waits ≡ Asked c.in-Asks.request = c.in_ok-go.ensures.asks c.in-Asks.request c.in-Asks.is in
-    let answer =
-    c.in_ok-answer-in-Asks.ensures.answered c.in-Asks.request waits
-    ∙ ap (λ r. answered c.in-Asks.request r c.go.new.self.position) c.reply_to.ensures in
-    let less = c.in_ok-go.ensures.pays c.in-Asks.request c.in-Asks.is c.loop-screen.invariant.free in
-    record {
-      served = λ core first held b has.
-          let x = c.loop-screen.invariant.served core first held b has in
-          let r = next core c.args.code.now first c.loop-screen.command x.0 c.loop-screen.marks c.loop-screen.screen x.1.1 b has in
-          let so =
-          c.in_ok-go.ensures.rests x.0 r x.1.0
-          (rests core c.args.code.now first c.loop-screen.command x.0 c.loop-screen.marks c.loop-screen.screen x.1.1 b has) in (
-            r.scene.cells,
-            (
-              c.in_ok-answer-in-Asks.ensures.kept r.scene.cells so.0,
-              served_on core c.args.code.now first c.loop-screen.command x.0 c.loop-screen.marks c.loop-screen.screen x.1.1 b has (g.M.Memory.holds c.go.new.m)
-                  c.in_ok-go.field-0 c.go.new.self c.go.new.marks so c.in-Asks.request c.show.new.self c.answer.new.self c.in-Asks.is
-                  c.in_ok-show-in-Asks.ensures waits
-                  answer less,
-            ),
-          );
-      free = ap (λ (d : Control). asked d.waits) answer ∙ answered_free c.in-Asks.request (reply_to c.in-Asks.request) c.go.new.self.position;
-      fits = c.in_ok-answer-in-Asks.ensures.fits;
-      later = omega (arith, c.loop-screen.invariant.later, c.go.ensures.cause.later, c.answer.ensures.cause.later);
-    }
-
-pub loop-screen-preserved-in_ok-answer-in-Asks-2 : goal.loop-screen-preserved-in_ok-answer-in-Asks-2
-loop-screen-preserved-in_ok-answer-in-Asks-2 g c =
-    let waits : c.go.new.self.waits ≡ Asked c.in-Asks.request = c.in_ok-go.ensures.asks c.in-Asks.request c.in-Asks.is in
-    let answer =
-    c.in_ok-answer-in-Asks.ensures.answered c.in-Asks.request waits
-    ∙ ap (λ r. answered c.in-Asks.request r c.go.new.self.position) c.reply_to.ensures in
-    let less = c.in_ok-go.ensures.pays c.in-Asks.request c.in-Asks.is c.loop-screen.invariant.free in
-    record {
-      served = λ core first held b has.
-          let x = c.loop-screen.invariant.served core first held b has in
-          let r = next core c.args.code.now first c.loop-screen.command x.0 c.loop-screen.marks c.loop-screen.screen x.1.1 b has in
-          let so =
-          c.in_ok-go.ensures.rests x.0 r x.1.0
-          (rests core c.args.code.now first c.loop-screen.command x.0 c.loop-screen.marks c.loop-screen.screen x.1.1 b has) in (
-            r.scene.cells,
-            (
-              c.in_ok-answer-in-Asks.ensures.kept r.scene.cells so.0,
-              served_on core c.args.code.now first c.loop-screen.command x.0 c.loop-screen.marks c.loop-screen.screen x.1.1 b has (g.M.Memory.holds c.go.new.m)
-                  c.in_ok-go.field-0 c.go.new.self c.go.new.marks so c.in-Asks.request c.show.new.self c.answer.new.self c.in-Asks.is
-                  c.in_ok-show-in-Asks.ensures waits
+                  c.in_ok-go.field-0 c.go.new.self c.go.new.marks so c.in-Asks.request c.show-shown.new.self c.answer.new.self c.in-Asks.is
+                  c.in_ok-shown-in-Asks.ensures waits
                   answer less,
             ),
           );
@@ -162,8 +106,8 @@ returns-in_err-go-clause-cause g c =
     fault_handed_on (faults c.args.memory.now) (faults c.loop-screen.memory) (faults c.go.new.m) c.in_err-go.field-0.0 c.from_residual.result
     c.loop-screen.invariant.later c.in_err-go.ensures.cause c.from_residual.ensures
 
-pub returns-in_err-show-in-Asks-clause-cause : goal.returns-in_err-show-in-Asks-clause-cause
-returns-in_err-show-in-Asks-clause-cause g c =
+pub returns-in_err-shown-in-Asks-clause-cause : goal.returns-in_err-shown-in-Asks-clause-cause
+returns-in_err-shown-in-Asks-clause-cause g c =
     record { later = omega (arith, c.loop-screen.invariant.later, c.go.ensures.cause.later); failed = search rules }
 
 pub returns-in_err-answer-in-Asks-clause-cause : goal.returns-in_err-answer-in-Asks-clause-cause

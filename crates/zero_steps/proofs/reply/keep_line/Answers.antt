@@ -1,11 +1,15 @@
-use Rattle.std.proofs.Common.{◌+◌, drop, sym, ap, ◌∙◌, subst}
+use Rattle.std.proofs.Common.{◌+◌, drop, Some, sym, ap, ◌∙◌, subst}
 use Rattle.eu_base.specs.Requests.{read_as}
+use Rattle.code_form.specs.declared.halt.Halt.TheVariants.{Stopped}
+use Rattle.zero_ops.specs.declared.error.Fault.{Fault}
+use Rattle.zero_ops.specs.declared.error.OpError.{OpError}
+use Rattle.zero_ops.specs.Given.{stop_of, HasCause}
 use Rattle.code_form.specs.Machine.{free}
 use Rattle.zero_state.specs.Stacked.{Stacked}
 use Rattle.zero_state.specs.declared.next.Next.TheVariants.{On, TextRoom}
 use Rattle.zero_state.specs.Stepping.{position_of}
 use Rattle.zero_steps.specs.Replying.{IsAt, Replies}
-use Rattle.zero_steps.proofs.Replying.{behind_is, reply_done, reply_unkept}
+use Rattle.zero_steps.proofs.Replying.{behind_is, reply_stops, reply_done, reply_unkept}
 use Rattle.zero_steps.proofs.reply.keep_line.Goals as goal
 
 pub returns-in-Done-clause-goes : goal.returns-in-Done-clause-goes
@@ -18,7 +22,7 @@ returns-in-Done-clause-goes g c = λ r is.
     behind_is name now.ops c.top.result.now c.operand_kinds.result.now c.size-count.result c.top.ensures c.size-count.ensures c.operand_kinds.ensures in
     let left = c.drop_top.ensures ∙ ap (λ n. record c.args.s.now.stack { ops = drop n now.ops }) c.size-count.ensures in
     subst (λ (t : Stacked). Replies before after name r now (free (record now { pc = now.pc + 1; ops = t.ops; frames = t.frames })) On) (sym left)
-    (reply_done before after name r now c.requires.finds.taken c.requires.none c.in-Ok.value (ap (read_as name) (sym (c.text_of.ensures r is)) ∙ c.in-Ok.ensures)
+    (reply_done before after name r now c.requires.finds.taken c.requires.none c.in-Ok.value (c.in-Ok.ensures r is)
     c.variable-at.result c.in_ok-keep.field-0 (subst (λ os. IsAt os c.variable-at.result) (sym behind) c.variable-at.ensures) c.in-Done.is
     c.in_ok-keep.ensures.puts)
 
@@ -31,6 +35,16 @@ returns-clause-goes g c = λ r is.
     let behind =
     behind_is name now.ops c.top.result.now c.operand_kinds.result.now c.size-count.result c.top.ensures c.size-count.ensures c.operand_kinds.ensures in
     subst (λ w. Replies before after name r now (record { position = now; waits = w }) TextRoom) (sym is)
-    (reply_unkept before after name r now c.requires.finds.taken c.requires.none c.in-Ok.value (ap (read_as name) (sym (c.text_of.ensures r is)) ∙ c.in-Ok.ensures)
+    (reply_unkept before after name r now c.requires.finds.taken c.requires.none c.in-Ok.value (c.in-Ok.ensures r is)
     c.variable-at.result c.in_ok-keep.field-0 (subst (λ os. IsAt os c.variable-at.result) (sym behind) c.variable-at.ensures) c.in-HeapFull.is
     c.in_ok-keep.ensures.puts)
+
+pub returns-in-Err-Stop-clause-goes : goal.returns-in-Err-Stop-clause-goes
+returns-in-Err-Stop-clause-goes g c = λ r is.
+    let before = g.M.Memory.holds c.args.m.now in
+    let now = position_of c.args.s.now in
+    let name = c.args.name in
+    subst (λ w. Replies before before name r now (record { position = now; waits = w }) c.stopped.result) (sym is)
+    (reply_stops before before name r now c.requires.finds.taken c.requires.none (λ cells h. h) (stop_of c.in-Err-Stop.fault) c.stopped.result
+    (subst (λ (e : OpError). HasCause e (read_as name r)) c.in-Err-Stop.field-0-is (c.in-Err-Stop.ensures r is))
+    (c.stopped.ensures ∙ ap (λ (f : Fault). Some (Stopped (stop_of f))) c.in-Err-Stop.fault-is))

@@ -1,0 +1,4 @@
+pub mod Lines
+mod Answering
+mod Buffer
+pub mod Sessions
