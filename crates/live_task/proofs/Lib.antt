@@ -6,3 +6,5 @@ pub mod Keeping
 pub mod Standing
 pub mod Tasking
 pub mod Framed
+pub mod Carried
+pub mod Installing

@@ -1,14 +1,20 @@
 -- A task that stands for one of the source machine.
-use Rattle.std.proofs.Common.{◌≡◌, ℕ, List, [], length, Option, Some, None, refl, sym, ap, ◌∙◌, subst}
+use Rattle.std.proofs.Common.{◌≡◌, ℕ, List, [], length, Option, Some, None, Bor, Bool, true, false, refl, sym, ap, ◌∙◌, subst}
+use Rattle.std.specs.Prelude.{Result, Ok, Err, OnOk, IsSome, is_some, not, option_copied}
 use Rattle.eu_base.specs.declared.value.Kind.{Kind}
 use Rattle.eu_base.specs.declared.stop.Stop.{Stop}
 use Rattle.eu_base.specs.declared.stop.Stop.TheVariants.{Halted}
 use Rattle.eu_base.specs.declared.request.Request.{Request}
 use Rattle.eu_base.specs.declared.request.Reply.{Reply}
 use Rattle.page_pool.specs.Pool.{Pages}
-use Rattle.eu_base.specs.declared.address.Area.TheVariants.{Packets}
+use Rattle.cell_kinds.specs.Kinds.{packet_kinds}
+use Rattle.eu_base.specs.declared.address.Area.TheVariants.{Run, Packets}
 use Rattle.eu_base.specs.Cells.{Free}
-use Rattle.space_memory.specs.Memories.{MemoryData, HoldsAll, new_memory}
+use Rattle.page_table.specs.Frames.{content_at}
+use Rattle.text_heap.specs.Held.{HoldsCells}
+use Rattle.live_spaces.specs.Kept.{KeepsBytes}
+use Rattle.live_spaces.specs.Live.{no_space}
+use Rattle.space_memory.specs.Memories.{MemoryData, HoldsAll, roots, new_memory}
 use Rattle.code_form.specs.declared.halt.Halt.{Halt}
 use Rattle.code_form.specs.declared.halt.Halt.TheVariants as halts
 use Rattle.code_form.specs.Runs.{asked}
@@ -17,16 +23,33 @@ use Rattle.elan_types.specs.Command.{Ending, Ended, Stopped, OutOfMarks, Asks}
 use Rattle.source_machine.specs.Stores.{Store, new_store}
 use Rattle.source_machine.specs.Tasks.{Command, Doing, Idle, Entering, Running, Own, ending, world_of, store_in, own_variables, request_of, with_reply, with_reply_to, replied, with_doing}
 use Rattle.live_task.specs.Stands.{HoldSpaces, none, Keeps, Left, Leaves, RunsFor, RestsFor, DoesAs, StandsFor, StandsOver, IsOver, EndsAs, WentAs, WentOn, HaltedAs}
+use Rattle.live_task.specs.Stands.{IsSoundJob, IsSoundDoing, IsSound, IsWhole}
 use Rattle.live_task.specs.declared.job.Job.{Job}
 use Rattle.live_task.specs.declared.task.Task.{Task}
+use Rattle.live_task.specs.declared.task.Doing.{Doing as Does}
 use Rattle.live_task.specs.declared.task.Doing.TheVariants as does
 use Rattle.live_task.specs.declared.task.Went.{Went}
 use Rattle.live_task.specs.declared.task.Went.TheVariants as went
 use Rattle.live_task.proofs.Beginning.{no_variables}
+use Rattle.live_task.proofs.Keeping.{cleared}
 use Rattle.live_task.proofs.Standing.{many_own, asks_now, left_now}
 
 same_job : (a b : Job) → does.Running a ≡ does.Running b → a ≡ b
 same_job a b e = cc
+
+-- what is lent of what may be missing
+pub copied_none : {A : Type 0} (r : Option (Bor A)) (b : Bool) → is_some r ≡ not b → b ≡ true → option_copied r ≡ None
+copied_none None b e is = refl
+copied_none (Some x) b e is = absurd (cc (e, is))
+
+pub copied_some : {A : Type 0} (r : Option (Bor A)) (b : Bool) → is_some r ≡ not b → b ≡ false → (o : Option A) → option_copied r ≡ o → IsSome o
+copied_some None b e is o same = absurd (cc (e, is))
+copied_some (Some x) b e is o same = subst (λ p. IsSome p) same refl
+
+-- what follows of a call that may want memory
+pub if_replied : {A E : Type 0} (result : Result A E) (P Q : Type 0) → (P → Q) → OnOk result P → OnOk result Q
+if_replied (Ok x) P Q f p = f p
+if_replied (Err e) P Q f p = tt
 
 -- a task with another memory, that runs this
 abbrev pub running : Task → MemoryData → Job → Task
@@ -80,7 +103,7 @@ module _ (kinds : List Kind) (pages : Pages) (task : Task) (own : Own) (h : Stan
 
 -- a command is over
 module _ (kinds : List Kind) (middle new : Pages) (was now : Task) (own : Own) (c : Command) (w : World) (stop : Option Stop) (how : Went) (job : Job)
-    (unit : job.unit ≡ c.unit) (packets : was.packets ≡ own.packets) (many : own_variables c ≡ length kinds)
+    (unit : job.unit ≡ c.unit) (packets : was.packets ≡ own.packets) (many : own_variables c ≡ length kinds) (are : packet_kinds c.unit.core.packets ≡ kinds)
     (ends : (how ≡ went.Over job.unit job.code stop) × (now ≡ record was { memory = now.memory; doing = does.Idle })
     × ((kinds inserted : List Kind) (store : Store) → Left kinds inserted middle was.memory store → Leaves kinds inserted new now.memory store))
     (left : Left kinds c.unit.core.inserted middle was.memory (store_in c w)) where
@@ -92,6 +115,7 @@ module _ (kinds : List Kind) (middle new : Pages) (was now : Task) (own : Own) (
     packets = ap (λ (t : Task). t.packets) ends.1 ∙ packets;
     idle = ap (λ (t : Task). t.doing) ends.1;
     own_are = many;
+    kinds_are = are;
     leaves = ends.2 kinds c.unit.core.inserted (store_in c w) left;
   }
 
@@ -137,8 +161,8 @@ module _ (kinds : List Kind) (old middle : Pages) (task : Task) (memory : Memory
             → WentAs kinds new now left left' how own c e
         by c r (Ended w) s =
             let u : job'.unit ≡ c.unit = unit ∙ r.reaches.unit in (
-              over_is kinds middle new (running task memory job') now own c w None how job' u h.packets (many_own kinds old task.memory job c r) ends s.1,
-              stands_over kinds middle new (running task memory job') now own c w None how job' u h.packets (many_own kinds old task.memory job c r) ends s.1,
+              over_is kinds middle new (running task memory job') now own c w None how job' u h.packets (many_own kinds old task.memory job c r) r.reaches.kinds_are ends s.1,
+              stands_over kinds middle new (running task memory job') now own c w None how job' u h.packets (many_own kinds old task.memory job c r) r.reaches.kinds_are ends s.1,
             )
         by c r (Stopped stop w) s = absurd (cc (s.0, ended))
         by c r (OutOfMarks w) s = absurd (cc (s.0, ended))
@@ -154,9 +178,9 @@ module _ (kinds : List Kind) (old middle : Pages) (task : Task) (memory : Memory
         by c r (Stopped stop' w) s =
             let u : job'.unit ≡ c.unit = unit ∙ r.reaches.unit in
             let same : stop ≡ stop' = cc (s.0, stopped) in
-            let so = (over_is kinds middle new (running task memory job') now own c w (Some stop) how job' u h.packets (many_own kinds old task.memory job c r) ends s.1) in (
+            let so = (over_is kinds middle new (running task memory job') now own c w (Some stop) how job' u h.packets (many_own kinds old task.memory job c r) r.reaches.kinds_are ends s.1) in (
               subst (λ (x : Stop). IsOver how c (Some x)) same so,
-              stands_over kinds middle new (running task memory job') now own c w (Some stop) how job' u h.packets (many_own kinds old task.memory job c r) ends s.1,
+              stands_over kinds middle new (running task memory job') now own c w (Some stop) how job' u h.packets (many_own kinds old task.memory job c r) r.reaches.kinds_are ends s.1,
             )
         by c r (OutOfMarks w) s = absurd (cc (s.0, stopped))
         by c r (Asks q w) s = absurd (cc (s.0, stopped))
@@ -168,8 +192,8 @@ halted kinds old new task now own how job h is ends =
     let r = runs_for kinds old task own h job is in
     let left = left_now kinds old task.memory job r.0 r.2 in
     subst (λ d. HaltedAs kinds new now how own d) (sym r.1) (
-      over_is kinds old new task now own r.0 (world_of (ending r.0 0)) (Some Halted) how job r.2.reaches.unit h.packets (many_own kinds old task.memory job r.0 r.2) ends left,
-      stands_over kinds old new task now own r.0 (world_of (ending r.0 0)) (Some Halted) how job r.2.reaches.unit h.packets (many_own kinds old task.memory job r.0 r.2) ends left,
+      over_is kinds old new task now own r.0 (world_of (ending r.0 0)) (Some Halted) how job r.2.reaches.unit h.packets (many_own kinds old task.memory job r.0 r.2) r.2.reaches.kinds_are ends left,
+      stands_over kinds old new task now own r.0 (world_of (ending r.0 0)) (Some Halted) how job r.2.reaches.unit h.packets (many_own kinds old task.memory job r.0 r.2) r.2.reaches.kinds_are ends left,
     )
 
 -- a task that gets a reply
@@ -217,3 +241,57 @@ new_stands pages task packets memory idle holds = record {
     },
   );
 }
+
+-- ---- the end of what a task runs
+
+pub ended : (old new : Pages) (was : Task) (memory : MemoryData) (d : Does) (stop : Option Stop) (job : Job) → was.doing ≡ does.Running job → d ≡ does.Idle
+    → memory ≡ record was.memory { run = no_space } → HoldsCells Run (content_at new memory.run.root) (λ _. Free) → KeepsBytes old new (roots memory)
+    → EndsAs old new was (record was { memory = memory; doing = d }) stop (went.Over job.unit job.code stop) was.doing
+ended old new was memory d stop job is idle same nothing k =
+    subst (λ (e : Does). EndsAs old new was (record was { memory = memory; doing = d }) stop (went.Over job.unit job.code stop) e) (sym is) (
+      refl,
+      ap (λ (e : Does). record was { memory = memory; doing = e }) idle,
+      λ kinds inserted store left. cleared old new was.memory memory same nothing k kinds inserted store left,
+    )
+
+pub not_ended : (pages : Pages) (was : Task) (d : Does) (stop : Option Stop) → d ≡ was.doing → ((job : Job) → d ≡ does.Running job → ⊥)
+    → EndsAs pages pages was (record was { doing = d }) stop went.NotRunning was.doing
+not_ended pages was d stop same not = by was.doing same
+  where
+    now_is : record was { doing = d } ≡ was
+    now_is = ap (λ (e : Does). record was { doing = e }) same
+
+    by : (e : Does) → d ≡ e → EndsAs pages pages was (record was { doing = d }) stop went.NotRunning e
+    by does.Idle is = (refl, refl, now_is)
+    by (does.Entering name lines) is = (refl, refl, now_is)
+    by (does.Running job) is = absurd (not job is)
+
+-- what is given back of a command that is over
+pub whole_job : (old new : Pages) (was now : Task) (stop : Option Stop) (how : Went) (job : Job) → IsSoundJob job
+    → EndsAs old new was now stop how (does.Running job) → IsWhole how
+whole_job old new was now stop how job s ends = subst IsWhole (sym ends.0) (s.unit, s.behaves)
+
+pub whole : (old new : Pages) (was now : Task) (stop : Option Stop) (how : Went) → IsSound was → EndsAs old new was now stop how was.doing → IsWhole how
+whole old new was now stop how sound ends = by was.doing sound ends
+  where
+    by : (d : Does) → IsSoundDoing d → EndsAs old new was now stop how d → IsWhole how
+    by does.Idle s ends = subst IsWhole (sym ends.0) tt
+    by (does.Entering name lines) s ends = subst IsWhole (sym ends.0) tt
+    by (does.Running job) s ends = whole_job old new was now stop how job s ends
+
+-- a task that is halted, whatever it does
+pub halts_so : (kinds : List Kind) (old new : Pages) (task now : Task) (own : Own) (how : Went) → StandsFor kinds old task own
+    → EndsAs old new task now (Some Halted) how task.doing → HaltedAs kinds new now how own own.doing
+halts_so kinds old new task now own how h ends = by task.doing refl ends
+  where
+    unchanged : ((job : Job) → task.doing ≡ does.Running job → ⊥) → (how ≡ went.NotRunning) × (new ≡ old) × (now ≡ task)
+        → HaltedAs kinds new now how own own.doing
+    unchanged not e =
+        subst (λ (w : Went). HaltedAs kinds new now w own own.doing) (sym e.0)
+        (subst (λ (p : Pages). HaltedAs kinds p now went.NotRunning own own.doing) (sym e.1)
+        (subst (λ (t : Task). HaltedAs kinds old t went.NotRunning own own.doing) (sym e.2) (halted_not kinds old task own h not)))
+
+    by : (d : Does) → task.doing ≡ d → EndsAs old new task now (Some Halted) how d → HaltedAs kinds new now how own own.doing
+    by does.Idle is e = unchanged (λ job r. absurd (cc (is, r))) e
+    by (does.Entering name lines) is e = unchanged (λ job r. absurd (cc (is, r))) e
+    by (does.Running job) is e = halted kinds old new task now own how job h is e

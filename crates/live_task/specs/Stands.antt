@@ -102,6 +102,7 @@ pub record StandsOver (kinds : List Kind) (pages : Pages) (task : Task) (own : O
   pub packets : task.packets ≡ own.packets
   pub idle : task.doing ≡ does.Idle
   pub own_are : own_variables c ≡ length kinds
+  pub kinds_are : packet_kinds c.unit.core.packets ≡ kinds
   pub leaves : Leaves kinds c.unit.core.inserted pages task.memory (store_in c w)
 
 -- ---- a command that runs fits its code

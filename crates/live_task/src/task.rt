@@ -1,9 +1,29 @@
 //! A task.
+ghost use Rattle.std.specs.Prelude.{◌≡◌, ◌≤◌, [], ◌∷◌, ◌++◌, List, IfOk, OnOk, OnErr, option_copied};
+ghost use Rattle.eu_base.specs.declared.value.Kind.{Kind};
+ghost use Rattle.cell_kinds.specs.Kinds.{packet_kinds};
+ghost use Rattle.page_pool.specs.Pool.{Pages};
+ghost use Rattle.page_table.specs.Frames.{Frames, Stands};
+ghost use Rattle.code_form.specs.Runs.{asked};
+ghost use Rattle.code_gen.specs.Correct.{Behaves};
+ghost use Rattle.packet_store.specs.Units.{IsUnit};
+ghost use Rattle.space_memory.specs.Memories.{roots};
+ghost use Rattle.source_machine.specs.Stores.{Store, new_store};
+ghost use Rattle.source_machine.specs.Tasks.{Command, Own, Idle as Idles, Running as Runs, starting, request_of, replied, store_in, with_doing};
+ghost use Rattle.source_machine.specs.Monitor.{with_packet};
+ghost use Rattle.elan_types.specs.Eval.{World};
+ghost use Rattle.live_task.specs.declared.task.Doing.TheVariants.{Running};
+ghost use Rattle.live_task.specs.declared.job.Job.{Job};
+ghost use Rattle.live_task.specs.Stands.{StandsFor, StandsOver, IsSound, IsWhole, EndsAs, WentOn, HaltedAs};
+
 use crate::job::Job;
-use code_form::Code;
-use eu_base::{Bytes, List, Request, Stop};
+use code_form::{Code, Halt};
+use eu_base::{Bytes, List, NoMemory, Reply, Request, Stop};
 use packet_store::Compiled;
+use page_pool::Pool;
 use space_memory::SpaceMemory;
+use std::alloc::Global;
+use std::mem;
 
 /// What a task does.
 #[derive(Drop)]
@@ -39,4 +59,147 @@ pub struct Task {
     pub packets: List<u32>,
     pub memory: SpaceMemory,
     pub doing: Doing,
+}
+
+impl Task {
+    /// A task that is idle and has nothing.
+    pub fn new(alloc: Global) -> Task
+        ensures new { (pages : Pages) → StandsFor [] pages result (record { packets = []; doing = Idles new_store }) }
+        ensures sound { IsSound result }
+        ensures frames { (pages : Pages) → Frames pages pages [] (roots result.memory) }
+    {
+        Task {
+            packets: List::new(alloc),
+            memory: SpaceMemory::new(alloc),
+            doing: Doing::Idle,
+        }
+    }
+
+    /// Lets all go that it has.
+    pub fn end(self, pool: &mut Pool)
+        requires agree { Stands pool.old (roots self.memory) 0 }
+        ensures frames { Frames pool.old pool.new (roots self.memory) [] }
+    {
+        let Task { memory, .. } = self;
+        memory.end(pool);
+    }
+
+    /// What it asks and waits for.
+    pub fn asked(&self) -> Option<&Request>
+        ensures request { (kinds : List Kind) (pages : Pages) (own : Own) → StandsFor kinds pages self.now own →
+            option_copied result ≡ request_of own.doing }
+        ensures waits { (job : Job) → self.now.doing ≡ Running job → option_copied result ≡ asked job.run.waits }
+    {
+        match &self.doing {
+            Doing::Running(job) => job.run.asked(),
+            Doing::Idle | Doing::Entering { .. } => None,
+        }
+    }
+
+    /// An idle task starts a command, which then stands right before its first mark.
+    pub fn start(
+        &mut self,
+        alloc: Global,
+        pool: &mut Pool,
+        unit: Compiled,
+        code: Code,
+    ) -> Result<(), NoMemory>
+        requires unit { IsUnit unit }
+        requires behaves { Behaves unit.core code }
+        requires agree { Stands pool.old (roots self.old.memory) 0 }
+        ensures starts { OnOk result ((own : Own) (store : Store) → own.doing ≡ Idles store →
+            StandsFor (packet_kinds unit.core.packets) pool.old self.old own →
+            StandsFor (packet_kinds unit.core.packets) pool.new self.new (with_doing (Runs (starting unit store)) own)) }
+        ensures sound { OnOk result (IsSound self.new) }
+        ensures frames { Frames pool.old pool.new (roots self.old.memory) (roots self.new.memory) }
+    {
+        let job = Job::of(alloc, unit, code, &mut self.memory, pool)?;
+        self.doing = Doing::Running(job);
+        Ok(())
+    }
+
+    /// Goes on with so many marks, where it runs a command: until a mark is due and none is left, it asks something, or its command is over.
+    pub fn go_on(&mut self, pool: &mut Pool, marks: &mut u32) -> Result<Went, NoMemory>
+        requires sound { IsSound self.old }
+        requires agree { Stands pool.old (roots self.old.memory) 0 }
+        ensures went { IfOk result (λ went. (kinds : List Kind) (own : Own) → StandsFor kinds pool.old self.old own →
+            WentOn kinds pool.new self.new marks.old marks.new went own own.doing) }
+        ensures marks { OnOk result (marks.new ≤ marks.old) }
+        ensures whole { IfOk result IsWhole }
+        ensures sound { OnOk result (IsSound self.new) }
+        ensures frames { Frames pool.old pool.new (roots self.old.memory) (roots self.new.memory) }
+    {
+        let Doing::Running(job) = &mut self.doing else {
+            return Ok(Went::NotRunning);
+        };
+        match job.go_on(&mut self.memory, pool, marks)? {
+            Halt::Marked => Ok(Went::Marked),
+            Halt::Asks(request) => Ok(Went::Asks(request)),
+            Halt::Ended => Ok(self.over(pool, None)),
+            Halt::Stopped(stop) => Ok(self.over(pool, Some(stop))),
+        }
+    }
+
+    /// Gets a reply, where it asks something, and goes on to right before its next mark. Where it asks nothing, nothing changes.
+    pub fn answer(&mut self, pool: &mut Pool, reply: Reply) -> Result<(), NoMemory>
+        requires sound { IsSound self.old }
+        requires agree { Stands pool.old (roots self.old.memory) 0 }
+        ensures answered { OnOk result ((kinds : List Kind) (own : Own) → StandsFor kinds pool.old self.old own →
+            StandsFor kinds pool.new self.new (with_doing (replied reply own.doing) own)) }
+        ensures sound { OnOk result (IsSound self.new) }
+        ensures frames { Frames pool.old pool.new (roots self.old.memory) (roots self.new.memory) }
+    {
+        if self.asked().is_none() {
+            return Ok(());
+        }
+        let Doing::Running(job) = &mut self.doing else {
+            return Ok(());
+        };
+        job.answer(&mut self.memory, pool, reply)
+    }
+
+    /// The command that it runs is over where it stands.
+    pub fn halt(&mut self, pool: &mut Pool) -> Went
+        requires sound { IsSound self.old }
+        requires agree { Stands pool.old (roots self.old.memory) 0 }
+        ensures halted { (kinds : List Kind) (own : Own) → StandsFor kinds pool.old self.old own → HaltedAs kinds pool.new self.new result own own.doing }
+        ensures whole { IsWhole result }
+        ensures sound { IsSound self.new }
+        ensures frames { Frames pool.old pool.new (roots self.old.memory) (roots self.new.memory) }
+    {
+        self.over(pool, Some(Stop::Halted))
+    }
+
+    /// The packet that its command inserted becomes one of its packets, under a number. A refusal changes nothing.
+    pub fn install(&mut self, number: u32) -> Result<(), NoMemory>
+        ensures installed { OnOk result ((kinds : List Kind) (pages : Pages) (own : Own) (c : Command) (w : World) →
+            StandsOver kinds pages self.old own c w →
+            StandsFor (kinds ++ c.unit.core.inserted) pages self.new (with_packet number (with_doing (Idles (store_in c w)) own))) }
+        ensures ok { OnOk result (self.new ≡ record self.old { packets = self.old.packets ++ number ∷ [] }) }
+        ensures err { OnErr result (self.new ≡ self.old) }
+    {
+        self.packets.push(number)
+    }
+
+    // The command that it runs is over: the task is idle, and the cells of the command are cleared.
+    fn over(&mut self, pool: &mut Pool, stop: Option<Stop>) -> Went
+        requires agree { Stands pool.old (roots self.old.memory) 0 }
+        ensures ends { EndsAs pool.old pool.new self.old self.new stop result self.old.doing }
+        ensures frames { Frames pool.old pool.new (roots self.old.memory) (roots self.new.memory) }
+    {
+        match mem::replace(&mut self.doing, Doing::Idle) {
+            Doing::Running(job) => {
+                self.memory.clear_run(pool);
+                Went::Over {
+                    unit: job.unit,
+                    code: job.code,
+                    stop,
+                }
+            }
+            doing => {
+                self.doing = doing;
+                Went::NotRunning
+            }
+        }
+    }
 }

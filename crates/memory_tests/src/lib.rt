@@ -12,6 +12,8 @@ mod numbers;
 #[cfg(test)]
 mod out;
 #[cfg(test)]
+mod sources;
+#[cfg(test)]
 mod task;
 #[cfg(test)]
 mod tests;

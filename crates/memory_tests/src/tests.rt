@@ -1,7 +1,7 @@
 //! Scenes over real pages.
 
 use crate::texts::{Scene, is_right};
-use crate::{data_spaces, memories};
+use crate::{data_spaces, memories, sources};
 use data_space::DataSpace;
 use page_pool::Pool;
 use std::alloc::Global;
@@ -27,6 +27,8 @@ fn wrong_scene(alloc: Global) -> &'static str {
         "pages are shared"
     } else if !memories::steps_are_right(alloc) {
         "steps over a memory"
+    } else if !sources::lines_come_back(alloc) {
+        "lines come back from a source text"
     } else {
         ""
     }

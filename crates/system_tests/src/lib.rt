@@ -9,6 +9,8 @@ mod commands;
 #[cfg(test)]
 mod directory;
 #[cfg(test)]
+mod display;
+#[cfg(test)]
 mod lines;
 #[cfg(test)]
 mod messages;
@@ -16,6 +18,8 @@ mod messages;
 mod notes;
 #[cfg(test)]
 mod rotation;
+#[cfg(test)]
+mod sessions;
 #[cfg(test)]
 mod tables;
 #[cfg(test)]

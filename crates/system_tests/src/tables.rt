@@ -1,4 +1,4 @@
-//! Lines, and what they are.
+//! Lines, and what they are. In each table `|` stands for a line end, and `~` for fifty letters.
 
 /// Lines in the form with channels, and behind the arrow their events: a letter, two bytes of a number and a text, one after
 /// the other; `bad` for a line of no form.
@@ -9,6 +9,8 @@ pub const TAGGED: &str = "\
 2^ => S\u{0}\u{2}
 *1 => T\u{0}\u{1}
 *10000 => T\u{27}\u{10}
+3>~~~~~ => L\u{0}\u{3}~~~~~
+3>~~~~~x => bad
 ! => F\u{0}\u{0}
 . => E\u{0}\u{0}
 *10001 => bad
@@ -37,7 +39,8 @@ put (1) => L\u{0}\u{1}put (1)T\u{0}\u{14}
 !x => bad
 !!! => bad";
 
-/// Lines with what they are at a task: a letter, and the name between brackets; `?` for a line without tokens.
+/// Lines with what they are at a task: a letter, and the name between brackets; `?` for a line without tokens. A name that is entered
+/// may be too long.
 pub const FORMS: &str = "\
 (* x *) => B
  => B
@@ -47,6 +50,8 @@ enter(\"x\") => Ex
 \tenter\r( \"x\" )  => Ex
 e n ter (\"x\") => Ex
 enter (* ( *) (\"x\") {} => Ex
+enter (\"~xxxxxxxxxx\") => E~xxxxxxxxxx
+enter (\"~xxxxxxxxxxx\") => E~xxxxxxxxxxx
 run (\"x\") => Rx
 insert (\"x\") => Ix
 insert(\"x\") => Ix
@@ -90,6 +95,7 @@ put (1) => P
 begin (\"x\") => P
 halt => P
 insert (\"x => ?
+insert (\"x|\") => ?
 ! => ?";
 
 /// Lines with what they are at the supervisor: a letter, and the names between brackets.
@@ -147,3 +153,33 @@ end => U
 \"x\" => U
 $ => ?
 begin (\"x => ?";
+
+/// Steps at the channels, and behind the arrow what they show, in the form with channels and then in the plain one: lines that a line
+/// end closes; an open piece before a message, and one that a message at another channel leaves open; open pieces of all channels;
+/// control bytes; and what is not closed.
+pub const SHOWN: &str = "\
+1-a 2-b 1-c 1+d 2+e => 1:acd|2:be|acd|2:be|
+1-a 1!b 1!c => 1,a|1:b|1:c|a|b|c|
+1-a 2!b 1+c => 2:b|1:ac|2:b|ac|
+4-a 2-b 1-c 2-d all 2+e => 1,c|2,bd|4,a|2:e|c|2,bd|4,a|2:e|
+3-\t 3+\u{7f} 1!\r => 3:\"9\"\"127\"|1:\"13\"|3:\"9\"\"127\"|\"13\"|
+1-a => ";
+
+/// How many bytes a source gives in one call, and which call fails, 0 for none; what the source has; and behind the arrow six answers
+/// of a reader: lines, each with its end; `.` where there is none, `>` for one that is too long, and `!` where the source failed. In
+/// turn: lines with an end and without; lines of 252 bytes and of 253; and a source that fails before a line, in it, behind it and
+/// in a long one, and one that is not asked again where it had no more.
+pub const SESSIONS: &str = "\
+90  => ......
+90 | => |.....
+30 a||bc => a||bc|...
+30 a||bc| => a||bc|...
+90 ~~~~~xx|b => ~~~~~xx|b|....
+90 ~~~~~xx => ~~~~~xx|.....
+90 a|~~~~~xxx|b => a|>>>>>
+90 ~~~~~xxx => >>>>>>
+21 ab|c => !ab|c|...
+22 ab|c => !ab|c|...
+23 ab|c => ab|!c|...
+24 ab|c => ab|c|....
+95 ~~~~~xx|b => !~~~~~xx|b|...";

@@ -1,6 +1,8 @@
 //! Lines and scenes, each with the text that is noted of it.
 use crate::notes::put;
-use crate::{channels, commands, directory, lines, messages, rotation, tables, tree};
+use crate::{
+    channels, commands, directory, display, lines, messages, rotation, sessions, tables, tree,
+};
 use containers::Bytes;
 use std::alloc::Global;
 use task_numbers::TASKS;
@@ -15,6 +17,10 @@ enum Place {
     Plain,
     Task,
     Supervisor,
+    /// As steps at the channels.
+    Display,
+    /// As a source.
+    Session,
 }
 
 fn read(alloc: Global, out: &mut Bytes, line: &[u8], place: Place) {
@@ -23,19 +29,30 @@ fn read(alloc: Global, out: &mut Bytes, line: &[u8], place: Place) {
         Place::Plain => lines::events(alloc, out, line, true),
         Place::Task => commands::described(alloc, out, line, false),
         Place::Supervisor => commands::described(alloc, out, line, true),
+        Place::Display => display::lines(alloc, out, line),
+        Place::Session => sessions::answers(alloc, out, line),
     }
 }
 
-fn is_told(alloc: Global, line: &[u8], place: Place, told: &[u8]) -> bool {
-    let mut out = Bytes::new(alloc);
-    read(alloc, &mut out, line, place);
-    out.as_slice() == told
+// Bytes, as a row spells them.
+fn spelled(alloc: Global, text: &str) -> Bytes {
+    let mut bytes = Bytes::new(alloc);
+    for byte in text.as_bytes() {
+        match *byte {
+            b'|' => put(&mut bytes, b"\n"),
+            b'~' => put(&mut bytes, &[b'x'; 50]),
+            byte => put(&mut bytes, &[byte]),
+        }
+    }
+    bytes
 }
 
 // Whether a line, before the arrow, is what stands behind it.
 fn is_right(alloc: Global, row: &str, place: Place) -> bool {
     let (line, told) = row.split_once(" => ").unwrap_or((row, ""));
-    is_told(alloc, line.as_bytes(), place, told.as_bytes())
+    let mut out = Bytes::new(alloc);
+    read(alloc, &mut out, spelled(alloc, line).as_slice(), place);
+    out.as_slice() == spelled(alloc, told).as_slice()
 }
 
 // How many rows are right, before the first that is not.
@@ -50,55 +67,20 @@ fn right_rows(alloc: Global, table: &str, place: Place) -> usize {
     rows
 }
 
-fn long(alloc: Global, front: &[u8], letters: u8, back: &[u8]) -> Bytes {
-    let mut text = Bytes::new(alloc);
-    put(&mut text, front);
-    for _ in 0..letters {
-        put(&mut text, b"x");
-    }
-    put(&mut text, back);
-    text
-}
-
-fn is_event(alloc: Global, letters: u8, told: &[u8]) -> bool {
-    is_told(
-        alloc,
-        long(alloc, b"3>", letters, b"").as_slice(),
-        Place::Tagged,
-        told,
-    )
-}
-
-fn is_entered(alloc: Global, letters: u8) -> bool {
-    let line = long(alloc, b"enter (\"", letters, b"\")");
-    is_told(
-        alloc,
-        line.as_slice(),
-        Place::Task,
-        long(alloc, b"E", letters, b"").as_slice(),
-    )
-}
-
-// A line has 250 bytes at most, and a name that is entered may be too long.
-fn long_lines_are_right(alloc: Global) -> bool {
-    let longest = is_event(alloc, 250, long(alloc, b"L\x00\x03", 250, b"").as_slice());
-    longest && is_event(alloc, 251, b"bad") && is_entered(alloc, 60) && is_entered(alloc, 61)
-}
-
 // The first table of which not all rows are right.
 fn wrong_lines(alloc: Global) -> &'static str {
-    if right_rows(alloc, tables::TAGGED, Place::Tagged) != 22 {
+    if right_rows(alloc, tables::TAGGED, Place::Tagged) != 24 {
         "tagged"
     } else if right_rows(alloc, tables::PLAIN, Place::Plain) != 8 {
         "plain"
-    } else if right_rows(alloc, tables::FORMS, Place::Task) != 52 {
+    } else if right_rows(alloc, tables::FORMS, Place::Task) != 55 {
         "task"
     } else if right_rows(alloc, tables::COMMANDS, Place::Supervisor) != 53 {
         "supervisor"
-    } else if !is_told(alloc, b"insert (\"x\n\")", Place::Task, b"?") {
-        "line end"
-    } else if !long_lines_are_right(alloc) {
-        "long"
+    } else if right_rows(alloc, tables::SHOWN, Place::Display) != 6 {
+        "display"
+    } else if right_rows(alloc, tables::SESSIONS, Place::Session) != 13 {
+        "session"
     } else {
         ""
     }
@@ -120,6 +102,7 @@ enum Scene {
     Told,
     ByAge,
     Refused,
+    Walks,
     Pieces,
 }
 
@@ -134,6 +117,7 @@ fn play(alloc: Global, out: &mut Bytes, scene: Scene) {
         Scene::Told => messages::told(alloc, out),
         Scene::ByAge => tree::by_age(alloc, out),
         Scene::Refused => tree::refused(alloc, out),
+        Scene::Walks => tree::walks(alloc, out),
         Scene::Pieces => lines::pieces(alloc, out),
     }
 }
@@ -168,6 +152,12 @@ fn wrong_scene(alloc: Global) -> &'static str {
         "by age"
     } else if !goes(alloc, Scene::Refused, b"n3456789:;<=>?@fn") {
         "refused"
+    } else if !goes(
+        alloc,
+        Scene::Walks,
+        b"345678 74635281 1021324374635281 30417261",
+    ) {
+        "walks"
     } else if !goes(
         alloc,
         Scene::Pieces,

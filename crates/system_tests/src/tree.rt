@@ -4,6 +4,7 @@ use containers::Bytes;
 use std::alloc::Global;
 use task_numbers::TaskNo;
 use task_tree::{BeginError, TaskTree};
+use task_walks::{family, listed};
 
 const UR: TaskNo = TaskNo(1);
 
@@ -75,6 +76,40 @@ pub fn by_age(alloc: Global, out: &mut Bytes) {
         put_names(out, &tree);
         ends(out, &mut tree);
         begin(alloc, out, &mut tree, b"a", UR);
+    }
+}
+
+// A blank, and each task of a family.
+fn put_family_of(alloc: Global, out: &mut Bytes, tree: &TaskTree, task: TaskNo) {
+    put(out, b" ");
+    if let Ok(tasks) = family(alloc, tree, task) {
+        for task in &tasks {
+            put_task(out, *task);
+        }
+    }
+}
+
+// A blank, and each task with its level.
+fn put_listed(alloc: Global, out: &mut Bytes, tree: &TaskTree, task: TaskNo) {
+    put(out, b" ");
+    if let Ok(entries) = listed(alloc, tree, task) {
+        for entry in &entries {
+            put_task(out, entry.task);
+            put_task(out, TaskNo(entry.level));
+        }
+    }
+}
+
+/// The families of UR and of the first of six tasks: 3 and 5 begin below PUBLIC, 4 and 6 below 3, 7 below 4, and 8 below UR.
+pub fn walks(alloc: Global, out: &mut Bytes) {
+    if let Ok(mut tree) = TaskTree::opening(alloc) {
+        begins(alloc, out, &mut tree);
+        begin(alloc, out, &mut tree, b"d", TaskNo(3));
+        begin(alloc, out, &mut tree, b"e", TaskNo(4));
+        begin(alloc, out, &mut tree, b"f", UR);
+        put_family_of(alloc, out, &tree, UR);
+        put_listed(alloc, out, &tree, UR);
+        put_listed(alloc, out, &tree, TaskNo(3));
     }
 }
 

@@ -1,0 +1,101 @@
+-- A task stands for what it stood for where no byte of its spaces changed.
+use Rattle.std.proofs.Common.{◌≡◌, ℕ, ◌≤◌, List, [], ◌∷◌, Option, refl}
+use Rattle.std.specs.Option.{ForSome}
+use Rattle.std.specs.List.{AllByRecursion}
+use Rattle.eu_base.specs.declared.value.Kind.{Kind}
+use Rattle.eu_base.specs.declared.address.Area.TheVariants.{Run, Packets}
+use Rattle.eu_base.specs.Spaces.{IsKept}
+use Rattle.eu_base.specs.Cells.{Cells}
+use Rattle.page_pool.specs.Pool.{Pages}
+use Rattle.page_table.specs.Entries.{Names}
+use Rattle.page_table.specs.Frames.{content_at}
+use Rattle.page_table.specs.Sharing.{occ}
+use Rattle.page_table.proofs.Framing.{named_first, named_later}
+use Rattle.text_heap.proofs.Kept.{kept_held}
+use Rattle.live_spaces.specs.Kept.{KeepsBytes}
+use Rattle.live_spaces.specs.Live.{space_roots}
+use Rattle.space_memory.specs.Memories.{MemoryData, HoldsAll, roots}
+use Rattle.elan_types.specs.Eval.{Slot, World}
+use Rattle.source_machine.specs.Stores.{Store}
+use Rattle.source_machine.specs.Tasks.{Command, Doing, Idle, Entering, Running, Own, store_in}
+use Rattle.live_task.specs.Stands.{KeepsSpaces, KeepsVariables, Keeps, Leaves, RunsFor, DoesAs, StandsFor, StandsOver}
+use Rattle.live_task.specs.declared.job.Job.{Job}
+use Rattle.live_task.specs.declared.task.Task.{Task}
+use Rattle.live_task.proofs.Keeping.{keeps_spaces}
+
+each_kept : (old new : Pages) (names : Names)
+    → ((root : Option ℕ) → ForSome root (λ r. 1 ≤ occ r names) → IsKept (content_at old root) (content_at new root))
+    → AllByRecursion (λ root. IsKept (content_at old root) (content_at new root)) names
+each_kept old new [] kept = tt
+each_kept old new (o ∷ os) kept = (kept o (named_first o os), each_kept old new os (λ root among. kept root (named_later o root os among)))
+
+module _ (old new : Pages) (m : MemoryData)
+    (kept : (root : Option ℕ) → ForSome root (λ r. 1 ≤ occ r (roots m)) → (n : ℕ) → content_at new root n ≡ content_at old root n) where
+  bytes : KeepsBytes old new (roots m)
+  bytes = record { each = each_kept old new (roots m) kept }
+
+  cells_carried : (cells : Cells) → HoldsAll old m cells → HoldsAll new m cells
+  cells_carried cells h = record {
+    run = kept_held Run (content_at old m.run.root) (content_at new m.run.root) cells bytes.each.0 h.run;
+    packets = kept_held Packets (content_at old m.packets.root) (content_at new m.packets.root) cells bytes.each.1.0 h.packets;
+  }
+
+  spaces_carried : (store : Store) → KeepsSpaces old m store → KeepsSpaces new m store
+  spaces_carried store h = keeps_spaces old new m m store refl refl refl (record { each = bytes.each.1.1 }) h
+
+  pub keeps_carried : (kinds : List Kind) (store : Store) → Keeps kinds old m store → Keeps kinds new m store
+  keeps_carried kinds store h = record {
+    variables =
+        record {
+          cells = h.variables.cells;
+          holds = cells_carried h.variables.cells h.variables.holds;
+          packets = h.variables.packets;
+          command = h.variables.command;
+        };
+    spaces = spaces_carried store h.spaces;
+  }
+
+  pub leaves_carried : (kinds inserted : List Kind) (store : Store) → Leaves kinds inserted old m store → Leaves kinds inserted new m store
+  leaves_carried kinds inserted store h = record {
+    left =
+        record {
+          cells = h.left.cells;
+          holds = cells_carried h.left.cells h.left.holds;
+          variables = h.left.variables;
+          spaces = spaces_carried store h.left.spaces;
+        };
+    command = h.command;
+  }
+
+  pub runs_carried : (kinds : List Kind) (job : Job) (c : Command) → RunsFor kinds old m job c → RunsFor kinds new m job c
+  runs_carried kinds job c h = record {
+    reaches =
+        record {
+          unit = h.reaches.unit;
+          kinds_are = h.reaches.kinds_are;
+          now = h.reaches.now;
+          holds = cells_carried h.reaches.now h.reaches.holds;
+          reaches = h.reaches.reaches;
+          spaces = spaces_carried c.before h.reaches.spaces;
+        };
+    still = h.still;
+  }
+
+module _ (kinds : List Kind) (old new : Pages) (task : Task) (own : Own)
+    (kept : (root : Option ℕ) → ForSome root (λ r. 1 ≤ occ r (roots task.memory)) → (n : ℕ) → content_at new root n ≡ content_at old root n) where
+  pub stands_carried : StandsFor kinds old task own → StandsFor kinds new task own
+  stands_carried h = record { packets = h.packets; does = by own.doing h.does }
+    where
+      by : (d : Doing) → DoesAs kinds old task d → DoesAs kinds new task d
+      by (Idle store) k = (k.0, keeps_carried old new task.memory kept kinds store k.1)
+      by (Entering name lines store) k = (k.0, keeps_carried old new task.memory kept kinds store k.1)
+      by (Running c) k = (k.0, k.1, runs_carried old new task.memory kept kinds k.0 c k.2)
+
+  pub over_carried : (c : Command) (w : World) → StandsOver kinds old task own c w → StandsOver kinds new task own c w
+  over_carried c w h = record {
+    packets = h.packets;
+    idle = h.idle;
+    own_are = h.own_are;
+    kinds_are = h.kinds_are;
+    leaves = leaves_carried old new task.memory kept kinds c.unit.core.inserted (store_in c w) h.leaves;
+  }
