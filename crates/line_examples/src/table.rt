@@ -105,6 +105,12 @@ FEHLER : falscher Typ (Zeile 1, Stelle 33)
 FEHLER : zu gross (Zeile 1, Stelle 1)
 > INT VAR n; ROW n INT VAR a
 FEHLER : falscher Typ (Zeile 1, Stelle 16)
+> PROC p: put (1) END PROC p; TASK VAR t; begin (\"s\", PROC p, t)
+FEHLER : falsche Stelle (Zeile 1, Stelle 53)
+> TASK VAR t; begin (\"s\", PROC nix, t)
+FEHLER : unbekannt (Zeile 1, Stelle 30)
+> begin (1, 2, 3)
+FEHLER : falscher Typ (Zeile 1, Stelle 1)
 > TASK VAR t; IF t = niltask THEN put (1) FI; TASK VAR u :: niltask; IF t <> u THEN put (2) ELSE put (3) FI
 1 3 
 > ROW 3 TASK VAR a; a [2] := niltask; IF a [1] = a [2] THEN put (1) FI

@@ -18,10 +18,11 @@ use Rattle.space_memory.specs.Memories.{MemoryData, HoldsAll, roots}
 use Rattle.elan_types.specs.Eval.{Slot, World}
 use Rattle.source_machine.specs.Stores.{Store}
 use Rattle.source_machine.specs.Tasks.{Command, Doing, Idle, Entering, Running, Own, store_in}
-use Rattle.live_task.specs.Stands.{KeepsSpaces, KeepsVariables, Keeps, Leaves, RunsFor, DoesAs, StandsFor, StandsOver}
-use Rattle.live_task.specs.declared.job.Job.{Job}
+use Rattle.task_job.specs.Standing.{KeepsSpaces, KeepsVariables, Keeps, Leaves, RunsFor}
+use Rattle.live_task.specs.Stands.{DoesAs, StandsFor, StandsOver}
+use Rattle.task_job.specs.declared.job.Job.{Job}
 use Rattle.live_task.specs.declared.task.Task.{Task}
-use Rattle.live_task.proofs.Keeping.{keeps_spaces}
+use Rattle.task_job.proofs.Keeping.{keeps_spaces}
 
 each_kept : (old new : Pages) (names : Names)
     → ((root : Option ℕ) → ForSome root (λ r. 1 ≤ occ r names) → IsKept (content_at old root) (content_at new root))
@@ -29,11 +30,7 @@ each_kept : (old new : Pages) (names : Names)
 each_kept old new [] kept = tt
 each_kept old new (o ∷ os) kept = (kept o (named_first o os), each_kept old new os (λ root among. kept root (named_later o root os among)))
 
-module _ (old new : Pages) (m : MemoryData)
-    (kept : (root : Option ℕ) → ForSome root (λ r. 1 ≤ occ r (roots m)) → (n : ℕ) → content_at new root n ≡ content_at old root n) where
-  bytes : KeepsBytes old new (roots m)
-  bytes = record { each = each_kept old new (roots m) kept }
-
+module _ (old new : Pages) (m : MemoryData) (bytes : KeepsBytes old new (roots m)) where
   cells_carried : (cells : Cells) → HoldsAll old m cells → HoldsAll new m cells
   cells_carried cells h = record {
     run = kept_held Run (content_at old m.run.root) (content_at new m.run.root) cells bytes.each.0 h.run;
@@ -81,21 +78,26 @@ module _ (old new : Pages) (m : MemoryData)
     still = h.still;
   }
 
-module _ (kinds : List Kind) (old new : Pages) (task : Task) (own : Own)
-    (kept : (root : Option ℕ) → ForSome root (λ r. 1 ≤ occ r (roots task.memory)) → (n : ℕ) → content_at new root n ≡ content_at old root n) where
-  pub stands_carried : StandsFor kinds old task own → StandsFor kinds new task own
-  stands_carried h = record { packets = h.packets; does = by own.doing h.does }
+module _ (kinds : List Kind) (old new : Pages) (task : Task) (own : Own) where
+  pub stands_kept : KeepsBytes old new (roots task.memory) → StandsFor kinds old task own → StandsFor kinds new task own
+  stands_kept bytes h = record { packets = h.packets; does = by own.doing h.does }
     where
       by : (d : Doing) → DoesAs kinds old task d → DoesAs kinds new task d
-      by (Idle store) k = (k.0, keeps_carried old new task.memory kept kinds store k.1)
-      by (Entering name lines store) k = (k.0, keeps_carried old new task.memory kept kinds store k.1)
-      by (Running c) k = (k.0, k.1, runs_carried old new task.memory kept kinds k.0 c k.2)
+      by (Idle store) k = (k.0, keeps_carried old new task.memory bytes kinds store k.1)
+      by (Entering name lines store) k = (k.0, keeps_carried old new task.memory bytes kinds store k.1)
+      by (Running c) k = (k.0, k.1, runs_carried old new task.memory bytes kinds k.0 c k.2)
 
-  pub over_carried : (c : Command) (w : World) → StandsOver kinds old task own c w → StandsOver kinds new task own c w
-  over_carried c w h = record {
-    packets = h.packets;
-    idle = h.idle;
-    own_are = h.own_are;
-    kinds_are = h.kinds_are;
-    leaves = leaves_carried old new task.memory kept kinds c.unit.core.inserted (store_in c w) h.leaves;
-  }
+  module _ (kept : (root : Option ℕ) → ForSome root (λ r. 1 ≤ occ r (roots task.memory)) → (n : ℕ) → content_at new root n ≡ content_at old root n) where
+    pub stands_carried : StandsFor kinds old task own → StandsFor kinds new task own
+    stands_carried h = stands_kept (record { each = each_kept old new (roots task.memory) kept }) h
+
+    pub over_carried : (c : Command) (w : World) → StandsOver kinds old task own c w → StandsOver kinds new task own c w
+    over_carried c w h = record {
+      packets = h.packets;
+      idle = h.idle;
+      own_are = h.own_are;
+      kinds_are = h.kinds_are;
+      leaves =
+          leaves_carried old new task.memory (record { each = each_kept old new (roots task.memory) kept }) kinds c.unit.core.inserted (store_in c w)
+          h.leaves;
+    }

@@ -5,9 +5,10 @@ use Rattle.page_pool.specs.Pool.{Pages}
 use Rattle.elan_types.specs.Eval.{World}
 use Rattle.source_machine.specs.Tasks.{Command, Idle, Own, store_in, with_doing}
 use Rattle.source_machine.specs.Monitor.{with_packet}
-use Rattle.live_task.specs.Stands.{Keeps, StandsFor, StandsOver}
+use Rattle.task_job.specs.Standing.{Keeps}
+use Rattle.live_task.specs.Stands.{StandsFor, StandsOver}
 use Rattle.live_task.specs.declared.task.Task.{Task}
-use Rattle.live_task.proofs.Keeping.{inserted_keeps}
+use Rattle.task_job.proofs.Keeping.{inserted_keeps}
 
 module _ (kinds : List Kind) (pages : Pages) (task : Task) (own : Own) (c : Command) (w : World) (h : StandsOver kinds pages task own c w) where
   kept : Keeps (kinds ++ c.unit.core.inserted) pages task.memory (store_in c w)

@@ -1,10 +1,4 @@
-pub mod Passing
-pub mod Staying
-pub mod Reaching
-pub mod Beginning
-pub mod Keeping
-pub mod Standing
 pub mod Tasking
-pub mod Framed
 pub mod Carried
 pub mod Installing
+pub mod Sounding

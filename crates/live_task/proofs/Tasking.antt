@@ -22,17 +22,17 @@ use Rattle.elan_types.specs.Eval.{World}
 use Rattle.elan_types.specs.Command.{Ending, Ended, Stopped, OutOfMarks, Asks}
 use Rattle.source_machine.specs.Stores.{Store, new_store}
 use Rattle.source_machine.specs.Tasks.{Command, Doing, Idle, Entering, Running, Own, ending, world_of, store_in, own_variables, request_of, with_reply, with_reply_to, replied, with_doing}
-use Rattle.live_task.specs.Stands.{HoldSpaces, none, Keeps, Left, Leaves, RunsFor, RestsFor, DoesAs, StandsFor, StandsOver, IsOver, EndsAs, WentAs, WentOn, HaltedAs}
-use Rattle.live_task.specs.Stands.{IsSoundJob, IsSoundDoing, IsSound, IsWhole}
-use Rattle.live_task.specs.declared.job.Job.{Job}
+use Rattle.task_job.specs.Standing.{HoldSpaces, none, Keeps, Left, Leaves, RunsFor, RestsFor, IsSoundJob}
+use Rattle.live_task.specs.Stands.{DoesAs, StandsFor, StandsOver, IsOver, EndsAs, WentAs, WentOn, HaltedAs, IsSoundDoing, IsSound, IsWhole}
+use Rattle.task_job.specs.declared.job.Job.{Job}
 use Rattle.live_task.specs.declared.task.Task.{Task}
 use Rattle.live_task.specs.declared.task.Doing.{Doing as Does}
 use Rattle.live_task.specs.declared.task.Doing.TheVariants as does
 use Rattle.live_task.specs.declared.task.Went.{Went}
 use Rattle.live_task.specs.declared.task.Went.TheVariants as went
-use Rattle.live_task.proofs.Beginning.{no_variables}
-use Rattle.live_task.proofs.Keeping.{cleared}
-use Rattle.live_task.proofs.Standing.{many_own, asks_now, left_now}
+use Rattle.task_job.proofs.Beginning.{no_variables}
+use Rattle.task_job.proofs.Keeping.{cleared}
+use Rattle.task_job.proofs.Standing.{many_own, asks_now, left_now}
 
 same_job : (a b : Job) → does.Running a ≡ does.Running b → a ≡ b
 same_job a b e = cc
@@ -274,7 +274,7 @@ whole_job old new was now stop how job s ends = subst IsWhole (sym ends.0) (s.un
 pub whole : (old new : Pages) (was now : Task) (stop : Option Stop) (how : Went) → IsSound was → EndsAs old new was now stop how was.doing → IsWhole how
 whole old new was now stop how sound ends = by was.doing sound ends
   where
-    by : (d : Does) → IsSoundDoing d → EndsAs old new was now stop how d → IsWhole how
+    by : (d : Does) → IsSoundDoing was.memory d → EndsAs old new was now stop how d → IsWhole how
     by does.Idle s ends = subst IsWhole (sym ends.0) tt
     by (does.Entering name lines) s ends = subst IsWhole (sym ends.0) tt
     by (does.Running job) s ends = whole_job old new was now stop how job s ends

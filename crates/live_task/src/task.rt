@@ -1,5 +1,5 @@
 //! A task.
-ghost use Rattle.std.specs.Prelude.{◌≡◌, ◌≤◌, [], ◌∷◌, ◌++◌, List, IfOk, OnOk, OnErr, option_copied};
+ghost use Rattle.std.specs.Prelude.{◌≡◌, ◌≤◌, [], ◌∷◌, ◌++◌, List, length, IfOk, OnOk, OnErr, option_copied};
 ghost use Rattle.eu_base.specs.declared.value.Kind.{Kind};
 ghost use Rattle.cell_kinds.specs.Kinds.{packet_kinds};
 ghost use Rattle.page_pool.specs.Pool.{Pages};
@@ -12,18 +12,19 @@ ghost use Rattle.source_machine.specs.Stores.{Store, new_store};
 ghost use Rattle.source_machine.specs.Tasks.{Command, Own, Idle as Idles, Running as Runs, starting, request_of, replied, store_in, with_doing};
 ghost use Rattle.source_machine.specs.Monitor.{with_packet};
 ghost use Rattle.elan_types.specs.Eval.{World};
-ghost use Rattle.live_task.specs.declared.task.Doing.TheVariants.{Running};
-ghost use Rattle.live_task.specs.declared.job.Job.{Job};
+ghost use Rattle.live_task.specs.declared.task.Doing.TheVariants.{Idle, Running};
+ghost use Rattle.task_job.specs.declared.job.Job.{Job};
 ghost use Rattle.live_task.specs.Stands.{StandsFor, StandsOver, IsSound, IsWhole, EndsAs, WentOn, HaltedAs};
 
-use crate::job::Job;
 use code_form::{Code, Halt};
 use eu_base::{Bytes, List, NoMemory, Reply, Request, Stop};
+use job_parts::let_run_go;
 use packet_store::Compiled;
 use page_pool::Pool;
 use space_memory::SpaceMemory;
 use std::alloc::Global;
 use std::mem;
+use task_job::Job;
 
 /// What a task does.
 #[derive(Drop)]
@@ -61,6 +62,20 @@ pub struct Task {
     pub doing: Doing,
 }
 
+impl Doing {
+    /// Lets it go.
+    pub fn let_go(self) {
+        match self {
+            Doing::Idle => {}
+            Doing::Entering { name, lines } => {
+                mem::drop(name);
+                mem::drop(lines);
+            }
+            Doing::Running(job) => job.let_go(),
+        }
+    }
+}
+
 impl Task {
     /// A task that is idle and has nothing.
     pub fn new(alloc: Global) -> Task
@@ -80,7 +95,13 @@ impl Task {
         requires agree { Stands pool.old (roots self.memory) 0 }
         ensures frames { Frames pool.old pool.new (roots self.memory) [] }
     {
-        let Task { memory, .. } = self;
+        let Task {
+            packets,
+            memory,
+            doing,
+        } = self;
+        mem::drop(packets);
+        doing.let_go();
         memory.end(pool);
     }
 
@@ -106,15 +127,17 @@ impl Task {
     ) -> Result<(), NoMemory>
         requires unit { IsUnit unit }
         requires behaves { Behaves unit.core code }
+        requires sound { IsSound self.old }
         requires agree { Stands pool.old (roots self.old.memory) 0 }
         ensures starts { OnOk result ((own : Own) (store : Store) → own.doing ≡ Idles store →
             StandsFor (packet_kinds unit.core.packets) pool.old self.old own →
             StandsFor (packet_kinds unit.core.packets) pool.new self.new (with_doing (Runs (starting unit store)) own)) }
-        ensures sound { OnOk result (IsSound self.new) }
+        ensures sound { IsSound self.new }
+        ensures as_many { length (roots self.new.memory) ≡ length (roots self.old.memory) }
         ensures frames { Frames pool.old pool.new (roots self.old.memory) (roots self.new.memory) }
     {
         let job = Job::of(alloc, unit, code, &mut self.memory, pool)?;
-        self.doing = Doing::Running(job);
+        mem::replace(&mut self.doing, Doing::Running(job)).let_go();
         Ok(())
     }
 
@@ -126,17 +149,22 @@ impl Task {
             WentOn kinds pool.new self.new marks.old marks.new went own own.doing) }
         ensures marks { OnOk result (marks.new ≤ marks.old) }
         ensures whole { IfOk result IsWhole }
-        ensures sound { OnOk result (IsSound self.new) }
+        ensures sound { IsSound self.new }
+        ensures as_many { length (roots self.new.memory) ≡ length (roots self.old.memory) }
         ensures frames { Frames pool.old pool.new (roots self.old.memory) (roots self.new.memory) }
     {
         let Doing::Running(job) = &mut self.doing else {
             return Ok(Went::NotRunning);
         };
-        match job.go_on(&mut self.memory, pool, marks)? {
-            Halt::Marked => Ok(Went::Marked),
-            Halt::Asks(request) => Ok(Went::Asks(request)),
-            Halt::Ended => Ok(self.over(pool, None)),
-            Halt::Stopped(stop) => Ok(self.over(pool, Some(stop))),
+        match job.go_on(&mut self.memory, pool, marks) {
+            Ok(Halt::Marked) => Ok(Went::Marked),
+            Ok(Halt::Asks(request)) => Ok(Went::Asks(request)),
+            Ok(Halt::Ended) => Ok(self.over(pool, None)),
+            Ok(Halt::Stopped(stop)) => Ok(self.over(pool, Some(stop))),
+            Err(NoMemory) => {
+                self.drop_job();
+                Err(NoMemory)
+            }
         }
     }
 
@@ -146,7 +174,8 @@ impl Task {
         requires agree { Stands pool.old (roots self.old.memory) 0 }
         ensures answered { OnOk result ((kinds : List Kind) (own : Own) → StandsFor kinds pool.old self.old own →
             StandsFor kinds pool.new self.new (with_doing (replied reply own.doing) own)) }
-        ensures sound { OnOk result (IsSound self.new) }
+        ensures sound { IsSound self.new }
+        ensures as_many { length (roots self.new.memory) ≡ length (roots self.old.memory) }
         ensures frames { Frames pool.old pool.new (roots self.old.memory) (roots self.new.memory) }
     {
         if self.asked().is_none() {
@@ -155,7 +184,13 @@ impl Task {
         let Doing::Running(job) = &mut self.doing else {
             return Ok(());
         };
-        job.answer(&mut self.memory, pool, reply)
+        match job.answer(&mut self.memory, pool, reply) {
+            Ok(()) => Ok(()),
+            Err(NoMemory) => {
+                self.drop_job();
+                Err(NoMemory)
+            }
+        }
     }
 
     /// The command that it runs is over where it stands.
@@ -165,6 +200,7 @@ impl Task {
         ensures halted { (kinds : List Kind) (own : Own) → StandsFor kinds pool.old self.old own → HaltedAs kinds pool.new self.new result own own.doing }
         ensures whole { IsWhole result }
         ensures sound { IsSound self.new }
+        ensures as_many { length (roots self.new.memory) ≡ length (roots self.old.memory) }
         ensures frames { Frames pool.old pool.new (roots self.old.memory) (roots self.new.memory) }
     {
         self.over(pool, Some(Stop::Halted))
@@ -176,28 +212,36 @@ impl Task {
             StandsOver kinds pages self.old own c w →
             StandsFor (kinds ++ c.unit.core.inserted) pages self.new (with_packet number (with_doing (Idles (store_in c w)) own))) }
         ensures ok { OnOk result (self.new ≡ record self.old { packets = self.old.packets ++ number ∷ [] }) }
+        ensures sound { IsSound self.old → IsSound self.new }
         ensures err { OnErr result (self.new ≡ self.old) }
     {
         self.packets.push(number)
+    }
+
+    // Nothing is known of a command that memory was wanting for: the task is idle.
+    fn drop_job(&mut self)
+        ensures idle { self.new ≡ record self.old { doing = Idle } }
+    {
+        mem::replace(&mut self.doing, Doing::Idle).let_go();
     }
 
     // The command that it runs is over: the task is idle, and the cells of the command are cleared.
     fn over(&mut self, pool: &mut Pool, stop: Option<Stop>) -> Went
         requires agree { Stands pool.old (roots self.old.memory) 0 }
         ensures ends { EndsAs pool.old pool.new self.old self.new stop result self.old.doing }
+        ensures sound { IsSound self.old → IsSound self.new }
+        ensures as_many { length (roots self.new.memory) ≡ length (roots self.old.memory) }
         ensures frames { Frames pool.old pool.new (roots self.old.memory) (roots self.new.memory) }
     {
         match mem::replace(&mut self.doing, Doing::Idle) {
             Doing::Running(job) => {
                 self.memory.clear_run(pool);
-                Went::Over {
-                    unit: job.unit,
-                    code: job.code,
-                    stop,
-                }
+                let Job { unit, code, run } = job;
+                let_run_go(run);
+                Went::Over { unit, code, stop }
             }
             doing => {
-                self.doing = doing;
+                mem::replace(&mut self.doing, doing).let_go();
                 Went::NotRunning
             }
         }

@@ -93,6 +93,13 @@ impl Display {
         Ok(())
     }
 
+    /// Nothing is shown any more.
+    pub fn clear(&mut self)
+        ensures { self.new ≡ spec.blank }
+    {
+        *self = Display::new(self.alloc);
+    }
+
     /// Adds the closed pieces as lines of output. In the `plain` form nothing stands before the pieces of channel 1.
     pub fn render(&self, plain: bool, out: &mut Bytes) -> Result<(), NoMemory>
         ensures { OnOk result (out.new ≡ out.old ++ spec.rendered plain self.now.shown) }

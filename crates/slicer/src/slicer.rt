@@ -65,6 +65,13 @@ impl Slicer {
         self.ready.push_back_reserved(task);
     }
 
+    /// Whether a task is in the list.
+    pub fn is_ready(&self, task: TaskNo) -> bool
+        ensures { result ≡ is_ready task self.now }
+    {
+        self.ready.iter().any(|other| other.is(task))
+    }
+
     /// A task is no longer in the list, wherever it stood; the others stay in their order.
     pub fn leave(&mut self, task: TaskNo)
         ensures { self.new ≡ without task self.old }

@@ -22,7 +22,7 @@ use Rattle.monitor.specs.declared.commands.Command.{Command}
 use Rattle.monitor.specs.declared.commands.Command.TheVariants.{Blank, Begin, Continue, Halt, TaskInfo, StorageInfo, Unknown}
 use Rattle.source_machine.specs.Stores.{is_name, heir}
 use Rattle.source_machine.specs.Tasks.{Doing, Idle, Entering, Running, Own, ending, now, world_of, request_of}
-use Rattle.source_machine.specs.Systems.{System, Moment, doing, requested, kept, does, woken, on_system, on_ready, on_channels, write, say, uncouple, prompt, supervisor_prompt}
+use Rattle.source_machine.specs.Systems.{System, Moment, doing, requested, kept, does, woken, couple, on_system, on_ready, on_channels, write, say, uncouple, prompt, supervisor_prompt}
 use Rattle.source_machine.specs.Ends.{number_refusal, next, begun}
 use Rattle.source_machine.specs.Monitor.{Reading, over}
 
@@ -48,7 +48,7 @@ abbrev pub begin_unless : Option (List ℕ) → ℕ → List ℕ → TaskNo → 
 begin_unless (Some answer) c name father m = refused c answer m
 begin_unless None c name father m =
     say c prompt
-    (on_system (on_channels (channels.coupled c (next m.system))) (on_system (begun name father (Idle (heir (kept father m.system)))) m))
+    (on_system (couple c (next m.system)) (on_system (begun name father (Idle (heir (kept father m.system)))) m))
 
 abbrev pub begin_under : ℕ → List ℕ → TaskNo → Moment → Moment
 begin_under c name father m = begin_unless (begin_refusal name father m.system) c name father m
@@ -62,7 +62,7 @@ resumed _ (Some (Out bytes ends)) c t m = on_system (woken t Done) (write c byte
 resumed _ _ c t m = m
 
 abbrev pub continued : ℕ → TaskNo → Moment → Moment
-continued c t m = by (on_system (on_channels (channels.coupled c t)) m)
+continued c t m = by (on_system (couple c t) m)
   where
     by : Moment → Moment
     by m = resumed (doing t m.system) (requested t m.system) c t m
@@ -128,7 +128,7 @@ module _ (read : Env → Bool → List ℕ → Reading) where
       over read t command (Some Halted) (world_of (ending command 0)) (on_system (on_ready (rotation.without t)) m)
 
   abbrev pub halted : ℕ → TaskNo → Moment → Moment
-  halted c t m = halted_by (doing t m.system) c t (on_system (on_channels (channels.coupled c t)) m)
+  halted c t m = halted_by (doing t m.system) c t (on_system (couple c t) m)
 
   -- a command of the supervisor at an uncoupled channel
   abbrev pub supervised : Command → ℕ → Moment → Moment

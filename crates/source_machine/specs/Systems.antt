@@ -1,7 +1,8 @@
 -- The system: what all tasks have together, what each has for itself, and what is shown in the course of an event.
-use Rattle.std.specs.Prelude.{ℕ, Bool, false, List, [], ◌∷◌, Option, Some, None, option_map, option_and_then, position}
-use Rattle.std.specs.Prelude.{slice_get, slice_set, codes}
+use Rattle.std.specs.Prelude.{ℕ, zero, suc, Bool, false, not, ◌&&◌, is_none, List, [], ◌∷◌, Option, Some, None, option_map, option_and_then, position, if◌then◌else◌}
+use Rattle.std.specs.Prelude.{slice_get, codes}
 use Rattle.task_numbers.specs.declared.number.TaskNo.{TaskNo}
+use Rattle.task_numbers.specs.Numbers.{is_nil}
 use Rattle.eu_base.specs.declared.request.Request.{Request}
 use Rattle.eu_base.specs.declared.request.Reply.{Reply}
 use Rattle.task_tree.specs.Tree.{Tree, has_number}
@@ -49,14 +50,15 @@ own t s = option_and_then (slice_get s.owns) (place t s)
 abbrev pub doing : TaskNo → System → Option Doing
 doing t s = option_map (λ o. o.doing) (own t s)
 
--- what a task has for itself changes
-abbrev pub changed_from : Option Own → ℕ → (Own → Own) → System → System
-changed_from None k f s = s
-changed_from (Some o) k f s = record s { owns = slice_set s.owns k (f o) }
+-- what the task at a place has for itself changes
+abbrev pub with_own : ℕ → (Own → Own) → List Own → List Own
+with_own k f [] = []
+with_own zero f (o ∷ owns) = f o ∷ owns
+with_own (suc k) f (o ∷ owns) = o ∷ with_own k f owns
 
 abbrev pub changed_at : Option ℕ → (Own → Own) → System → System
 changed_at None f s = s
-changed_at (Some k) f s = changed_from (slice_get s.owns k) k f s
+changed_at (Some k) f s = record s { owns = with_own k f s.owns }
 
 abbrev pub changed : TaskNo → (Own → Own) → System → System
 changed t f s = changed_at (place t s) f s
@@ -109,9 +111,19 @@ on_ready f s = sharing (λ h. record h { ready = f h.ready }) s
 abbrev pub on_channels : (List Channel → List Channel) → System → System
 on_channels f s = sharing (λ h. record h { channels = f h.channels }) s
 
--- a task comes to the end of the ready list
+-- a task comes to the end of the ready list, where it lives and does not stand in it
+abbrev pub can_be_ready : TaskNo → System → Bool
+can_be_ready t s = tree.lives t s.shared.tree && not (rotation.is_ready t s.shared.ready)
+
 abbrev pub back : TaskNo → System → System
-back t s = on_ready (rotation.at_back t) s
+back t s = if can_be_ready t s then on_ready (rotation.at_back t) s else s
+
+-- a task is coupled to a channel, where it is coupled to none and the channel is free
+abbrev pub can_couple : ℕ → TaskNo → System → Bool
+can_couple c t s = is_nil (channels.channel c s.shared.channels).task && is_none (channels.channel_of t s.shared.channels)
+
+abbrev pub couple : ℕ → TaskNo → System → System
+couple c t s = if can_couple c t s then on_channels (channels.coupled c t) s else s
 
 -- a task that waits gets its reply, and is ready
 abbrev pub woken : TaskNo → Reply → System → System

@@ -11,6 +11,8 @@ mod directory;
 #[cfg(test)]
 mod display;
 #[cfg(test)]
+mod events;
+#[cfg(test)]
 mod lines;
 #[cfg(test)]
 mod messages;

@@ -24,12 +24,17 @@ fn letter(event: &Event) -> [u8; 3] {
     }
 }
 
+/// Writes an event: a letter, two bytes of a number and a text.
+pub fn put_event(out: &mut Bytes, event: &Event) {
+    put(out, &letter(event));
+    if let Event::Line { text, .. } = event {
+        put(out, text.as_slice());
+    }
+}
+
 fn put_events(out: &mut Bytes, events: &[Event]) {
     for event in events {
-        put(out, &letter(event));
-        if let Event::Line { text, .. } = event {
-            put(out, text.as_slice());
-        }
+        put_event(out, event);
     }
 }
 

@@ -25,16 +25,22 @@ fn put_next(out: &mut Bytes, next: Result<Next, NoMemory>) {
     }
 }
 
-/// Writes six answers of a reader, one after another. Before the blank stand how many bytes the source gives in one call, and which
-/// call of it fails, and behind it stands what it has.
-pub fn answers(alloc: Global, out: &mut Bytes, row: &[u8]) {
+/// A source. Before the blank stand how many bytes it gives in one call, and which call of it fails, and behind it stands what it has.
+pub fn source(alloc: Global, row: &[u8]) -> Option<MemSource> {
     let [piece, failing, b' ', input @ ..] = row else {
-        return
+        return None
     };
     let mut bytes = Bytes::new(alloc);
     put(&mut bytes, input);
     let piece = usize::from(piece.wrapping_sub(b'0')).max(1);
-    let mut source = MemSource::new(bytes, piece, fails(alloc, *failing));
+    Some(MemSource::new(bytes, piece, fails(alloc, *failing)))
+}
+
+/// Writes six answers of a reader of lines, one after another.
+pub fn answers(alloc: Global, out: &mut Bytes, row: &[u8]) {
+    let Some(mut source) = source(alloc, row) else {
+        return
+    };
     let mut reader = LineReader::new();
     for _ in 0..6 {
         put_next(out, reader.next_line(alloc, &mut source));

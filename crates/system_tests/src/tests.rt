@@ -1,7 +1,8 @@
 //! Lines and scenes, each with the text that is noted of it.
 use crate::notes::put;
 use crate::{
-    channels, commands, directory, display, lines, messages, rotation, sessions, tables, tree,
+    channels, commands, directory, display, events, lines, messages, rotation, sessions, tables,
+    tree,
 };
 use containers::Bytes;
 use std::alloc::Global;
@@ -19,8 +20,10 @@ enum Place {
     Supervisor,
     /// As steps at the channels.
     Display,
-    /// As a source.
+    /// As a source of lines.
     Session,
+    /// As a source of a session.
+    Events,
 }
 
 fn read(alloc: Global, out: &mut Bytes, line: &[u8], place: Place) {
@@ -31,6 +34,7 @@ fn read(alloc: Global, out: &mut Bytes, line: &[u8], place: Place) {
         Place::Supervisor => commands::described(alloc, out, line, true),
         Place::Display => display::lines(alloc, out, line),
         Place::Session => sessions::answers(alloc, out, line),
+        Place::Events => events::answers(alloc, out, line),
     }
 }
 
@@ -81,6 +85,8 @@ fn wrong_lines(alloc: Global) -> &'static str {
         "display"
     } else if right_rows(alloc, tables::SESSIONS, Place::Session) != 13 {
         "session"
+    } else if right_rows(alloc, tables::EVENTS, Place::Events) != 7 {
+        "events"
     } else {
         ""
     }

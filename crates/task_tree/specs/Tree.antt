@@ -98,6 +98,10 @@ refusal name s =
 abbrev pub next : Tree → TaskNo
 next s = number (s.last + 1)
 
+-- where a number is left
+abbrev pub next_number : Tree → Option TaskNo
+next_number s = if nat_le LAST_NUMBER s.last then None else Some (next s)
+
 abbrev pub begun : List ℕ → TaskNo → Tree → Tree
 begun name father s = record { tasks = s.tasks ++ task (next s) name father ∷ []; last = s.last + 1 }
 

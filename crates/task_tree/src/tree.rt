@@ -1,5 +1,5 @@
 //! The live tasks.
-ghost use Rattle.std.specs.Prelude.{◌≡◌, ◌≢◌, ◌<◌, true, None, Some, find, IfErr, IfOk, OnErr, OnOk};
+ghost use Rattle.std.specs.Prelude.{◌≡◌, ◌≢◌, ◌<◌, true, None, Some, find, length, position, IfErr, IfOk, OnErr, OnOk};
 ghost use Rattle.std.specs.List.{list_any};
 ghost use Rattle.std.specs.Option.{option_copied};
 ghost use Rattle.task_numbers.specs.Numbers.{niltask};
@@ -117,6 +117,46 @@ impl TaskTree {
             .filter(|other| other.father.is(task))
             .map(|son| son.number);
         Ok(sons.collect(alloc)?)
+    }
+
+    /// How many tasks live.
+    pub fn count(&self) -> usize
+        ensures { result ≡ length self.now.tasks }
+    {
+        self.tasks.len()
+    }
+
+    /// The place of a task among the live ones by age; `None` exactly where it does not live.
+    pub fn place(&self, task: TaskNo) -> Option<usize>
+        ensures { result ≡ position (spec.has_number task) self.now.tasks }
+    {
+        self.tasks.iter().position(|other| other.number.is(task))
+    }
+
+    /// The number of the next task that begins; `None` exactly where the last number was used.
+    pub fn next(&self) -> Option<TaskNo>
+        ensures { result ≡ spec.next_number self.now }
+    {
+        if self.last == LAST_NUMBER {
+            return None;
+        }
+        Some(TaskNo(self.last + 1))
+    }
+
+    /// Why no task of this name begins, the first reason that holds.
+    pub fn refusal(&self, name: &[u8]) -> Option<BeginError>
+        ensures { result ≡ spec.refusal name.now self.now }
+    {
+        if self.is_taken(name) {
+            return Some(BeginError::NameTaken);
+        }
+        if self.tasks.len() >= TASKS {
+            return Some(BeginError::TreeFull);
+        }
+        if self.last == LAST_NUMBER {
+            return Some(BeginError::NumbersSpent);
+        }
+        None
     }
 
     /// A son of a live task begins: it gets the next number, which is the result. `NameTaken`, `TreeFull` and `NumbersSpent`

@@ -1,5 +1,5 @@
 -- The four channels: which task each is coupled to, its last task, and the lines that wait there, the oldest first.
-use Rattle.std.specs.Prelude.{ℕ, ◌+◌, ◌-◌, Bool, nat_le, List, [], ◌∷◌, ◌++◌, length, drop, slice_index_or, slice_set, position, Option, None, option_map}
+use Rattle.std.specs.Prelude.{ℕ, ◌+◌, ◌-◌, Bool, nat_le, nat_lt, List, [], ◌∷◌, ◌++◌, length, drop, slice_index_or, slice_set, position, Option, None, option_map}
 use Rattle.std.specs.Prelude.{if◌then◌else◌}
 use Rattle.task_numbers.specs.declared.number.TaskNo.{TaskNo}
 use Rattle.task_numbers.specs.Numbers.{niltask, is_nil, is_task}
@@ -20,6 +20,9 @@ alone c = record c { task = niltask; queue = [] }
 
 abbrev pub is_queue_full : Channel → Bool
 is_queue_full c = nat_le QUEUED_LINES (length c.queue)
+
+abbrev pub has_line : Channel → Bool
+has_line c = nat_lt 0 (length c.queue)
 
 -- a line comes last, where there is a place for it
 abbrev pub with_line : List ℕ → Channel → Channel

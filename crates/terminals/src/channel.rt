@@ -1,5 +1,5 @@
 //! One channel.
-ghost use Rattle.std.specs.Prelude.{◌≡◌, slice_get, IfOk};
+ghost use Rattle.std.specs.Prelude.{◌≡◌, ◌≤◌, length, nat_lt, slice_get, IfOk, IfSome};
 ghost use Rattle.std.specs.Result.{is_err};
 ghost use Rattle.terminals.specs.Channels as spec;
 
@@ -7,7 +7,7 @@ use circular_buffer::HeapCircularBuffer;
 use containers::{Bytes, NoMemory};
 use std::alloc::Global;
 use std::marker::Model;
-use task_numbers::TaskNo;
+use task_numbers::{LONGEST_LINE, TaskNo};
 
 /// How many lines can wait at a channel.
 pub const QUEUED_LINES: usize = 16;
@@ -26,6 +26,7 @@ pub(crate) struct Channel {
 
 impl Model for Channel {
     ghost use Rattle.std.specs.Prelude.{◌≡◌};
+    ghost use Rattle.terminals.specs.Couplings.{HasShortLines};
     ghost use Rattle.terminals.specs.Channels as spec;
     ghost use Rattle.terminals.specs.declared.channel.TheConstants.{QUEUED_LINES};
 
@@ -33,7 +34,7 @@ impl Model for Channel {
 
     ghost view = { λ c. record { task = c.task; last = c.last; queue = c.queue.items } };
 
-    ghost invariant = { λ c. c.queue.capacity ≡ QUEUED_LINES };
+    ghost invariant = { λ c. (c.queue.capacity ≡ QUEUED_LINES) × HasShortLines c.queue.items };
 }
 
 impl Channel {
@@ -84,7 +85,20 @@ impl Channel {
         self.last = task;
     }
 
+    pub(crate) fn is_full(&self) -> bool
+        ensures { result ≡ spec.is_queue_full self.now }
+    {
+        self.queue.len() >= QUEUED_LINES
+    }
+
+    pub(crate) fn has_line(&self) -> bool
+        ensures { result ≡ spec.has_line self.now }
+    {
+        !self.queue.is_empty()
+    }
+
     pub(crate) fn push(&mut self, line: Bytes) -> Result<(), QueueFull>
+        requires { length line ≤ LONGEST_LINE }
         ensures full { is_err result ≡ spec.is_queue_full self.old }
         ensures queue { self.new ≡ spec.with_line line self.old }
     {
@@ -97,6 +111,7 @@ impl Channel {
     pub(crate) fn pop(&mut self) -> Option<Bytes>
         ensures line { result ≡ slice_get self.old.queue 0 }
         ensures queue { self.new ≡ spec.without_line self.old }
+        ensures short { IfSome result (λ line. length line ≤ LONGEST_LINE) }
     {
         self.queue.pop_front()
     }

@@ -80,7 +80,8 @@ impl Terminals {
 
     /// The channel that a task is coupled to, which is the only one; `None` exactly where there is none.
     pub fn channel_of(&self, task: TaskNo) -> Option<u8>
-        ensures { result ≡ spec.channel_of task self.now }
+        ensures channel { result ≡ spec.channel_of task self.now }
+        ensures within { IfSome result (λ channel. (1 ≤ channel) × (channel ≤ CHANNELS)) }
     {
         if task.is_nil() {
             return None;
@@ -109,6 +110,24 @@ impl Terminals {
         self.channels[channel as usize - 1].set_last(task);
     }
 
+    /// Whether as many lines wait at a channel as can.
+    pub fn is_queue_full(&self, channel: u8) -> bool
+        requires low { 1 ≤ channel }
+        requires high { channel ≤ CHANNELS }
+        ensures { result ≡ spec.is_queue_full (spec.channel channel self.now) }
+    {
+        self.channels[channel as usize - 1].is_full()
+    }
+
+    /// Whether a line waits at a channel.
+    pub fn has_line(&self, channel: u8) -> bool
+        requires low { 1 ≤ channel }
+        requires high { channel ≤ CHANNELS }
+        ensures { result ≡ spec.has_line (spec.channel channel self.now) }
+    {
+        self.channels[channel as usize - 1].has_line()
+    }
+
     /// A line of at most 250 bytes comes to the end of a channel's queue. `QueueFull` comes exactly where 16 lines stand there;
     /// the line is then gone and nothing else changed.
     pub fn line_in(&mut self, channel: u8, text: Bytes) -> Result<(), QueueFull>
@@ -127,6 +146,7 @@ impl Terminals {
         requires high { channel ≤ CHANNELS }
         ensures line { result ≡ slice_get (spec.channel channel self.old).queue 0 }
         ensures queue { self.new ≡ spec.unqueued channel self.old }
+        ensures short { IfSome result (λ line. length line ≤ LONGEST_LINE) }
     {
         self.channels[channel as usize - 1].pop()
     }

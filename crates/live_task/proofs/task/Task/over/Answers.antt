@@ -1,4 +1,6 @@
-use Rattle.std.proofs.Common.{sym, ◌∙◌}
+use Rattle.std.proofs.Common.{refl, sym, ◌∙◌, subst}
+use Rattle.live_task.specs.Stands.{IsSoundDoing}
+use Rattle.live_task.specs.declared.task.Doing.{Doing as Does}
 use Rattle.live_task.proofs.Tasking.{ended, not_ended}
 use Rattle.page_table.proofs.Framing.{frames_none}
 use Rattle.space_memory.specs.Memories.{roots}
@@ -11,7 +13,13 @@ returns-in-Running-clause-ends c =
     c.clear_run.ensures.keeps
 
 pub returns-in_default : goal.returns-in_default
-returns-in_default c = record {
-  ends = not_ended c.args.pool.now c.args.self.now c.replace.result c.args.stop c.replace.ensures.value c.in_default.not-Running;
-  frames = frames_none c.args.pool.now (roots c.args.self.now.memory);
-}
+returns-in_default c =
+    let same = c.replace-in_default.ensures.after ∙ c.replace.ensures.value in
+    record {
+      ends =
+          not_ended c.args.pool.now c.args.self.now c.replace-in_default.new.dest c.args.stop same
+          (λ job is. c.in_default.not-Running job (sym c.replace-in_default.ensures.after ∙ is));
+      sound = λ s. subst (λ (d : Does). IsSoundDoing c.args.self.now.memory d) (sym same) s;
+      as_many = refl;
+      frames = frames_none c.args.pool.now (roots c.args.self.now.memory);
+    }

@@ -1,0 +1,10 @@
+pub mod Closing
+pub mod Counting
+pub mod Fresh
+pub mod Going
+pub mod Opening
+pub mod Over
+pub mod Owning
+pub mod Programs
+pub mod Standing
+pub mod Zips

@@ -1,0 +1,27 @@
+use Rattle.std.proofs.Common.{arith, sym, subst, ◌++◌, ◌∷◌, [], List}
+use Rattle.std.proofs.lemmas.Result.{on_ok_weaker}
+use Rattle.eu_base.specs.declared.value.Kind.{Kind}
+use Rattle.source_machine.specs.Tasks.{Idle, store_in, with_doing}
+use Rattle.source_machine.specs.Monitor.{with_packet}
+use Rattle.live_task.specs.Stands.{StandsFor}
+use Rattle.live_tasks.proofs.Standing.{reads, call_sound, call_fits}
+use Rattle.live_tasks.proofs.Over.{overs, installed_many, installed_frames, installs}
+use Rattle.live_tasks.proofs.tasks.Tasks.install.Goals as goal
+
+pub invariant_of-self : goal.invariant_of-self
+invariant_of-self c =
+    let at = reads c.self.inside.pool c.self.inside.tasks.items c.args.self.now c.args.k c.index_mut-task.result.now c.self.view_is c.requires.task
+    c.index_mut-task.ensures.value in
+    let many = installed_many c.index_mut-task.result.now c.install.new.self c.args.number c.install.result c.install.ensures.ok c.install.ensures.err in
+    let frames = installed_frames c.index_mut-task.result.now c.install.new.self c.args.number c.install.result c.install.ensures.ok c.install.ensures.err c.self.inside.pool in
+    call_fits c.self.inside.pool c.self.inside.pool c.self.inside.tasks.items c.args.k c.index_mut-task.result.now at c.self.invariant c.install.new.self many frames (c.install.ensures.sound (call_sound c.self.inside.pool c.self.inside.pool c.self.inside.tasks.items c.args.k c.index_mut-task.result.now at c.self.invariant))
+
+pub returns : goal.returns
+returns c =
+    let at = reads c.self.inside.pool c.self.inside.tasks.items c.args.self.now c.args.k c.index_mut-task.result.now c.self.view_is c.requires.task
+    c.index_mut-task.ensures.value in
+    on_ok_weaker c.install.result (λ stands kinds_of later owns own command w h has agree is.
+    let all = overs kinds_of c.self.inside.pool c.self.inside.tasks.items c.args.self.now owns c.args.k c.self.view_is command w h in
+    installs c.self.inside.pool c.self.inside.tasks.items c.args.k c.index_mut-task.result.now at kinds_of later owns command w all own has agree
+    c.install.new.self c.args.number is (λ over. stands (kinds_of own.packets) c.self.inside.pool own command w over))
+    c.install.ensures.installed

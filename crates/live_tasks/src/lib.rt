@@ -1,0 +1,8 @@
+//! All tasks over one pool.
+#![tactic(auto)]
+
+mod looks;
+mod tasks;
+mod texts;
+
+pub use tasks::Tasks;

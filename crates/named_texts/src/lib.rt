@@ -1,0 +1,8 @@
+//! Source texts under names, in the memory of a task.
+#![tactic(auto)]
+
+mod keep;
+mod look;
+
+pub use keep::keep_text;
+pub use look::{Source, names, text_under};

@@ -1,0 +1,3 @@
+mod Forms
+pub mod Serving
+mod Sessions

@@ -1,0 +1,4 @@
+mod Living
+mod Coupling
+mod Queues
+pub mod Steps

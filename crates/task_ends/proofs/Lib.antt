@@ -1,0 +1,4 @@
+pub mod Fronts
+pub mod Settled
+pub mod Pages
+pub mod Heirs

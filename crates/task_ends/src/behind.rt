@@ -1,0 +1,65 @@
+//! The cells behind those of a task's packets.
+ghost use Rattle.std.specs.Prelude.{◌≡◌, ℕ, ◌+◌, ◌≤◌, List as Lists, length, take, OnOk};
+ghost use Rattle.eu_base.specs.declared.address.TheConstants.{CELLS};
+ghost use Rattle.eu_base.specs.Cells.{Free, Cells, run_cell};
+ghost use Rattle.cell_kinds.specs.Kinds.{all_kinds, packet_kinds};
+ghost use Rattle.page_table.specs.Frames.{Frames, Stands};
+ghost use Rattle.elan_types.specs.Eval.{Slot};
+ghost use Rattle.space_memory.specs.Memories.{roots, HoldsAll};
+ghost use Rattle.space_memory.specs.Changes.{OnlyVariables};
+ghost use Rattle.packet_cells.specs.Freed.{HoldEach, freed};
+ghost use Rattle.task_job.specs.Standing.{HasBehind, KeepsVariables};
+
+use eu_base::{CELLS, MemFault, NoMemory, Shape};
+use packet_cells::{count_cells, free_shapes};
+use packet_store::Compiled;
+use page_pool::Pool;
+use space_memory::SpaceMemory;
+use std::alloc::Global;
+
+/// Frees the variables of a packet that is inserted, which stand behind those of the task's packets. Where all together have no room,
+/// there are none.
+pub(crate) fn free_behind(
+    alloc: Global,
+    memory: &mut SpaceMemory,
+    pool: &mut Pool,
+    unit: &Compiled,
+) -> Result<(), NoMemory>
+    requires agree { Stands pool.old (roots memory.old) 0 }
+    ensures freed { OnOk result ((slots : Lists Slot) (cells : Cells) → HoldsAll pool.old memory.old cells → ((x : ℕ) → cells (run_cell x) ≡ Free) →
+        HasBehind (packet_kinds unit.now.core.packets) unit.now.core.inserted slots cells →
+        KeepsVariables (packet_kinds unit.now.core.packets) pool.new memory.new (take (length (packet_kinds unit.now.core.packets)) slots)) }
+    ensures rest { OnlyVariables pool.old pool.new memory.old memory.new }
+    ensures frames { Frames pool.old pool.new (roots memory.old) (roots memory.new) }
+{
+    let before = count_cells(unit.core.packets.as_slice());
+    let inserted = &unit.core.inserted;
+    if before.saturating_add(inserted.len()) > usize::from(CELLS) {
+        return Ok(());
+    }
+    free_over(alloc, memory, pool, before, inserted.shapes())
+}
+
+// Frees the cells of variables of these shapes, from one on.
+fn free_over(
+    alloc: Global,
+    memory: &mut SpaceMemory,
+    pool: &mut Pool,
+    at: usize,
+    shapes: &[Shape],
+) -> Result<(), NoMemory>
+    requires cells { at + length (all_kinds shapes.now) ≤ CELLS }
+    requires agree { Stands pool.old (roots memory.old) 0 }
+    ensures freed { OnOk result ((cells : Cells) → HoldsAll pool.old memory.old cells → HoldEach at (all_kinds shapes.now) cells →
+        HoldsAll pool.new memory.new (freed at (at + length (all_kinds shapes.now)) cells)) }
+    ensures rest { OnlyVariables pool.old pool.new memory.old memory.new }
+    ensures frames { Frames pool.old pool.new (roots memory.old) (roots memory.new) }
+{
+    let mut lent = memory.over(pool);
+    match free_shapes(alloc, &mut lent, at, shapes) {
+        Ok(()) => Ok(()),
+        Err(MemFault::NoMemory) => Err(NoMemory),
+        // Pages in memory have no faults.
+        Err(MemFault::Failed) => unreachable!(),
+    }
+}

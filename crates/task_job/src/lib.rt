@@ -1,0 +1,7 @@
+//! A command that runs over the memory of its task.
+#![tactic(auto)]
+
+mod job;
+mod lent;
+
+pub use job::Job;
