@@ -2,6 +2,7 @@
 #![tactic(auto)]
 
 mod command;
+mod play;
 mod top;
 
 pub use line_command::{Status, one_output};

@@ -1,12 +1,14 @@
 //! The top call.
-ghost use Rattle.std.specs.Prelude.{◌≡◌, ◌≤◌, ◌↔◌, map};
+ghost use Rattle.std.specs.Prelude.{◌≡◌, ◌≤◌, ◌↔◌, false, map};
 ghost use Rattle.std.specs.String.{string_bytes};
 ghost use Rattle.eu_base.specs.Faults.{Rose};
 ghost use Rattle.eumel_top.specs.Words.{Names, NamesNone};
+ghost use Rattle.eumel_top.specs.Play.{PlayAnswers, PlaySettles};
 ghost use Rattle.line_command.specs.Answer.{LineAnswers, HasCause, LineSettles};
 ghost use Rattle.eumel_top.specs.declared.command.Command.{Command};
 
 use crate::command::{Command, command_of};
+use crate::play::play;
 use edge::{Disk, Sink, Source};
 use line_command::{Status, run_line};
 use std::alloc::Global;
@@ -36,10 +38,19 @@ pub fn eumel<D: Disk, S: Source, K: Sink>(
     ensures line_settles { Names (map string_bytes words.now) Command.Line →
         ¬ Rose (S.faults source.old) (S.faults source.new) → ¬ Rose (K.faults sink.old) (K.faults sink.new) →
         LineSettles (S.left source.old) result }
+    // `play`: what is put and taken with each status, in the form with channels; the disk is not touched.
+    ensures play { Names (map string_bytes words.now) Command.Play →
+        PlayAnswers false (S.left source.old) (S.left source.new) (K.taken sink.old) (K.taken sink.new) result }
+    ensures play_disk { Names (map string_bytes words.now) Command.Play → disk.new ≡ disk.old }
+    // `play`: where no count rose, the status follows from the bytes, or memory was wanting.
+    ensures play_settles { Names (map string_bytes words.now) Command.Play →
+        ¬ Rose (S.faults source.old) (S.faults source.new) → ¬ Rose (K.faults sink.old) (K.faults sink.new) →
+        PlaySettles false (S.left source.old) result }
 {
     let _ = disk;
     match command_of(words) {
         Some(Command::Line) => run_line(alloc, source, sink),
+        Some(Command::Play) => play(alloc, source, sink),
         None => Status::BadWords,
     }
 }

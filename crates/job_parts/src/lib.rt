@@ -1,7 +1,7 @@
 //! What a command that runs is made of, which is let go here alone: what runs it has nothing to prove of these parts then.
 #![tactic(auto)]
 
-use packet_store::Compiled;
+pub use packet_store::Compiled;
 use task_run::TaskRun;
 
 /// Lets what is compiled go.

@@ -16,8 +16,8 @@ use Rattle.live_spaces.specs.Kept.{KeepsBytes}
 use Rattle.live_spaces.specs.Live.{space_roots}
 use Rattle.space_memory.specs.Memories.{MemoryData, HoldsAll, roots}
 use Rattle.elan_types.specs.Eval.{Slot, World}
-use Rattle.source_machine.specs.Stores.{Store}
-use Rattle.source_machine.specs.Tasks.{Command, Doing, Idle, Entering, Running, Own, store_in}
+use Rattle.task_job.specs.Below.source_machine.specs.Stores.{Store}
+use Rattle.task_job.specs.Below.source_machine.specs.Tasks.{Command, Doing, Idle, Entering, Running, Own, store_in}
 use Rattle.task_job.specs.Standing.{KeepsSpaces, KeepsVariables, Keeps, Leaves, RunsFor}
 use Rattle.live_task.specs.Stands.{DoesAs, StandsFor, StandsOver}
 use Rattle.task_job.specs.declared.job.Job.{Job}

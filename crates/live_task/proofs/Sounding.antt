@@ -6,7 +6,7 @@ use Rattle.eu_base.specs.declared.stop.Stop.{Stop}
 use Rattle.space_names.specs.Directory as directory
 use Rattle.space_memory.specs.Memories.{MemoryData}
 use Rattle.space_memory.specs.Changes.{OnlyVariables}
-use Rattle.source_machine.specs.Stores.{most_spaces, last_number}
+use Rattle.task_job.specs.Below.source_machine.specs.Stores.{most_spaces, last_number}
 use Rattle.live_task.specs.Stands.{IsSoundDoing, IsSound, EndsAs}
 use Rattle.live_task.specs.declared.task.Task.{Task}
 use Rattle.live_task.specs.declared.task.Doing.{Doing as Does}

@@ -20,8 +20,8 @@ use Rattle.code_form.specs.declared.halt.Halt.TheVariants as halts
 use Rattle.code_form.specs.Runs.{asked}
 use Rattle.elan_types.specs.Eval.{World}
 use Rattle.elan_types.specs.Command.{Ending, Ended, Stopped, OutOfMarks, Asks}
-use Rattle.source_machine.specs.Stores.{Store, new_store}
-use Rattle.source_machine.specs.Tasks.{Command, Doing, Idle, Entering, Running, Own, ending, world_of, store_in, own_variables, request_of, with_reply, with_reply_to, replied, with_doing}
+use Rattle.task_job.specs.Below.source_machine.specs.Stores.{Store, new_store}
+use Rattle.task_job.specs.Below.source_machine.specs.Tasks.{Command, Doing, Idle, Entering, Running, Own, ending, world_of, store_in, own_variables, request_of, with_reply, with_reply_to, replied, with_doing}
 use Rattle.task_job.specs.Standing.{HoldSpaces, none, Keeps, Left, Leaves, RunsFor, RestsFor, IsSoundJob}
 use Rattle.live_task.specs.Stands.{DoesAs, StandsFor, StandsOver, IsOver, EndsAs, WentAs, WentOn, HaltedAs, IsSoundDoing, IsSound, IsWhole}
 use Rattle.task_job.specs.declared.job.Job.{Job}

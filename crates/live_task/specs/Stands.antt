@@ -11,11 +11,11 @@ use Rattle.space_memory.specs.Memories.{MemoryData}
 use Rattle.code_gen.specs.Correct.{Behaves}
 use Rattle.elan_types.specs.Eval.{World}
 use Rattle.elan_types.specs.Command.{Ending, Ended, Stopped, OutOfMarks, Asks}
-use Rattle.packet_store.specs.Units.{IsUnit}
+use Rattle.task_job.specs.Below.packet_store.specs.Units.{IsUnit}
 use Rattle.source_texts.specs.declared.shape.TheConstants.{LONGEST_LINE}
 use Rattle.source_texts.specs.Sources.{most_lines}
-use Rattle.source_machine.specs.Stores.{Store, most_spaces, last_number}
-use Rattle.source_machine.specs.Tasks.{Command, Doing, Idle, Entering, Running, Own, ending, world_of, store_in, own_variables, spent, with_doing}
+use Rattle.task_job.specs.Below.source_machine.specs.Stores.{Store, most_spaces, last_number}
+use Rattle.task_job.specs.Below.source_machine.specs.Tasks.{Command, Doing, Idle, Entering, Running, Own, ending, world_of, store_in, own_variables, spent, with_doing}
 use Rattle.task_job.specs.Standing.{Keeps, Left, Leaves, RunsFor, IsSoundJob}
 use Rattle.task_job.specs.declared.job.Job.{Job}
 use Rattle.live_task.specs.declared.task.Task.{Task}

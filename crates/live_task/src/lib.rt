@@ -4,3 +4,4 @@
 mod task;
 
 pub use task::{Doing, Task, Went};
+pub use task_job::Compiled;

@@ -6,11 +6,11 @@ ghost use Rattle.page_pool.specs.Pool.{Pages};
 ghost use Rattle.page_table.specs.Frames.{Frames, Stands};
 ghost use Rattle.code_form.specs.Runs.{asked};
 ghost use Rattle.code_gen.specs.Correct.{Behaves};
-ghost use Rattle.packet_store.specs.Units.{IsUnit};
+ghost use Rattle.task_job.specs.Below.packet_store.specs.Units.{IsUnit};
 ghost use Rattle.space_memory.specs.Memories.{roots};
-ghost use Rattle.source_machine.specs.Stores.{Store, new_store};
-ghost use Rattle.source_machine.specs.Tasks.{Command, Own, Idle as Idles, Running as Runs, starting, request_of, replied, store_in, with_doing};
-ghost use Rattle.source_machine.specs.Monitor.{with_packet};
+ghost use Rattle.task_job.specs.Below.source_machine.specs.Stores.{Store, new_store};
+ghost use Rattle.task_job.specs.Below.source_machine.specs.Tasks.{Command, Own, Idle as Idles, Running as Runs, starting, request_of, replied, store_in, with_doing};
+ghost use Rattle.task_job.specs.Below.source_machine.specs.Monitor.{with_packet};
 ghost use Rattle.elan_types.specs.Eval.{World};
 ghost use Rattle.live_task.specs.declared.task.Doing.TheVariants.{Idle, Running};
 ghost use Rattle.task_job.specs.declared.job.Job.{Job};
@@ -18,13 +18,11 @@ ghost use Rattle.live_task.specs.Stands.{StandsFor, StandsOver, IsSound, IsWhole
 
 use code_form::{Code, Halt};
 use eu_base::{Bytes, List, NoMemory, Reply, Request, Stop};
-use job_parts::let_run_go;
-use packet_store::Compiled;
 use page_pool::Pool;
 use space_memory::SpaceMemory;
 use std::alloc::Global;
 use std::mem;
-use task_job::Job;
+use task_job::{Compiled, Job, let_run_go};
 
 /// What a task does.
 #[derive(Drop)]

@@ -5,8 +5,8 @@ use Rattle.page_pool.specs.Pool.{Pages}
 use Rattle.page_table.specs.Frames.{Frames}
 use Rattle.page_table.proofs.Framing.{agree_same, frames_none}
 use Rattle.space_memory.specs.Memories.{roots}
-use Rattle.live_task.specs.declared.task.Task.{Task}
-use Rattle.live_task.specs.Stands.{IsSound}
+use Rattle.task_texts.specs.Below.live_task.specs.declared.task.Task.{Task}
+use Rattle.task_texts.specs.Below.live_task.specs.Stands.{IsSound}
 use Rattle.live_tasks.specs.Tasks.{IsFit, task_roots, most_roots}
 use Rattle.live_tasks.proofs.Owning.{joined, agrees_nil}
 use Rattle.live_tasks.proofs.Standing.{low, roots_fit, fits_with, more_fits}

@@ -4,10 +4,10 @@ use Rattle.std.proofs.lemmas.List.{length-map}
 use Rattle.page_pool.specs.Pool.{Pages}
 use Rattle.data_space.specs.Data.{SpaceData}
 use Rattle.source_texts.specs.Spaces.{Space}
-use Rattle.source_machine.specs.Systems.{new_own}
-use Rattle.task_job.specs.Standing.{HoldSpaces, none, one}
-use Rattle.live_task.specs.declared.task.Task.{Task}
-use Rattle.live_task.specs.Stands.{StandsFor}
+use Rattle.task_texts.specs.Below.source_machine.specs.Systems.{new_own}
+use Rattle.task_texts.specs.Below.task_job.specs.Standing.{HoldSpaces, none, one}
+use Rattle.task_texts.specs.Below.live_task.specs.declared.task.Task.{Task}
+use Rattle.task_texts.specs.Below.live_task.specs.Stands.{StandsFor}
 use Rattle.live_tasks.specs.Tasks.{task_roots}
 
 as_many : {pages : Pages} {paged : List (ℕ × SpaceData)} {spaces : List (ℕ × Space)} → HoldSpaces pages paged spaces → length paged ≡ length spaces

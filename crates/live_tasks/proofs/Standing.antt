@@ -13,12 +13,12 @@ use Rattle.page_table.specs.Entries.{Names}
 use Rattle.page_table.specs.Frames.{content_at, Frames, Stands}
 use Rattle.page_table.specs.Sharing.{occ, Agree, most_spaces}
 use Rattle.page_table.proofs.Framing.{agree_same}
-use Rattle.source_machine.specs.Tasks.{Own}
-use Rattle.source_machine.specs.Systems.{with_own}
-use Rattle.source_machine.specs.Ends.{has_packet}
-use Rattle.live_task.specs.declared.task.Task.{Task}
-use Rattle.live_task.specs.Stands.{StandsFor, IsSound}
-use Rattle.live_task.proofs.Carried.{stands_carried}
+use Rattle.task_texts.specs.Below.source_machine.specs.Tasks.{Own}
+use Rattle.task_texts.specs.Below.source_machine.specs.Systems.{with_own}
+use Rattle.task_texts.specs.Below.source_machine.specs.Ends.{has_packet}
+use Rattle.task_texts.specs.Below.live_task.specs.declared.task.Task.{Task}
+use Rattle.task_texts.specs.Below.live_task.specs.Stands.{StandsFor, IsSound}
+use Rattle.task_texts.specs.Below.live_task.proofs.Carried.{stands_carried}
 use Rattle.task_ends.specs.Refused.{Refused}
 use Rattle.live_tasks.specs.Tasks.{Live, IsFit, StandIn, Stand, StandBut, task_roots, all_roots, most_tasks, most_roots}
 use Rattle.live_tasks.proofs.Owning.{joined, grown, not_many, split, stands, agrees, others_same, agrees_refused, all_carried, others_stand}

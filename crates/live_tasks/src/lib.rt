@@ -5,4 +5,5 @@ mod looks;
 mod tasks;
 mod texts;
 
+pub use task_texts::{Source, Went};
 pub use tasks::Tasks;

@@ -4,18 +4,17 @@ ghost use Rattle.eu_base.specs.declared.value.Kind.{Kind};
 ghost use Rattle.page_pool.specs.Pool.{Pages};
 ghost use Rattle.source_texts.specs.Sources.{most_lines};
 ghost use Rattle.named_texts.specs.Sources.{source_in, IsShort};
-ghost use Rattle.source_machine.specs.Stores.{Store, entering_refusal, space_under};
-ghost use Rattle.source_machine.specs.Tasks.{Own, Entering as Enters, now, is_running};
-ghost use Rattle.source_machine.specs.Monitor.{directory_of};
-ghost use Rattle.source_machine.specs.Supervisor.{spaces_of, state_of};
+ghost use Rattle.task_texts.specs.Below.source_machine.specs.Stores.{Store, entering_refusal, space_under};
+ghost use Rattle.task_texts.specs.Below.source_machine.specs.Tasks.{Own, Entering as Enters, now, is_running};
+ghost use Rattle.task_texts.specs.Below.source_machine.specs.Monitor.{directory_of};
+ghost use Rattle.task_texts.specs.Below.source_machine.specs.Supervisor.{spaces_of, state_of};
 ghost use Rattle.task_texts.specs.Doings.{is_idle, is_entering};
 ghost use Rattle.live_tasks.specs.Tasks.{Stand, StandIn, most_tasks};
 
 use crate::tasks::Tasks;
 use eu_base::{Bytes, List, NoMemory, Stop};
-use live_task::Task;
 use std::alloc::Global;
-use task_texts::Source;
+use task_texts::{Source, Task};
 
 impl Tasks {
     /// Whether a task runs no command, and no text is entered.

@@ -5,22 +5,21 @@ ghost use Rattle.eu_base.specs.declared.value.Kind.{Kind};
 ghost use Rattle.cell_kinds.specs.Kinds.{packet_kinds};
 ghost use Rattle.code_gen.specs.Correct.{Behaves};
 ghost use Rattle.elan_types.specs.Eval.{World};
-ghost use Rattle.packet_store.specs.Units.{IsUnit};
-ghost use Rattle.source_machine.specs.Stores.{Store, heir};
-ghost use Rattle.source_machine.specs.Tasks.{Command, Own, Idle as Idles, Running as Runs, now, starting, request_of, replied, own_variables, settled, store_in, with_doing};
-ghost use Rattle.source_machine.specs.Systems.{with_own, new_own};
-ghost use Rattle.source_machine.specs.Ends.{has_packet};
-ghost use Rattle.source_machine.specs.Monitor.{with_packet};
-ghost use Rattle.live_task.specs.Stands.{IsWhole};
+ghost use Rattle.task_texts.specs.Below.packet_store.specs.Units.{IsUnit};
+ghost use Rattle.task_texts.specs.Below.source_machine.specs.Stores.{Store, heir};
+ghost use Rattle.task_texts.specs.Below.source_machine.specs.Tasks.{Command, Own, Idle as Idles, Running as Runs, now, starting, request_of, replied, own_variables, settled, store_in, with_doing};
+ghost use Rattle.task_texts.specs.Below.source_machine.specs.Systems.{with_own, new_own};
+ghost use Rattle.task_texts.specs.Below.source_machine.specs.Ends.{has_packet};
+ghost use Rattle.task_texts.specs.Below.source_machine.specs.Monitor.{with_packet};
+ghost use Rattle.task_texts.specs.Below.live_task.specs.Stands.{IsWhole};
 ghost use Rattle.live_tasks.specs.Tasks.{Stand, StandOver, AgreeBut, WentOn, HaltedAs, most_tasks};
 
 use code_form::Code;
 use eu_base::{NoMemory, Reply, Request};
-use live_task::{Task, Went};
-use packet_store::Compiled;
 use page_pool::Pool;
 use std::alloc::Global;
 use std::marker::Model;
+use task_texts::{Compiled, Task, Went};
 
 /// All tasks, in the order of the tree, over the pool of their pages.
 #[derive(Drop)]
@@ -32,7 +31,7 @@ pub struct Tasks {
 impl Model for Tasks {
     ghost use Rattle.std.specs.Coded.{codes};
     ghost use Rattle.page_pool.specs.contracts.pool.Pool as pools;
-    ghost use Rattle.live_task.specs.contracts.task.Task as one_task;
+    ghost use Rattle.task_texts.specs.Below.live_task.specs.contracts.task.Task as one_task;
     ghost use Rattle.live_tasks.specs.Tasks.{Live, IsFit};
 
     ghost Value = { Live };

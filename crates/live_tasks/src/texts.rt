@@ -4,9 +4,9 @@ ghost use Rattle.eu_base.specs.declared.value.Kind.{Kind};
 ghost use Rattle.space_memory.specs.Memories.{roots};
 ghost use Rattle.source_texts.specs.declared.shape.TheConstants.{LONGEST_LINE};
 ghost use Rattle.source_texts.specs.Sources.{most_lines, source_space};
-ghost use Rattle.source_machine.specs.Stores.{Store, entering_refusal, with_named};
-ghost use Rattle.source_machine.specs.Tasks.{Own, Idle as Idles, Entering as Enters, with_doing};
-ghost use Rattle.source_machine.specs.Systems.{with_own};
+ghost use Rattle.task_texts.specs.Below.source_machine.specs.Stores.{Store, entering_refusal, with_named};
+ghost use Rattle.task_texts.specs.Below.source_machine.specs.Tasks.{Own, Idle as Idles, Entering as Enters, with_doing};
+ghost use Rattle.task_texts.specs.Below.source_machine.specs.Systems.{with_own};
 ghost use Rattle.task_texts.specs.Doings.{is_entering};
 ghost use Rattle.live_tasks.specs.Tasks.{Stand, most_roots};
 

@@ -1,3 +1,4 @@
 pub mod Meaning
 pub mod Units
 pub mod Library
+pub mod Below

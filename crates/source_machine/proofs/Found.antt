@@ -30,17 +30,17 @@ use Rattle.elan_rules.proofs.First.{bind_gives, gives_is}
 use Rattle.elan_bodies.specs.Level.{text_parts}
 use Rattle.elan_unbuilt.specs.NotBuilt as unbuilt
 use Rattle.type_names.specs.Faults.{first_fault}
-use Rattle.elan_check.specs.declared.error.CheckError.TheVariants as check
-use Rattle.elan_check.specs.Packets.{AreCompiled}
-use Rattle.elan_check.specs.Text.{Answers, bodies_known, judged_text, earliest, faults, core_of}
-use Rattle.elan_check.proofs.Inserted.{is_sound}
-use Rattle.elan_check.proofs.Spots.{never_hangs}
-use Rattle.elan_check.proofs.Checked.{text_checked}
-use Rattle.packet_store.specs.declared.error.Refusal.TheVariants.{NoToken, TooMany, NotElan, NotBuilt, NoMeaning}
-use Rattle.packet_store.specs.declared.unit.Source.TheVariants.{Text}
-use Rattle.packet_store.specs.Meaning.{HasTokens, means, no_token, too_many, no_tree, not_built, no_meaning}
-use Rattle.packet_store.specs.Units.{shown_by}
-use Rattle.packet_store.proofs.ReadAs.{kind_read, shown_is}
+use Rattle.refusals.specs.Below.elan_check.specs.declared.error.CheckError.TheVariants as check
+use Rattle.refusals.specs.Below.elan_check.specs.Packets.{AreCompiled}
+use Rattle.refusals.specs.Below.elan_check.specs.Text.{Answers, bodies_known, judged_text, earliest, faults, core_of}
+use Rattle.refusals.specs.Below.elan_check.proofs.Inserted.{is_sound}
+use Rattle.refusals.specs.Below.elan_check.proofs.Spots.{never_hangs}
+use Rattle.refusals.specs.Below.elan_check.proofs.Checked.{text_checked}
+use Rattle.refusals.specs.Below.packet_store.specs.declared.error.Refusal.TheVariants.{NoToken, TooMany, NotElan, NotBuilt, NoMeaning}
+use Rattle.refusals.specs.Below.packet_store.specs.declared.unit.Source.TheVariants.{Text}
+use Rattle.refusals.specs.Below.packet_store.specs.Meaning.{HasTokens, means, no_token, too_many, no_tree, not_built, no_meaning}
+use Rattle.refusals.specs.Below.packet_store.specs.Units.{shown_by}
+use Rattle.refusals.specs.Below.packet_store.proofs.ReadAs.{kind_read, shown_is}
 use Rattle.source_machine.specs.Monitor.{Reading, Compiles, Refuses}
 use Rattle.source_machine.specs.Readings.{ReadsSo, IsReading}
 

@@ -8,3 +8,4 @@ pub mod Readings
 pub mod Turns
 pub mod Supervisor
 pub mod Events
+pub mod Below

@@ -13,8 +13,8 @@ use Rattle.eu_base.specs.declared.request.Reply.TheVariants as replies
 use Rattle.task_tree.specs.Tree as tree
 use Rattle.task_walks.specs.Families.{family}
 use Rattle.terminals.specs.Channels as channels
-use Rattle.packet_store.specs.declared.unit.Compiled.{Compiled}
-use Rattle.packet_store.specs.Library.{started_at}
+use Rattle.refusals.specs.Below.packet_store.specs.declared.unit.Compiled.{Compiled}
+use Rattle.refusals.specs.Below.packet_store.specs.Library.{started_at}
 use Rattle.source_machine.specs.Stores.{is_name, heir}
 use Rattle.source_machine.specs.Tasks.{Running, starting}
 use Rattle.source_machine.specs.Systems.{System, Moment, packets, kept, on_system, on_channels, back, write, uncouple_at}

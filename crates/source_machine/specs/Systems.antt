@@ -12,7 +12,7 @@ use Rattle.terminals.specs.Channels.{Channel}
 use Rattle.terminals.specs.Channels as channels
 use Rattle.output_pieces.specs.Display.{Display, blank}
 use Rattle.output_pieces.specs.Display as display
-use Rattle.packet_store.specs.Library.{Library, none_live}
+use Rattle.refusals.specs.Below.packet_store.specs.Library.{Library, none_live}
 use Rattle.source_machine.specs.Stores.{Store, new_store}
 use Rattle.source_machine.specs.Tasks.{Command, Doing, Idle, Own, now, request_of, replied, is_running, command_of, with_doing}
 

@@ -7,7 +7,7 @@ ghost use Rattle.task_walks.specs.Families as families;
 ghost use Rattle.slicer.specs.Rotation as rotation;
 ghost use Rattle.terminals.specs.Channels as terminal;
 ghost use Rattle.output_pieces.specs.Display as shows;
-ghost use Rattle.packet_store.specs.Library.{Library};
+ghost use Rattle.source_machine.specs.Below.packet_store.specs.Library.{Library};
 ghost use Rattle.source_machine.specs.Tasks.{Own};
 ghost use Rattle.source_machine.specs.Systems as machine;
 ghost use Rattle.source_machine.specs.Ends as ends;

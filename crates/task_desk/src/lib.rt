@@ -4,3 +4,4 @@
 mod desk;
 
 pub use desk::TaskDesk;
+pub use source_machine::one_reading;

@@ -15,7 +15,7 @@ use Rattle.place_gen.specs.Correct.{StandsFor, HasVariables}
 use Rattle.elan_types.specs.Eval.{Slot, Holds}
 use Rattle.packet_cells.specs.Freed.{HoldsOf, HoldEach, freed}
 use Rattle.packet_cells.proofs.Freeing.{kept_before, free_there}
-use Rattle.task_job.specs.Standing.{HasBehind, KeepsVariables}
+use Rattle.live_task.specs.Below.task_job.specs.Standing.{HasBehind, KeepsVariables}
 
 in_first : {A : Type 0} (xs ys : List A) (x : ℕ) (y : A) → slice_get xs x ≡ Some y → slice_get (xs ++ ys) x ≡ Some y
 in_first [] ys x y e = absurd (cc e)

@@ -11,14 +11,14 @@ use Rattle.live_spaces.specs.Kept.{KeepsBytes}
 use Rattle.space_memory.specs.Memories.{MemoryData, HoldsAll, heir, roots}
 use Rattle.space_memory.specs.Changes.{OnlyVariables}
 use Rattle.space_memory.proofs.Fresh.{nothing_held}
-use Rattle.source_machine.specs.Stores as stores
-use Rattle.source_machine.specs.Stores.{Store}
-use Rattle.source_machine.specs.Tasks.{Command, Doing, Idle, Entering, Running, Own, ending, world_of, store_in, own_variables, now}
-use Rattle.task_job.specs.Standing.{HoldSpaces, none, KeepsSpaces, KeepsVariables, Keeps, RunsFor}
-use Rattle.task_job.specs.declared.job.Job.{Job}
-use Rattle.task_job.proofs.Beginning.{same_variables}
-use Rattle.task_job.proofs.Keeping.{idle, idle_run, idle_packets, idle_behind}
-use Rattle.task_job.proofs.Standing.{only_keeps, many_own, left_now}
+use Rattle.live_task.specs.Below.source_machine.specs.Stores as stores
+use Rattle.live_task.specs.Below.source_machine.specs.Stores.{Store}
+use Rattle.live_task.specs.Below.source_machine.specs.Tasks.{Command, Doing, Idle, Entering, Running, Own, ending, world_of, store_in, own_variables, now}
+use Rattle.live_task.specs.Below.task_job.specs.Standing.{HoldSpaces, none, KeepsSpaces, KeepsVariables, Keeps, RunsFor}
+use Rattle.live_task.specs.Below.task_job.specs.declared.job.Job.{Job}
+use Rattle.live_task.specs.Below.task_job.proofs.Beginning.{same_variables}
+use Rattle.live_task.specs.Below.task_job.proofs.Keeping.{idle, idle_run, idle_packets, idle_behind}
+use Rattle.live_task.specs.Below.task_job.proofs.Standing.{only_keeps, many_own, left_now}
 use Rattle.live_task.specs.Stands.{DoesAs, StandsFor}
 use Rattle.live_task.specs.declared.task.Task.{Task}
 use Rattle.live_task.specs.declared.task.Doing.TheVariants as does

@@ -8,10 +8,10 @@ use Rattle.page_pool.specs.Pool.{Pages}
 use Rattle.space_memory.specs.Memories.{MemoryData, HoldsAll}
 use Rattle.space_memory.specs.Changes.{OnlyVariables}
 use Rattle.elan_types.specs.Eval.{Slot, World}
-use Rattle.packet_store.specs.declared.unit.Compiled.{Compiled}
-use Rattle.source_machine.specs.Tasks.{Command, Own, Idle, own_variables, settled, store_in, with_doing}
-use Rattle.task_job.specs.Standing.{HasBehind, KeepsVariables}
-use Rattle.task_job.proofs.Standing.{only_keeps}
+use Rattle.live_task.specs.Below.packet_store.specs.declared.unit.Compiled.{Compiled}
+use Rattle.live_task.specs.Below.source_machine.specs.Tasks.{Command, Own, Idle, own_variables, settled, store_in, with_doing}
+use Rattle.live_task.specs.Below.task_job.specs.Standing.{HasBehind, KeepsVariables}
+use Rattle.live_task.specs.Below.task_job.proofs.Standing.{only_keeps}
 use Rattle.live_task.specs.Stands.{StandsFor, StandsOver}
 use Rattle.live_task.specs.declared.task.Task.{Task}
 

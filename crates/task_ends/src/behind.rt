@@ -8,11 +8,11 @@ ghost use Rattle.elan_types.specs.Eval.{Slot};
 ghost use Rattle.space_memory.specs.Memories.{roots, HoldsAll};
 ghost use Rattle.space_memory.specs.Changes.{OnlyVariables};
 ghost use Rattle.packet_cells.specs.Freed.{HoldEach, freed};
-ghost use Rattle.task_job.specs.Standing.{HasBehind, KeepsVariables};
+ghost use Rattle.live_task.specs.Below.task_job.specs.Standing.{HasBehind, KeepsVariables};
 
 use eu_base::{CELLS, MemFault, NoMemory, Shape};
+use live_task::Compiled;
 use packet_cells::{count_cells, free_shapes};
-use packet_store::Compiled;
 use page_pool::Pool;
 use space_memory::SpaceMemory;
 use std::alloc::Global;

@@ -4,13 +4,12 @@ ghost use Rattle.eu_base.specs.declared.value.Kind.{Kind};
 ghost use Rattle.page_table.specs.Frames.{Frames, Stands};
 ghost use Rattle.space_memory.specs.Memories.{roots};
 ghost use Rattle.elan_types.specs.Eval.{World};
-ghost use Rattle.source_machine.specs.Tasks.{Command, Own, Idle, own_variables, settled, store_in, with_doing};
+ghost use Rattle.live_task.specs.Below.source_machine.specs.Tasks.{Command, Own, Idle, own_variables, settled, store_in, with_doing};
 ghost use Rattle.live_task.specs.Stands.{StandsFor, StandsOver, IsSound};
 
 use crate::behind::free_behind;
 use eu_base::NoMemory;
-use live_task::Task;
-use packet_store::Compiled;
+use live_task::{Compiled, Task};
 use page_pool::Pool;
 use std::alloc::Global;
 

@@ -4,9 +4,9 @@ ghost use Rattle.eu_base.specs.declared.value.Kind.{Kind};
 ghost use Rattle.page_table.specs.Frames.{Frames, Stands};
 ghost use Rattle.live_spaces.specs.Kept.{KeepsBytes};
 ghost use Rattle.space_memory.specs.Memories.{roots};
-ghost use Rattle.source_machine.specs.Stores.{heir};
-ghost use Rattle.source_machine.specs.Tasks.{Own, Idle, now};
-ghost use Rattle.task_job.specs.Standing.{Keeps};
+ghost use Rattle.live_task.specs.Below.source_machine.specs.Stores.{heir};
+ghost use Rattle.live_task.specs.Below.source_machine.specs.Tasks.{Own, Idle, now};
+ghost use Rattle.live_task.specs.Below.task_job.specs.Standing.{Keeps};
 ghost use Rattle.live_task.specs.Stands.{StandsFor, IsSound};
 ghost use Rattle.task_ends.specs.Refused.{Refused};
 

@@ -23,7 +23,7 @@ use Rattle.place_gen.specs.Correct.{HasVariables, Shows}
 use Rattle.code_gen.specs.Correct.{Behaves}
 use Rattle.elan_types.specs.Eval.{World}
 use Rattle.elan_types.specs.Command.{Ending, Ended, Stopped, OutOfMarks, Asks}
-use Rattle.packet_store.specs.declared.unit.Compiled.{Compiled}
+use Rattle.source_machine.specs.Below.packet_store.specs.declared.unit.Compiled.{Compiled}
 use Rattle.source_machine.specs.Stores.{Store}
 use Rattle.source_machine.specs.Tasks.{Command, ending, world_of, store_in, own_variables, spent, request_in, starting, with_reply}
 use Rattle.task_job.specs.Runs.{asked_by, IsStill, Reaches}

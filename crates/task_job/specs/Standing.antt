@@ -15,7 +15,7 @@ use Rattle.place_gen.specs.Correct.{Image, HasVariables}
 use Rattle.code_gen.specs.Correct.{Behaves}
 use Rattle.elan_types.specs.Eval.{Slot}
 use Rattle.elan_types.specs.Command.{Ending, Ended, Stopped, OutOfMarks, Asks}
-use Rattle.packet_store.specs.Units.{IsUnit}
+use Rattle.source_machine.specs.Below.packet_store.specs.Units.{IsUnit}
 use Rattle.source_texts.specs.Spaces.{Space, HoldsSpace}
 use Rattle.source_machine.specs.Stores.{Store}
 use Rattle.source_machine.specs.Tasks.{Command, store_in, spent}

@@ -5,7 +5,7 @@ ghost use Rattle.cell_kinds.specs.Kinds.{packet_kinds};
 ghost use Rattle.page_table.specs.Frames.{Frames, Stands};
 ghost use Rattle.code_form.specs.Runs.{asked};
 ghost use Rattle.code_gen.specs.Correct.{Behaves};
-ghost use Rattle.packet_store.specs.Units.{IsUnit};
+ghost use Rattle.source_machine.specs.Below.packet_store.specs.Units.{IsUnit};
 ghost use Rattle.space_memory.specs.Memories.{roots};
 ghost use Rattle.space_memory.specs.Changes.{OnlyVariables};
 ghost use Rattle.source_machine.specs.Stores.{Store};
@@ -15,8 +15,7 @@ ghost use Rattle.task_job.specs.Standing.{Keeps, ReachesFor, RunsFor, RestsFor, 
 use crate::lent::{answer_over, go_over, start_over};
 use code_form::{Code, Halt};
 use eu_base::{NoMemory, Reply};
-use job_parts::{let_run_go, let_unit_go};
-use packet_store::Compiled;
+use job_parts::{Compiled, let_run_go, let_unit_go};
 use page_pool::Pool;
 use space_memory::SpaceMemory;
 use std::alloc::Global;

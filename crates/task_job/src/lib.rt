@@ -5,3 +5,4 @@ mod job;
 mod lent;
 
 pub use job::Job;
+pub use job_parts::{Compiled, let_run_go};

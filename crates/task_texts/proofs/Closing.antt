@@ -18,11 +18,11 @@ use Rattle.space_names.specs.Directory as directory
 use Rattle.space_memory.specs.Memories.{MemoryData, HoldsAll}
 use Rattle.named_texts.specs.Texts as texts
 use Rattle.named_texts.specs.Texts.{KeepsText}
-use Rattle.source_machine.specs.Stores as stores
-use Rattle.source_machine.specs.Stores.{Store, with_named}
-use Rattle.source_machine.specs.Tasks.{Own, Idle, Entering, with_doing}
-use Rattle.task_job.specs.Standing.{HoldSpaces, none, one, KeepsSpaces, Keeps}
-use Rattle.task_job.proofs.Keeping.{keeps_spaces}
+use Rattle.live_task.specs.Below.source_machine.specs.Stores as stores
+use Rattle.live_task.specs.Below.source_machine.specs.Stores.{Store, with_named}
+use Rattle.live_task.specs.Below.source_machine.specs.Tasks.{Own, Idle, Entering, with_doing}
+use Rattle.live_task.specs.Below.task_job.specs.Standing.{HoldSpaces, none, one, KeepsSpaces, Keeps}
+use Rattle.live_task.specs.Below.task_job.proofs.Keeping.{keeps_spaces}
 use Rattle.live_task.specs.Stands.{DoesAs, StandsFor}
 use Rattle.live_task.specs.declared.task.Task.{Task}
 use Rattle.live_task.specs.declared.task.Doing.TheVariants as does

@@ -17,15 +17,15 @@ use Rattle.named_texts.specs.Texts.{under}
 use Rattle.named_texts.specs.Sources.{source_in}
 use Rattle.named_texts.specs.declared.look.Source.{Source}
 use Rattle.named_texts.specs.declared.look.Source.TheVariants.{NoSpace}
-use Rattle.source_machine.specs.Stores.{Store, is_name, most_spaces, last_number, space_under, entering_refusal}
-use Rattle.source_machine.specs.Supervisor.{state_of, running_state}
-use Rattle.source_machine.specs.Tasks.{Doing, Idle, Entering, Running, Own, now, request_of}
-use Rattle.source_machine.specs.Monitor.{directory_of}
-use Rattle.task_job.specs.Standing.{HoldSpaces, none, one, KeepsSpaces}
+use Rattle.live_task.specs.Below.source_machine.specs.Stores.{Store, is_name, most_spaces, last_number, space_under, entering_refusal}
+use Rattle.live_task.specs.Below.source_machine.specs.Supervisor.{state_of, running_state}
+use Rattle.live_task.specs.Below.source_machine.specs.Tasks.{Doing, Idle, Entering, Running, Own, now, request_of}
+use Rattle.live_task.specs.Below.source_machine.specs.Monitor.{directory_of}
+use Rattle.live_task.specs.Below.task_job.specs.Standing.{HoldSpaces, none, one, KeepsSpaces}
 use Rattle.live_task.specs.Stands.{DoesAs, StandsFor}
 use Rattle.live_task.specs.declared.task.Task.{Task}
 use Rattle.live_task.specs.declared.task.Doing.TheVariants as does
-use Rattle.task_job.specs.declared.job.Job.{Job}
+use Rattle.live_task.specs.Below.task_job.specs.declared.job.Job.{Job}
 use Rattle.task_texts.specs.Doings.{is_idle, is_entering, rests, enters}
 
 -- ---- spaces that stand for others

@@ -4,8 +4,8 @@ ghost use Rattle.eu_base.specs.declared.value.Kind.{Kind};
 ghost use Rattle.page_table.specs.Frames.{Frames, Stands};
 ghost use Rattle.space_memory.specs.Memories.{roots};
 ghost use Rattle.source_texts.specs.Sources.{source_space};
-ghost use Rattle.source_machine.specs.Stores.{Store, with_named};
-ghost use Rattle.source_machine.specs.Tasks.{Own, Idle as Idles, Entering as Enters, with_doing};
+ghost use Rattle.live_task.specs.Below.source_machine.specs.Stores.{Store, with_named};
+ghost use Rattle.live_task.specs.Below.source_machine.specs.Tasks.{Own, Idle as Idles, Entering as Enters, with_doing};
 ghost use Rattle.live_task.specs.Stands.{StandsFor, IsSound};
 
 use crate::doing::take_text;

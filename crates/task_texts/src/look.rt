@@ -5,10 +5,10 @@ ghost use Rattle.page_pool.specs.Pool.{Pages};
 ghost use Rattle.page_table.specs.Frames.{Stands};
 ghost use Rattle.space_memory.specs.Memories.{roots};
 ghost use Rattle.named_texts.specs.Sources.{source_in, IsShort};
-ghost use Rattle.source_machine.specs.Stores.{space_under};
-ghost use Rattle.source_machine.specs.Tasks.{Own, now};
-ghost use Rattle.source_machine.specs.Monitor.{directory_of};
-ghost use Rattle.source_machine.specs.Supervisor.{spaces_of, state_of, running_state};
+ghost use Rattle.live_task.specs.Below.source_machine.specs.Stores.{space_under};
+ghost use Rattle.live_task.specs.Below.source_machine.specs.Tasks.{Own, now};
+ghost use Rattle.live_task.specs.Below.source_machine.specs.Monitor.{directory_of};
+ghost use Rattle.live_task.specs.Below.source_machine.specs.Supervisor.{spaces_of, state_of, running_state};
 ghost use Rattle.live_task.specs.Stands.{StandsFor};
 
 use eu_base::{Bytes, List, NoMemory, Request};

@@ -3,8 +3,8 @@ ghost use Rattle.std.specs.Prelude.{◌≡◌, ◌<◌, ◌&&◌, nat_le, is_non
 ghost use Rattle.eu_base.specs.declared.value.Kind.{Kind};
 ghost use Rattle.page_pool.specs.Pool.{Pages};
 ghost use Rattle.space_names.specs.Directory as directory;
-ghost use Rattle.source_machine.specs.Stores.{is_name, most_spaces, last_number, entering_refusal};
-ghost use Rattle.source_machine.specs.Tasks.{Own, now};
+ghost use Rattle.live_task.specs.Below.source_machine.specs.Stores.{is_name, most_spaces, last_number, entering_refusal};
+ghost use Rattle.live_task.specs.Below.source_machine.specs.Tasks.{Own, now};
 ghost use Rattle.live_task.specs.Stands.{StandsFor};
 
 use eu_base::Stop;

@@ -1,4 +1,4 @@
-use Rattle.task_job.proofs.Framed.{only_many}
+use Rattle.live_task.specs.Below.task_job.proofs.Framed.{only_many}
 use Rattle.live_task.proofs.Sounding.{sound_only}
 use Rattle.task_ends.proofs.Settled.{settled_so}
 use Rattle.task_ends.proofs.settling.settle.Goals as goal

@@ -1,7 +1,7 @@
 use Rattle.std.proofs.Common.{sym, subst, ◌∙◌}
 use Rattle.page_pool.specs.Pool.{Pages}
 use Rattle.space_memory.specs.Memories.{roots}
-use Rattle.task_job.proofs.Framed.{only_many, only_stands}
+use Rattle.live_task.specs.Below.task_job.proofs.Framed.{only_many, only_stands}
 use Rattle.task_ends.specs.Refused.{Refused}
 use Rattle.task_ends.proofs.Pages as pages
 use Rattle.task_ends.proofs.Heirs.{son_of_idle, son_of_running}

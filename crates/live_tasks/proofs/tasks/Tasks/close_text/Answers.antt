@@ -1,7 +1,7 @@
 use Rattle.std.proofs.Common.{arith}
 use Rattle.source_texts.specs.Sources.{source_space}
-use Rattle.source_machine.specs.Stores.{with_named}
-use Rattle.source_machine.specs.Tasks.{Idle, with_doing}
+use Rattle.task_texts.specs.Below.source_machine.specs.Stores.{with_named}
+use Rattle.task_texts.specs.Below.source_machine.specs.Tasks.{Idle, with_doing}
 use Rattle.live_tasks.proofs.Standing.{reads, stood, stands_at, but_one, call_sound, call_stands, more_puts}
 use Rattle.live_tasks.proofs.Closing.{both_ok, closed_fits}
 use Rattle.live_tasks.proofs.tasks.Tasks.close_text.Goals as goal

@@ -1,0 +1,3 @@
+pub mod PacketKinds
+pub mod Owns
+pub mod Installing

@@ -1,0 +1,13 @@
+//! The live packets, with the tasks that have them, and what changes of both together.
+#![tactic(auto)]
+
+mod changes;
+mod packets;
+mod place;
+
+pub use changes::{begin_task, can_begin, can_end, install, remove, said_of, start_unit};
+pub use live_tasks::{Tasks, Went};
+pub use packets::{Packets, told};
+pub use place::{last_of, place_of};
+pub use refusals::Unit;
+pub use task_desk::{TaskDesk, one_reading};

@@ -1,0 +1,10 @@
+pub mod Beginning
+pub mod Ending
+pub mod Finishing
+pub mod Going
+pub mod Moments
+pub mod Living
+pub mod Opening
+pub mod Reading
+pub mod Told
+pub mod Whats

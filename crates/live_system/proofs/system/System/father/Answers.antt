@@ -1,0 +1,9 @@
+use Rattle.live_packets.specs.Below.source_machine.specs.Systems.{Moment}
+use Rattle.task_tree.specs.Tree as tree
+use Rattle.live_system.proofs.Moments.{looked}
+use Rattle.live_system.proofs.system.System.father.Goals as goal
+
+pub returns : goal.returns
+returns c =
+    looked c.self.inside.desk c.self.inside.packets c.self.inside.tasks c.args.self.now c.self.view_is
+    (λ (m : Moment). tree.father c.args.task m.system.shared.tree) c.father.result (λ owns. c.father.ensures)

@@ -1,0 +1,33 @@
+use Rattle.std.proofs.Common.{sym, ap, ◌∙◌}
+use Rattle.live_packets.specs.Below.packet_store.specs.declared.unit.Compiled.{Compiled}
+use Rattle.live_system.proofs.Finishing.{program_at, settled_at, inserted_at, none_over, shown_some, shown_none}
+use Rattle.live_system.proofs.system.System.finish.Goals as goal
+
+pub finish-requires : goal.finish-requires
+finish-requires c = record {
+  unit = c.compiled.ensures.unit;
+  program = ap (λ (u : Compiled). u.shown) c.compiled.ensures.compiled ∙ shown_none c.args.finished.unit.shown (sym c.is_program.ensures ∙ c.if-is_program.true);
+}
+
+pub returns-in_default : goal.returns-in_default
+returns-in_default c = λ m command w is s.
+    absurd (none_over c.self.inside.desk c.self.inside.packets c.self.inside.tasks c.args.self.now c.self.view_is c.args.task c.in_default.ensures.place command w m s)
+
+pub returns-then-is_program : goal.returns-then-is_program
+returns-then-is_program c = λ m command w is s.
+    program_at c.self.inside.desk c.self.inside.packets c.self.inside.tasks c.args.self.now c.self.view_is c.args.task c.in-Some.place c.in-Some.ensures.place c.in-Some.ensures.within
+    c.args.finished.unit c.args.finished.stop command w m is s (shown_none c.args.finished.unit.shown (sym c.is_program.ensures ∙ c.if-is_program.true))
+    (λ kinds_of owns own d v over has same. c.finish.ensures kinds_of owns own d v over has (same ∙ sym c.compiled.ensures.compiled))
+
+pub returns-in_ok-install-in-None : goal.returns-in_ok-install-in-None
+returns-in_ok-install-in-None c = λ m command w is s.
+    let shows = shown_some c.args.finished.unit.shown (sym c.is_program.ensures ∙ c.if-is_program.false) in
+    inserted_at c.self.inside.desk c.self.inside.packets c.self.inside.tasks c.args.self.now c.self.view_is c.args.task c.in-Some.place c.in-Some.ensures.place c.in-Some.ensures.within
+    c.args.finished.unit c.args.finished.stop command w m is s shows.0 shows.1 c.in-None.ensures c.install.new.packets c.install.new.tasks c.in_ok-install-in-None.ensures
+
+pub returns-in_ok-settle-in-Some-told : goal.returns-in_ok-settle-in-Some-told
+returns-in_ok-settle-in-Some-told c = λ m command w is s.
+    let shows = shown_some c.args.finished.unit.shown (sym c.is_program.ensures ∙ c.if-is_program.false) in
+    settled_at c.self.inside.desk c.self.inside.packets c.self.inside.tasks c.args.self.now c.self.view_is c.args.task c.in-Some.place c.in-Some.ensures.place c.in-Some.ensures.within
+    c.args.finished.unit c.args.finished.stop command w m is s shows.0 shows.1 c.in-Some-told.stop c.in-Some-told.ensures c.settle.new.self
+    (λ kinds_of owns own d v over has same. c.in_ok-settle-in-Some-told.ensures kinds_of owns own d v over has (same ∙ sym c.compiled-in-Some-told.ensures.compiled))

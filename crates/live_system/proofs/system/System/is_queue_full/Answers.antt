@@ -1,0 +1,9 @@
+use Rattle.live_packets.specs.Below.source_machine.specs.Systems.{Moment}
+use Rattle.terminals.specs.Channels as channels
+use Rattle.live_system.proofs.Moments.{looked}
+use Rattle.live_system.proofs.system.System.is_queue_full.Goals as goal
+
+pub returns : goal.returns
+returns c =
+    looked c.self.inside.desk c.self.inside.packets c.self.inside.tasks c.args.self.now c.self.view_is
+    (λ (m : Moment). channels.is_queue_full (channels.channel c.args.channel m.system.shared.channels)) c.is_queue_full.result (λ owns. c.is_queue_full.ensures)

@@ -1,0 +1,11 @@
+use Rattle.std.proofs.lemmas.Result.{on_ok_weaker}
+use Rattle.live_packets.specs.Below.source_machine.specs.Systems.{tell, prompt}
+use Rattle.live_system.proofs.Moments.{stepped, tell_keeps}
+use Rattle.live_system.proofs.system.System.prompt.Goals as goal
+
+pub returns : goal.returns
+returns c =
+    on_ok_weaker c.prompt.result
+    (λ makes. stepped c.self.inside.desk c.self.inside.packets c.self.inside.tasks c.args.self.now c.self.view_is
+    (tell c.args.task prompt) (tell_keeps c.args.task prompt) c.prompt.new.self makes)
+    c.prompt.ensures

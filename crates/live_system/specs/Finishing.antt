@@ -1,0 +1,29 @@
+-- What a command that is over leaves, apart from what is told of it.
+use Rattle.std.specs.Prelude.{Bool, true, false, Option, Some, None}
+use Rattle.task_numbers.specs.declared.number.TaskNo.{TaskNo}
+use Rattle.eu_base.specs.declared.stop.Stop.{Stop}
+use Rattle.elan_names.specs.declared.interface.Interface.{Interface}
+use Rattle.elan_types.specs.Eval.{World}
+use Rattle.live_packets.specs.Below.source_machine.specs.Tasks.{Command, Idle, store_in, own_variables}
+use Rattle.live_packets.specs.Below.source_machine.specs.Systems.{Moment, does, on_system}
+use Rattle.live_packets.specs.Below.source_machine.specs.Monitor.{settle, inserted, is_full}
+use Rattle.live_packets.specs.Packets.{insertion_told}
+
+-- a packet is installed, or its variables go
+abbrev pub insertion_leaves : Option Stop → Bool → TaskNo → Command → Interface → Moment → Moment
+insertion_leaves (Some stop) full t c i m = on_system (settle t (own_variables c)) m
+insertion_leaves None true t c i m = on_system (settle t (own_variables c)) m
+insertion_leaves None false t c i m = on_system (inserted t c.unit i) m
+
+abbrev pub leaves_by : Option Interface → Option Stop → TaskNo → Command → Moment → Moment
+leaves_by None stop t c m = m
+leaves_by (Some i) stop t c m = insertion_leaves stop (is_full m.system.shared.library) t c i m
+
+-- the task is idle, and an insertion has come to its end
+abbrev pub finished : Option Stop → TaskNo → Command → World → Moment → Moment
+finished stop t c w m = leaves_by c.unit.shown stop t c (on_system (does t (Idle (store_in c w))) m)
+
+-- the stop that is told of a command
+abbrev pub told_by : Option Interface → Option Stop → Moment → Option Stop
+told_by None stop m = stop
+told_by (Some i) stop m = insertion_told stop (is_full m.system.shared.library)

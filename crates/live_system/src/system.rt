@@ -1,0 +1,62 @@
+//! The system.
+ghost use Rattle.std.specs.Prelude.{IfOk, OnOk, ◌≡◌, ◌++◌};
+ghost use Rattle.live_packets.specs.Below.source_machine.specs.Systems.{Moment, opening, at_event};
+ghost use Rattle.output_pieces.specs.Display.{rendered};
+ghost use Rattle.live_system.specs.Machines.{StandsAt};
+
+use eu_base::{Bytes, NoMemory};
+use live_packets::{Packets, TaskDesk, Tasks};
+use std::alloc::Global;
+use std::marker::Model;
+
+/// What all tasks have together, the live packets, and all tasks over one pool.
+#[derive(Drop)]
+pub struct System {
+    pub(crate) alloc: Global,
+    pub(crate) desk: TaskDesk,
+    pub(crate) packets: Packets,
+    pub(crate) tasks: Tasks,
+}
+
+impl Model for System {
+    ghost use Rattle.std.specs.Coded.{codes};
+    ghost use Rattle.live_packets.specs.Below.task_desk.specs.contracts.desk.TaskDesk as desks;
+    ghost use Rattle.live_packets.specs.Below.live_tasks.specs.contracts.tasks.Tasks as all_tasks;
+    ghost use Rattle.live_packets.specs.contracts.packets.Packets as all_packets;
+    ghost use Rattle.live_system.specs.Machines as spec;
+
+    ghost Value = { spec.Machine };
+
+    ghost coded = { Prim.hlevel (codes, desks.the_row.coded, all_packets.the_row.coded, all_tasks.the_row.coded) };
+
+    ghost view = { λ system. record { desk = system.desk; library = system.packets; live = system.tasks } };
+}
+
+impl System {
+    /// UR and PUBLIC, idle, and no channel coupled.
+    pub fn opening(alloc: Global) -> Result<System, NoMemory>
+        ensures { IfOk result (λ system. StandsAt system (at_event opening)) }
+    {
+        Ok(System {
+            alloc,
+            desk: TaskDesk::opening(alloc)?,
+            packets: Packets::new(alloc),
+            tasks: Tasks::opening(alloc)?,
+        })
+    }
+
+    /// An event begins: nothing is shown yet.
+    pub fn begin_event(&mut self) -> Result<(), NoMemory>
+        ensures { OnOk result ((m : Moment) → StandsAt self.old m → StandsAt self.new (at_event m.system)) }
+    {
+        self.desk.clear();
+        Ok(())
+    }
+
+    /// Appends what was shown in the course of the event, in the plain form or the other.
+    pub fn render(&self, plain: bool, out: &mut Bytes) -> Result<(), NoMemory>
+        ensures { OnOk result ((m : Moment) → StandsAt self.now m → out.new ≡ out.old ++ rendered plain m.display.shown) }
+    {
+        self.desk.render(plain, out)
+    }
+}

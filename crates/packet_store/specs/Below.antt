@@ -1,0 +1,2 @@
+-- The libraries below whose words a crate above reads here, so that its line in crates.txt stays short.
+pub use Rattle.elan_check as elan_check

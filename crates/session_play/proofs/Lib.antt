@@ -1,0 +1,4 @@
+mod Short
+mod Midway
+mod Serving
+pub mod Causes

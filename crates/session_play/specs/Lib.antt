@@ -1,0 +1,4 @@
+pub mod Causes
+pub mod Output
+pub mod Serving
+pub mod Play

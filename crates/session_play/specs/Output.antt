@@ -1,0 +1,48 @@
+-- What is put in a session of the opening system.
+use Rattle.std.specs.Prelude.{ℕ, Bool, List, [], ◌++◌, Option, codes}
+use Rattle.std.specs.Fmt.{decimal}
+use Rattle.std.specs.Io.KnownBytes.{Keeps, Appends}
+use Rattle.edge.specs.Piece.{AppendsFront}
+use Rattle.elan_scope.specs.declared.env.Env.{Env}
+use Rattle.session_text.specs.declared.events.Event.{Event}
+use Rattle.session_events.specs.declared.ending.Ending.{Ending}
+use Rattle.session_events.specs.declared.ending.Ending.TheVariants.{ByShut, AtEnd, BadLine, Full}
+use Rattle.session_events.specs.Sessions.{Session}
+use Rattle.system.specs.Below.source_machine.specs.Monitor.{Reading}
+use Rattle.system.specs.Below.source_machine.specs.Readings.{IsReading}
+use Rattle.system.specs.Below.source_machine.specs.Systems.{opening}
+use Rattle.system.specs.Below.source_machine.specs.Events.{output}
+use Rattle.session_play.specs.declared.error.PlayError.{PlayError}
+use Rattle.session_play.specs.declared.error.PlayError.TheVariants.{NoMemory, SourceFault, SinkFault}
+
+-- behind the output of a session that ends so: the line that names a line of no form, and nothing else
+abbrev pub end_line : Ending → List ℕ
+end_line ByShut = []
+end_line AtEnd = []
+end_line (BadLine number) = codes "! Zeile " ++ (decimal number ++ codes "\n")
+end_line Full = []
+
+-- all that is put in a session of the opening system, where texts are read so
+abbrev pub session_output : (Env → Bool → List ℕ → Reading) → Bool → Session → List ℕ
+session_output read plain session = output read plain opening session.events ++ end_line session.ending
+
+-- it was put, whatever reads texts as they are meant
+abbrev pub PutsOutput : Bool → Session → Option (List ℕ) → Option (List ℕ) → Type 0
+PutsOutput plain session taken taken' =
+    (read : Env → Bool → List ℕ → Reading) → IsReading read → Appends taken taken' (session_output read plain session)
+
+-- a front of it was put
+abbrev pub PutsFront : Bool → Session → Option (List ℕ) → Option (List ℕ) → Type 0
+PutsFront plain session taken taken' =
+    (read : Env → Bool → List ℕ → Reading) → IsReading read → AppendsFront taken taken' (session_output read plain session)
+
+-- the output of these events was put
+abbrev pub PutsEvents : Bool → List Event → Option (List ℕ) → Option (List ℕ) → Type 0
+PutsEvents plain events taken taken' =
+    (read : Env → Bool → List ℕ → Reading) → IsReading read → Appends taken taken' (output read plain opening events)
+
+-- these bytes were not wholly put: none where memory was wanting, and a front of them where the sink failed
+abbrev pub PutsLess : List ℕ → Option (List ℕ) → Option (List ℕ) → PlayError → Type 0
+PutsLess bytes taken taken' NoMemory = Keeps taken taken'
+PutsLess bytes taken taken' SourceFault = ⊥
+PutsLess bytes taken taken' SinkFault = AppendsFront taken taken' bytes

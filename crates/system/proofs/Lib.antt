@@ -1,0 +1,6 @@
+mod Kept
+mod Happening
+mod Awaiting
+mod Leading
+mod Evaluating
+mod Turning

@@ -1,0 +1,10 @@
+use Rattle.output_pieces.specs.Display.{blank}
+use Rattle.task_requests.specs.Below.source_machine.specs.Systems.{opening, at_event}
+use Rattle.task_requests.specs.Below.live_system.specs.Machines.{StandsAt}
+use Rattle.system.specs.Systems.{StandsFor}
+use Rattle.system.proofs.Kept.{if_ok}
+use Rattle.system.proofs.events.opening.Goals as goal
+
+pub returns : goal.returns
+unfolding StandsFor
+returns c = if_ok c.opening.result (λ system. StandsAt system (at_event opening)) (λ system. StandsFor system opening) (λ system h. (blank, h)) c.opening.ensures

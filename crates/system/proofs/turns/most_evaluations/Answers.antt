@@ -1,0 +1,7 @@
+use Rattle.std.proofs.Common.{refl}
+use Rattle.task_requests.specs.Below.source_machine.specs.Turns.{most_evaluations}
+use Rattle.system.proofs.turns.most_evaluations.Goals as goal
+
+pub returns : goal.returns
+unfolding most_evaluations
+returns c = refl

@@ -1,0 +1,20 @@
+-- When a machine stands for a system of tasks, between events.
+use Rattle.std.specs.Prelude.{◌≤◌, length}
+use Rattle.task_numbers.specs.declared.limits.TheConstants.{LONGEST_LINE}
+use Rattle.session_text.specs.declared.events.Event.{Event}
+use Rattle.session_text.specs.declared.events.Event.TheVariants.{Line, Supervisor, Turns, Fixpoint, Shut}
+use Rattle.output_pieces.specs.Display.{Display}
+use Rattle.task_requests.specs.Below.source_machine.specs.Systems.{System}
+use Rattle.task_requests.specs.Below.live_system.specs.Machines.{Machine, StandsAt}
+
+-- whatever was shown in the course of the last event
+unfoldable pub StandsFor : Machine → System → Type 0
+StandsFor now s = (display : Display) × StandsAt now (record { system = s; display = display })
+
+-- a line has at most 250 bytes, and comes at one of the four channels; so does a call
+abbrev pub IsShort : Event → Type 0
+IsShort (Line c text) = (1 ≤ c) × (c ≤ 4) × (length text ≤ LONGEST_LINE)
+IsShort (Supervisor c) = (1 ≤ c) × (c ≤ 4)
+IsShort (Turns n) = Unit {0}
+IsShort Fixpoint = Unit {0}
+IsShort Shut = Unit {0}

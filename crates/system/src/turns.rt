@@ -1,0 +1,81 @@
+//! Turns.
+ghost use Rattle.std.specs.Prelude.{◌≡◌, ℕ, Bool, List, OnOk};
+ghost use Rattle.elan_scope.specs.declared.env.Env.{Env};
+ghost use Rattle.task_requests.specs.Below.source_machine.specs.Systems.{Moment};
+ghost use Rattle.task_requests.specs.Below.source_machine.specs.Monitor.{Reading};
+ghost use Rattle.task_requests.specs.Below.source_machine.specs.Readings.{IsReading};
+ghost use Rattle.task_requests.specs.Below.source_machine.specs.Turns as spec;
+ghost use Rattle.task_requests.specs.Below.live_system.specs.Machines.{StandsAt};
+
+use crate::evaluations::evaluation;
+use eu_base::NoMemory;
+use std::alloc::Global;
+use task_numbers::TaskNo;
+use task_requests::System;
+
+/// So many turns.
+pub(crate) fn turns(alloc: Global, system: &mut System, number: u16) -> Result<(), NoMemory>
+    ensures { OnOk result ((read : Env → Bool → List ℕ → Reading) → IsReading read → (m : Moment) → StandsAt system.old m
+        → StandsAt system.new (spec.turns read number m)) }
+{
+    for k in 0..number {
+        turn(alloc, system)?;
+    }
+    Ok(())
+}
+
+/// A turn, behind which all open lines end.
+fn turn(alloc: Global, system: &mut System) -> Result<(), NoMemory>
+    ensures { OnOk result ((read : Env → Bool → List ℕ → Reading) → IsReading read → (m : Moment) → StandsAt system.old m
+        → StandsAt system.new (spec.turn read m)) }
+{
+    first_turn(alloc, system)?;
+    system.close_all()?;
+    Ok(())
+}
+
+/// The first ready task has its turn, and stands no longer in the ready list.
+fn first_turn(alloc: Global, system: &mut System) -> Result<(), NoMemory>
+    ensures { OnOk result ((read : Env → Bool → List ℕ → Reading) → IsReading read → (m : Moment) → StandsAt system.old m
+        → StandsAt system.new (spec.turn_of read m.system.shared.ready m)) }
+{
+    match system.next_ready() {
+        Some(task) => slice(alloc, system, task, most_evaluations(), turn_marks()),
+        None => Ok(()),
+    }
+}
+
+/// A task goes on with so many marks. There are at most so many evaluations.
+fn slice(
+    alloc: Global,
+    system: &mut System,
+    task: TaskNo,
+    most: usize,
+    marks: u32,
+) -> Result<(), NoMemory>
+    ensures { OnOk result ((read : Env → Bool → List ℕ → Reading) → IsReading read → (m : Moment) → StandsAt system.old m
+        → StandsAt system.new (spec.slice read most task marks m)) }
+{
+    let mut left = marks;
+    for k in 0..most {
+        let goes = evaluation(alloc, system, task, &mut left)?;
+        if !goes {
+            return Ok(());
+        }
+    }
+    Ok(())
+}
+
+/// The marks that a task can spend in a turn.
+fn turn_marks() -> u32
+    ensures { result ≡ spec.turn_marks }
+{
+    100
+}
+
+/// A request costs a mark, so there is one evaluation more than marks.
+fn most_evaluations() -> usize
+    ensures { result ≡ spec.most_evaluations }
+{
+    101
+}

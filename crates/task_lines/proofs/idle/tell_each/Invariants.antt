@@ -1,0 +1,9 @@
+use Rattle.std.proofs.Common.{take}
+use Rattle.live_system.specs.Below.source_machine.specs.Systems.{Moment}
+use Rattle.live_system.specs.Below.source_machine.specs.Monitor.{names_told}
+use Rattle.live_system.specs.Machines.{StandsAt}
+use Rattle.task_lines.proofs.idle.tell_each.Given as goal
+
+-- the names so far are told
+abbrev pub invariant-loop-name : goal.invariant-loop-name
+invariant-loop-name l = (m : Moment) → StandsAt l.fn.system m → StandsAt l.system (names_told l.task (take l.name-index l.names) m)

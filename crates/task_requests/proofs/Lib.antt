@@ -1,0 +1,5 @@
+pub mod Living
+mod Results
+mod Lines
+mod Beginning
+mod Ending

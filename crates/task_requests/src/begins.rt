@@ -1,0 +1,69 @@
+//! Sons that begin.
+ghost use Rattle.std.specs.Prelude.{◌≡◌, true, None, IfOk};
+ghost use Rattle.task_tree.specs.Tree as tree;
+ghost use Rattle.live_system.specs.Below.packet_store.specs.Library.{started_at};
+ghost use Rattle.live_system.specs.Below.source_machine.specs.Stores.{is_name};
+ghost use Rattle.live_system.specs.Below.source_machine.specs.Systems.{Moment, packets};
+ghost use Rattle.live_system.specs.Below.source_machine.specs.Serving as spec;
+ghost use Rattle.live_system.specs.Machines.{StandsAt};
+ghost use Rattle.task_requests.specs.Served.{ServedAs};
+
+use eu_base::{NoMemory, Reply, Stop};
+use live_system::System;
+use std::alloc::Global;
+use task_numbers::TaskNo;
+
+/// How many bytes a name has at most.
+const LONGEST_NAME: usize = 60;
+
+/// A son of a task begins, and runs a start procedure. Where it cannot, the task stops.
+pub(crate) fn begin(
+    alloc: Global,
+    system: &mut System,
+    task: TaskNo,
+    name: &[u8],
+    start: usize,
+) -> Result<Option<Reply>, NoMemory>
+    ensures { IfOk result (λ reply. (m : Moment) → tree.lives task m.system.shared.tree ≡ true → StandsAt system.old m →
+        ServedAs (spec.begin_with (spec.begin_refusal name.now m.system) (started_at m.system.shared.library (packets task m.system) start) name.now task m) system.new reply) }
+{
+    match refusal(system, name) {
+        Some(stop) => Ok(Some(Reply::Stopped(stop))),
+        None => begin_running(alloc, system, task, name, start),
+    }
+}
+
+/// The same, where nothing is against the name.
+fn begin_running(
+    alloc: Global,
+    system: &mut System,
+    task: TaskNo,
+    name: &[u8],
+    start: usize,
+) -> Result<Option<Reply>, NoMemory>
+    ensures { IfOk result (λ reply. (m : Moment) → tree.lives task m.system.shared.tree ≡ true → spec.begin_refusal name.now m.system ≡ None → StandsAt system.old m →
+        ServedAs (spec.begin_with None (started_at m.system.shared.library (packets task m.system) start) name.now task m) system.new reply) }
+{
+    match system.begin_running(alloc, name, task, start)? {
+        Some(son) => Ok(Some(Reply::Task(son.0))),
+        None => Ok(Some(Reply::Stopped(Stop::NotInserted))),
+    }
+}
+
+/// Why no task of this name can begin.
+fn refusal(system: &System, name: &[u8]) -> Option<Stop>
+    ensures { (m : Moment) → StandsAt system.now m → result ≡ spec.begin_refusal name.now m.system }
+{
+    if is_name(name) {
+        system.tree_refusal(name)
+    } else {
+        Some(Stop::BadName)
+    }
+}
+
+/// Whether a task can have this name.
+fn is_name(name: &[u8]) -> bool
+    ensures { result ≡ is_name name.now }
+{
+    1 <= name.len() && name.len() <= LONGEST_NAME
+}

@@ -1,0 +1,11 @@
+//! How the requests of tasks are served.
+#![tactic(auto)]
+
+mod begins;
+mod channel;
+mod ends;
+mod requests;
+
+pub use channel::input;
+pub use live_system::{Finished, System, Went};
+pub use requests::serve;
