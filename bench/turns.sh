@@ -1,6 +1,6 @@
 #!/usr/bin/env bash
 # What a turn costs: tasks that each count to 30,000, all at once in turns, through `eumel play`; instructions as callgrind counts them,
-# without those of the same session before the tasks count, a turn. A count of 30,000 takes 90,001 marks, so 901 turns of 100. First
+# without those of the same session before the tasks count, a turn. A count of 30,000 takes 30,001 marks, so 300 turns of 100 and a mark. First
 # one task, then 4 and 14 (with UR and PUBLIC 16); then one task in the first and the second half of its turns, for the length of the session. No
 # test, and no part of the gate. It wants the program built (`./eumel play`).
 set -euo pipefail
@@ -32,8 +32,9 @@ each() {
     echo "$tasks tasks, turns $from to $to: $(((after - before) / (to - from))) instructions a turn"
 }
 
-each 1 0 900
-each 4 0 3600
-each 14 0 12600
-each 1 0 450
-each 1 450 900
+each 1 0 300
+each 4 0 1200
+each 14 0 4200
+each 1 0 150
+each 1 150 300
+each 14 2100 4200
