@@ -6,4 +6,5 @@ mod play;
 mod top;
 
 pub use line_command::{Status, one_output};
+pub use session_play::{Ending, run_play};
 pub use top::eumel;

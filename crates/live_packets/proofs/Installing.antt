@@ -15,7 +15,8 @@ use Rattle.live_tasks.specs.Below.source_machine.specs.Systems.{with_own}
 use Rattle.live_tasks.specs.Below.source_machine.specs.Monitor.{installed, with_packet}
 use Rattle.live_tasks.specs.Tasks.{Live, Stand, StandOver, AgreeBut}
 use Rattle.live_tasks.proofs.Zips.{found_other}
-use Rattle.live_packets.specs.Packets.{kinds_in, AreAllGiven, AreNumbered}
+use Rattle.live_tasks.specs.Below.source_machine.specs.Whole.{AreAllGiven, AreNumbered}
+use Rattle.live_packets.specs.Packets.{kinds_in}
 use Rattle.live_packets.proofs.Owns.{given_at}
 use Rattle.live_packets.proofs.PacketKinds.{kinds_before, kinds_new, packets_are}
 

@@ -25,7 +25,8 @@ use Rattle.live_tasks.specs.Below.source_machine.specs.Ends.{has_packet, release
 use Rattle.live_tasks.specs.Below.source_machine.specs.Monitor.{installed}
 use Rattle.live_tasks.specs.Tasks.{Live, Stand}
 use Rattle.live_tasks.proofs.Standing.{same_kinds}
-use Rattle.live_packets.specs.Packets.{kinds_in, AreGiven, AreNumbered}
+use Rattle.live_tasks.specs.Below.source_machine.specs.Whole.{AreGiven, AreNumbered}
+use Rattle.live_packets.specs.Packets.{kinds_in}
 
 -- ---- the same packets live under these numbers
 

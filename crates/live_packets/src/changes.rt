@@ -13,7 +13,8 @@ ghost use Rattle.live_tasks.specs.Below.source_machine.specs.Systems.{with_own};
 ghost use Rattle.live_tasks.specs.Below.source_machine.specs.Ends.{number_refusal, without_packets};
 ghost use Rattle.live_tasks.specs.Below.source_machine.specs.Monitor.{installed, with_packet};
 ghost use Rattle.live_packets.specs.Packets.{IsSaidOf};
-ghost use Rattle.live_packets.specs.Packets.{kinds_in, AreAllGiven, AreNumbered};
+ghost use Rattle.live_tasks.specs.Below.source_machine.specs.Whole.{AreAllGiven, AreNumbered};
+ghost use Rattle.live_packets.specs.Packets.{kinds_in};
 ghost use Rattle.live_tasks.specs.Tasks.{Stand, StandOver, most_tasks};
 
 use crate::packets::{Packets, release_unused};
@@ -76,6 +77,8 @@ pub fn can_begin(desk: &TaskDesk, tasks: &Tasks, name: &[u8], father: TaskNo) ->
     ensures live { result ≡ true → tree.lives father desk.now.tree ≡ true }
     ensures free { result ≡ true → number_refusal (tree.refusal name.now desk.now.tree) ≡ None }
     ensures room { result ≡ true → length tasks.now.tasks < most_tasks }
+    ensures can { tree.lives father desk.now.tree ≡ true → number_refusal (tree.refusal name.now desk.now.tree) ≡ None
+        → length tasks.now.tasks < most_tasks → result ≡ true }
 {
     tasks.count() < TASKS && desk.lives(father) && desk.begin_stop(name).is_none()
 }

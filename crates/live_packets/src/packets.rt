@@ -51,6 +51,12 @@ impl Packets {
         }
     }
 
+    /// Lets all packets go.
+    pub fn let_go(self) {
+        let Packets { library, last: _ } = self;
+        library.let_go();
+    }
+
     /// How many live.
     pub fn count(&self) -> usize
         ensures { result ≡ length self.now.live }

@@ -20,7 +20,8 @@ use Rattle.live_packets.specs.Below.source_machine.specs.Systems.{Moment, place,
 use Rattle.live_packets.specs.Below.source_machine.specs.Ends.{without_packets, removed, removed_at}
 use Rattle.live_packets.specs.Below.live_tasks.specs.Tasks.{Live, Stand}
 use Rattle.live_system.specs.Machines.{Machine, StandsAt}
-use Rattle.live_packets.specs.Packets.{kinds_in, AreAllGiven, AreNumbered}
+use Rattle.live_packets.specs.Below.source_machine.specs.Whole.{AreAllGiven, AreNumbered}
+use Rattle.live_packets.specs.Packets.{kinds_in}
 use Rattle.live_packets.proofs.Owns.{given_remove}
 use Rattle.live_packets.proofs.PacketKinds.{apart, without_numbered, without_last}
 use Rattle.live_system.proofs.Moments.{machine, IsPlace, here, stepped, owns_at, placed, placed_in}

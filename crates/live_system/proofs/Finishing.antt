@@ -20,7 +20,8 @@ use Rattle.live_packets.specs.Below.source_machine.specs.Monitor.{settle, insert
 use Rattle.live_packets.specs.Below.live_tasks.specs.Tasks.{Live, Stand, StandOver}
 use Rattle.live_packets.specs.Below.live_tasks.proofs.Standing.{with_own_twice}
 use Rattle.live_system.specs.Machines.{Machine, IsMachine, StandsAt, StandsOverAt}
-use Rattle.live_packets.specs.Packets.{kinds_in, AreGiven, AreAllGiven, AreNumbered}
+use Rattle.live_packets.specs.Below.source_machine.specs.Whole.{AreGiven, AreAllGiven, AreNumbered}
+use Rattle.live_packets.specs.Packets.{kinds_in}
 use Rattle.live_system.specs.Finishing.{insertion_leaves, leaves_by, finished, told_by}
 use Rattle.live_packets.specs.Packets.{insertion_told}
 use Rattle.live_packets.proofs.Owns.{length_with, found_with, given_with, all_later, push_given, there_is}

@@ -8,7 +8,7 @@ use Rattle.task_numbers.specs.declared.number.TaskNo.{TaskNo}
 use Rattle.live_packets.specs.Below.packet_store.specs.Library.{Library}
 use Rattle.task_tree.specs.Tree.{Tree}
 use Rattle.task_tree.specs.Trees.{IsTree}
-use Rattle.live_packets.specs.Below.task_desk.specs.Desks.{Desk, Makes, moment, system}
+use Rattle.live_packets.specs.Below.task_desk.specs.Desks.{Desk, IsDesk, Makes, moment, system}
 use Rattle.slicer.specs.Rotation as rotation
 use Rattle.terminals.specs.Channels as channels
 use Rattle.live_packets.specs.Below.source_machine.specs.Tasks.{Doing, Own, is_running, with_doing}
@@ -16,7 +16,8 @@ use Rattle.live_packets.specs.Below.source_machine.specs.Systems.{System, Moment
 use Rattle.live_packets.specs.Below.live_tasks.specs.Tasks.{Live, Stand}
 use Rattle.live_packets.specs.Below.live_tasks.proofs.Standing.{as_long}
 use Rattle.live_system.specs.Machines.{Machine, IsMachine, StandsAt}
-use Rattle.live_packets.specs.Packets.{kinds_in, AreGiven}
+use Rattle.live_packets.specs.Below.source_machine.specs.Whole.{AreGiven, IsSystem}
+use Rattle.live_packets.specs.Packets.{kinds_in}
 use Rattle.live_packets.proofs.Owns.{length_with, given_with, there_is}
 
 abbrev pub machine : Desk → Library → Live → Machine
@@ -68,6 +69,20 @@ module _ (desk : Desk) (library : Library) (live : Live) (was : Machine) (is : m
   -- what holds of every tree
   pub tree_law : IsTree desk.tree → (m : Moment) → StandsAt was m → IsTree m.system.shared.tree
   tree_law law m s = let h = here m s in subst (λ (n : Moment). IsTree n.system.shared.tree) h.is law
+
+  -- and of every system
+  pub whole_law : IsDesk desk → (m : Moment) → StandsAt was m → IsSystem m.system
+  whole_law law m s =
+      let h = here m s in
+      subst (λ (n : Moment). IsSystem n.system) h.is (record {
+        tree = law.tree;
+        as_many = h.machine.as_many;
+        ready = law.ready;
+        live = law.live;
+        channels = law.channels;
+        given = h.machine.given;
+        numbered = h.machine.numbered;
+      })
 
   pub stepped : (f : Moment → Moment) → ((m : Moment) → (f m).system.shared.tree ≡ m.system.shared.tree) → (later : Desk) → Makes f desk later → (m : Moment)
       → StandsAt was m → StandsAt (machine later library live) (f m)

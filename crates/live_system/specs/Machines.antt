@@ -7,7 +7,8 @@ use Rattle.live_packets.specs.Below.task_desk.specs.Desks.{Desk, moment, system}
 use Rattle.live_packets.specs.Below.live_tasks.specs.Tasks.{Live, Stand, StandOver}
 use Rattle.live_packets.specs.Below.source_machine.specs.Tasks.{Command, Own}
 use Rattle.live_packets.specs.Below.source_machine.specs.Systems.{Moment, place}
-use Rattle.live_packets.specs.Packets.{kinds_in, AreAllGiven, AreNumbered}
+use Rattle.live_packets.specs.Below.source_machine.specs.Whole.{AreAllGiven, AreNumbered}
+use Rattle.live_packets.specs.Packets.{kinds_in}
 
 -- what all tasks have together, the live packets, and all tasks over one pool
 pub record Machine : Type 0 where

@@ -90,26 +90,25 @@ impl System {
         ensures { IfOk result (λ stop. (m : Moment) (c : Command) (w : World) → finished.unit ≡ c.unit → StandsOverAt self.old task c w m
             → (stop ≡ spec.told_by c.unit.shown finished.stop m) × StandsAt self.new (spec.finished finished.stop task c w m)) }
     {
+        let Finished { unit, stop } = finished;
         let Some(place) = place_of(&self.desk, &self.tasks, task) else {
-            return Ok(finished.stop);
+            unit.let_go();
+            return Ok(stop);
         };
-        if is_program(&finished.unit) {
-            self.tasks.finish(place, finished.unit.compiled());
-            return Ok(finished.stop);
+        if is_program(&unit) {
+            self.tasks.finish(place, unit.compiled());
+            unit.let_go();
+            return Ok(stop);
         }
-        match told(&self.packets, finished.stop) {
+        match told(&self.packets, stop) {
             None => {
-                install(
-                    alloc,
-                    &mut self.packets,
-                    &mut self.tasks,
-                    place,
-                    finished.unit,
-                )?;
+                install(alloc, &mut self.packets, &mut self.tasks, place, unit)?;
                 Ok(None)
             }
             Some(stop) => {
-                self.tasks.settle(alloc, place, finished.unit.compiled())?;
+                let settled = self.tasks.settle(alloc, place, unit.compiled());
+                unit.let_go();
+                settled?;
                 Ok(Some(stop))
             }
         }
@@ -151,8 +150,13 @@ impl System {
         match self.packets.starting_at(alloc, packets, start)? {
             None => Ok(None),
             Some(unit) => {
-                let son = begin_task(alloc, &mut self.desk, &mut self.tasks, name, task, place)?;
+                let began = begin_task(alloc, &mut self.desk, &mut self.tasks, name, task, place);
+                let Ok(son) = began else {
+                    unit.let_go();
+                    return Err(NoMemory);
+                };
                 let Some(last) = last_of(&self.tasks) else {
+                    unit.let_go();
                     return Err(NoMemory);
                 };
                 start_unit(alloc, &mut self.tasks, last, unit)?;

@@ -1,6 +1,7 @@
 //! The system.
 ghost use Rattle.std.specs.Prelude.{IfOk, OnOk, ◌≡◌, ◌++◌};
 ghost use Rattle.live_packets.specs.Below.source_machine.specs.Systems.{Moment, opening, at_event};
+ghost use Rattle.live_packets.specs.Below.source_machine.specs.Whole.{IsSystem};
 ghost use Rattle.output_pieces.specs.Display.{rendered};
 ghost use Rattle.live_system.specs.Machines.{StandsAt};
 
@@ -37,12 +38,39 @@ impl System {
     pub fn opening(alloc: Global) -> Result<System, NoMemory>
         ensures { IfOk result (λ system. StandsAt system (at_event opening)) }
     {
-        Ok(System {
-            alloc,
-            desk: TaskDesk::opening(alloc)?,
-            packets: Packets::new(alloc),
-            tasks: Tasks::opening(alloc)?,
-        })
+        let desk = TaskDesk::opening(alloc)?;
+        match Tasks::opening(alloc) {
+            Ok(tasks) => Ok(System {
+                alloc,
+                desk,
+                packets: Packets::new(alloc),
+                tasks,
+            }),
+            Err(NoMemory) => {
+                desk.let_go();
+                Err(NoMemory)
+            }
+        }
+    }
+
+    /// Lets it go, with all its parts.
+    pub fn let_go(self) {
+        let System {
+            alloc: _,
+            desk,
+            packets,
+            tasks,
+        } = self;
+        desk.let_go();
+        packets.let_go();
+        tasks.let_go();
+    }
+
+    /// What holds of every system that a machine stands for.
+    pub fn law(&self)
+        ensures { (m : Moment) → StandsAt self.now m → IsSystem m.system }
+    {
+        self.desk.law();
     }
 
     /// An event begins: nothing is shown yet.

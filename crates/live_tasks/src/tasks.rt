@@ -57,6 +57,12 @@ impl Tasks {
         })
     }
 
+    /// Lets all tasks go, with their pages.
+    pub fn let_go(self) {
+        let Tasks { pool, tasks } = self;
+        task_ends::all_let_go(tasks, pool);
+    }
+
     /// How many there are.
     pub fn count(&self) -> usize
         ensures count { result ≡ length self.now.tasks }

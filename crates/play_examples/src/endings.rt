@@ -380,6 +380,21 @@ pub const FORMS: &str = "\
 ! fixpoint
 ! fixpoint
 # 64 0 0 play
+> 1^
+> .
+> 5>x
+> 1^
+1:gib supervisor kommando :
+! fixpoint
+# 64 0 0 play
+> 1^
+> 1^
+< 1>xxxxxxxxxxxxxxxxxxxxxxxxxxxxxxxxxxxxxxxxxxxxxxxxxxxxxxxxxxxxxxxxxxxxxxxxxxxxxxxxxxxxxxxxxxxxxxxxxxxxxxxxxxxxxxxxxxxxxxxxxxxxxxxxxxxxxxxxxxxxxxxxxxxxxxxxxxxxxxxxxxxxxxxxxxxxxxxxxxxxxxxxxxxxxxxxxxxxxxxxxxxxxxxxxxxxxxxxxxxxxxxxxxxxxxxxxxxxxxxxxxxxxxxxxxx
+1:gib supervisor kommando :
+1:gib supervisor kommando :
+! Zeile 3
+!BadLine(3)
+# 64 0 0 play
 > 1>begin (\"a\")
 > 1>put (1)
 < *1
@@ -387,6 +402,32 @@ pub const FORMS: &str = "\
 1,1 
 1:gib kommando :
 # 64 0 0 play
+";
+
+/// Sessions in the plain form.
+pub const PLAIN: &str = "\
+# 64 0 0 plain
+> begin (\"a\")
+> put (1)
+> 
+> !
+> !^
+> !!
+> put (2)
+gib kommando :
+1 
+gib kommando :
+! fixpoint
+gib supervisor kommando :
+! fixpoint
+# 3 0 0 plain
+> !^
+> 
+> !x
+> !^
+gib supervisor kommando :
+! Zeile 3
+!BadLine(3)
 ";
 
 /// A source and a sink that fail.

@@ -2,7 +2,7 @@
 
 use edge::{MemDisk, MemSink, MemSource};
 use eu_base::{Bytes, List};
-use eumel_top::{Status, eumel};
+use eumel_top::{Ending, Status, eumel, run_play};
 use std::alloc::Global;
 
 // Where memory is refused, the answer is not the one that a row tells, so nothing else has to say it.
@@ -38,6 +38,26 @@ fn told(status: Status) -> &'static [u8] {
     }
 }
 
+// A session in the plain form, which no command runs yet.
+fn run_plain(alloc: Global, source: &mut MemSource, sink: &mut MemSink) -> &'static [u8] {
+    match run_play(alloc, true, source, sink) {
+        Ok(Ending::ByShut) | Ok(Ending::AtEnd) => b"",
+        Ok(Ending::BadLine(3)) => b"!BadLine(3)\n",
+        _ => b"?\n",
+    }
+}
+
+// A session that the words ask for.
+fn run_words(
+    alloc: Global,
+    words: &[String],
+    source: &mut MemSource,
+    sink: &mut MemSink,
+) -> &'static [u8] {
+    let mut disk = MemDisk::new(alloc, List::new(alloc));
+    told(eumel(alloc, words, &mut disk, source, sink))
+}
+
 // Adds what is shown in a session with this input, and how it ends: `how` has the numbers and the words of the row.
 fn run(alloc: Global, out: &mut Bytes, how: &str, input: Bytes) {
     let mut parts = how.split(' ');
@@ -46,14 +66,17 @@ fn run(alloc: Global, out: &mut Bytes, how: &str, input: Bytes) {
     let sink_fails = fails(alloc, number(parts.next()));
     let mut source = MemSource::new(input, piece as usize, source_fails);
     let mut sink = MemSink::new(alloc, 1, sink_fails);
-    let mut disk = MemDisk::new(alloc, List::new(alloc));
-    let mut words = Vec::new(alloc);
-    for word in parts {
-        add_word(alloc, &mut words, word);
-    }
-    let status = eumel(alloc, words.as_slice(), &mut disk, &mut source, &mut sink);
+    let end = if how.ends_with(" 0 plain") {
+        run_plain(alloc, &mut source, &mut sink)
+    } else {
+        let mut words = Vec::new(alloc);
+        for word in parts {
+            add_word(alloc, &mut words, word);
+        }
+        run_words(alloc, words.as_slice(), &mut source, &mut sink)
+    };
     put(out, sink.bytes());
-    put(out, told(status));
+    put(out, end);
 }
 
 // The lines that are typed in a session. They are added to the table as they stand.

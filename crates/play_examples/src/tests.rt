@@ -19,6 +19,8 @@ fn wrong_table(alloc: Global) -> &'static str {
         "packets"
     } else if !is_right(alloc, endings::FORMS) {
         "forms"
+    } else if !is_right(alloc, endings::PLAIN) {
+        "plain"
     } else if !is_right(alloc, endings::FAULTS) {
         "faults"
     } else {

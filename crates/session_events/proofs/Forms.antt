@@ -1,11 +1,10 @@
--- What a line has no more of than a session can serve: bytes and events.
-use Rattle.std.proofs.Common.{◌≡◌, ℕ, ◌+◌, ◌-◌, ◌*◌, ◌<◌, ◌≤◌, Bool, true, false, ◌&&◌, ◌==◌, nat_le, nat_lt, List, [], ◌∷◌, length, fold, Option, Some, None, IfSome, if◌then◌else◌, refl, ap, subst, arith}
+-- A line that is too long is of no form.
+use Rattle.std.proofs.Common.{◌≡◌, ℕ, ◌+◌, ◌-◌, ◌*◌, ◌<◌, ◌≤◌, Bool, true, false, ◌&&◌, ◌==◌, nat_le, nat_lt, List, [], ◌∷◌, length, fold, Some, None, if◌then◌else◌, refl, ap, arith}
 use Rattle.std.specs.Prelude.{option_map}
 use Rattle.std.specs.List.{list_all}
 use Rattle.std.proofs.lemmas.Bool.Decides.{nat_tests}
 use Rattle.task_numbers.specs.declared.limits.TheConstants.{LONGEST_LINE}
-use Rattle.session_text.specs.declared.events.Event.{Event}
-use Rattle.session_text.specs.declared.events.Event.TheVariants.{Supervisor, Turns, Fixpoint, Shut}
+use Rattle.session_text.specs.declared.events.Event.TheVariants.{Supervisor, Turns}
 use Rattle.session_text.specs.declared.lines.TheConstants.{PLAIN_TURNS}
 use Rattle.session_text.specs.Lines as spec
 use Rattle.session_lines.specs.declared.reader.TheConstants.{LONGEST}
@@ -71,63 +70,3 @@ plain-long (b ∷ (c ∷ (d ∷ rest))) long = by (b == 33)
 pub no_form : (plain : Bool) (line : List ℕ) → LONGEST < length line → spec.events_of plain line ≡ None
 no_form true line long = plain-long line long
 no_form false line long = tagged-long line long
-
--- no more than two
-abbrev Few : Option (List Event) → Type 0
-Few events = IfSome events (λ events. length events ≤ 2)
-
-few-mapped : {A : Type 0} (f : A → List Event) → ((a : A) → length (f a) ≤ 2) → (o : Option A) → Few (option_map f o)
-few-mapped f few None = tt
-few-mapped f few (Some a) = few a
-
-few-tagged : (line : List ℕ) → Few (spec.tagged line)
-few-tagged [] = omega arith
-few-tagged (b ∷ rest) = by (nat_le 49 b && nat_le b 52) (b == 42)
-  where
-    few-addressed : (channel : ℕ) (rest : List ℕ) → Few (spec.addressed channel rest)
-    few-addressed channel [] = tt
-    few-addressed channel (mark ∷ text) = by (mark == 62) (mark == 94 && length text == 0)
-      where
-        by : (line calls : Bool)
-            → Few (if line then option_map spec.alone (spec.text_line channel text) else if calls then Some (spec.alone (Supervisor channel)) else None)
-        by true calls = few-mapped spec.alone (λ e. omega arith) (spec.text_line channel text)
-        by false true = omega arith
-        by false false = tt
-
-    few-sign : (b : ℕ) (rest : List ℕ) → Few (spec.sign b rest)
-    few-sign b (c ∷ rest) = tt
-    few-sign b [] = by (b == 33) (b == 46)
-      where
-        by : (mark dot : Bool) → Few (if mark then Some (spec.alone Fixpoint) else if dot then Some (spec.alone Shut) else None)
-        by true dot = omega arith
-        by false true = omega arith
-        by false false = tt
-
-    by : (channel star : Bool)
-        → Few (if channel then spec.addressed (b - 48) rest else if star then option_map (λ n. spec.alone (Turns n)) (spec.turns rest) else spec.sign b rest)
-    by true star = few-addressed (b - 48) rest
-    by false true = few-mapped (λ n. spec.alone (Turns n)) (λ n. omega arith) (spec.turns rest)
-    by false false = few-sign b rest
-
-few-plain : (line : List ℕ) → Few (spec.plain_events line)
-few-plain [] = omega arith
-few-plain (b ∷ rest) = by (b == 33)
-  where
-    few-marked : (rest : List ℕ) → Few (spec.marked rest)
-    few-marked [] = omega arith
-    few-marked (c ∷ []) = by (c == 33) (c == 94)
-      where
-        by : (mark calls : Bool) → Few (if mark then Some (spec.alone Shut) else if calls then Some (spec.alone (Supervisor 1)) else None)
-        by true calls = omega arith
-        by false true = omega arith
-        by false false = tt
-    few-marked (c ∷ (d ∷ rest)) = tt
-
-    by : (mark : Bool) → Few (if mark then spec.marked rest else option_map (λ e. e ∷ (Turns PLAIN_TURNS ∷ [])) (spec.text_line 1 (b ∷ rest)))
-    by true = few-marked rest
-    by false = few-mapped (λ e. e ∷ (Turns PLAIN_TURNS ∷ [])) (λ e. omega arith) (spec.text_line 1 (b ∷ rest))
-
--- a line has two events at most
-pub few_events : (plain : Bool) (line : List ℕ) (events : List Event) → spec.events_of plain line ≡ Some events → length events ≤ 2
-few_events true line events is = subst Few is (few-plain line)
-few_events false line events is = subst Few is (few-tagged line)

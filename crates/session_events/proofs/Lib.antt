@@ -1,3 +1,3 @@
-mod Forms
+pub mod Forms
 pub mod Serving
-mod Sessions
+pub mod Sessions

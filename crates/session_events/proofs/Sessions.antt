@@ -1,14 +1,14 @@
 -- What a line adds to a session.
-use Rattle.std.proofs.Common.{◌≡◌, ℕ, ◌+◌, ◌-◌, ◌*◌, ◌<◌, ◌≤◌, Bool, true, false, is_none, List, [], ◌∷◌, ◌++◌, length, Option, Some, None, if◌then◌else◌, refl, sym, ap, ◌∙◌, append_assoc, arith}
+use Rattle.std.proofs.Common.{◌≡◌, ℕ, ◌+◌, ◌<◌, ◌≤◌, Bool, true, false, List, [], ◌∷◌, ◌++◌, length, Option, Some, None, if◌then◌else◌, sym, ap, ◌∙◌, append_assoc, append-nil}
 use Rattle.std.proofs.lemmas.Bool.{lt-ltb, le-ltb}
 use Rattle.session_text.specs.declared.events.Event.{Event}
 use Rattle.session_text.specs.Lines.{events_of}
 use Rattle.session_lines.specs.declared.reader.TheConstants.{LONGEST}
 use Rattle.session_events.specs.declared.ending.Ending.{Ending}
-use Rattle.session_events.specs.declared.ending.Ending.TheVariants.{ByShut, BadLine, Full}
+use Rattle.session_events.specs.declared.ending.Ending.TheVariants.{ByShut, AtEnd, BadLine, Full}
 use Rattle.session_events.specs.declared.ending.TheConstants.{MOST_LINES}
 use Rattle.session_events.specs.Sessions.{Session, ends, with_events, shuts, from_line, session}
-use Rattle.session_events.specs.Serving.{Serving, ending_by, unless_ended, steps_left}
+use Rattle.session_events.specs.Serving.{HaveEvents}
 use Rattle.session_events.proofs.Forms.{no_form}
 
 abbrev pub made : List Event → Ending → Session
@@ -31,15 +31,20 @@ line_is plain count line more events room is =
     ap (λ room. chosen room (events_of plain line) (count + 1) (session plain (count + 1) more)) (lt-ltb count MOST_LINES room)
     ∙ ap (λ events. from_line events (count + 1) (session plain (count + 1) more)) is
 
--- the session goes on behind the events of a line, or they shut it
-pub line_some : (plain : Bool) (count : ℕ) (line : List ℕ) (more : List (List ℕ)) (events : List Event) → count < MOST_LINES → events_of plain line ≡ Some events
-    → session plain count (line ∷ more) ≡ with_events events (unless_ended (ending_by events) (session plain (count + 1) more))
-line_some plain count line more events room is =
-    line_is plain count line more (Some events) room is ∙ ap (with_events events) (by (shuts events) (session plain (count + 1) more))
-  where
-    by : (shut : Bool) (rest : Session) → (if shut then ends ByShut else rest) ≡ unless_ended (if shut then Some ByShut else None) rest
-    by true rest = refl
-    by false rest = refl
+-- the session goes on behind the events of a line
+pub line_goes : (plain : Bool) (count : ℕ) (line : List ℕ) (more : List (List ℕ)) (events : List Event) → count < MOST_LINES → events_of plain line ≡ Some events
+    → shuts events ≡ false → session plain count (line ∷ more) ≡ with_events events (session plain (count + 1) more)
+line_goes plain count line more events room is goes =
+    let rest = session plain (count + 1) more in
+    line_is plain count line more (Some events) room is ∙ ap (λ (shut : Bool). with_events events (if shut then ends ByShut else rest)) goes
+
+-- they shut it
+pub line_shuts : (plain : Bool) (count : ℕ) (line : List ℕ) (more : List (List ℕ)) (events : List Event) → count < MOST_LINES → events_of plain line ≡ Some events
+    → shuts events ≡ true → session plain count (line ∷ more) ≡ made events ByShut
+line_shuts plain count line more events room is shut =
+    let rest = session plain (count + 1) more in
+    line_is plain count line more (Some events) room is ∙ ap (λ (shut : Bool). with_events events (if shut then ends ByShut else rest)) shut
+    ∙ ap (λ all. made all ByShut) (append-nil events)
 
 pub line_none : (plain : Bool) (count : ℕ) (line : List ℕ) (more : List (List ℕ)) → count < MOST_LINES → events_of plain line ≡ None
     → session plain count (line ∷ more) ≡ ends (BadLine (count + 1))
@@ -49,16 +54,17 @@ pub line_long : (plain : Bool) (count : ℕ) (line : List ℕ) (more : List (Lis
     → session plain count (line ∷ more) ≡ ends (BadLine (count + 1))
 line_long plain count line more room long = line_none plain count line more room (no_form plain line long)
 
--- a line and the two events that it has at most
-pub line_nears : (before after : Serving) → before.count < MOST_LINES → after.count ≡ before.count + 1 → length after.pending ≤ 2 → before.pending ≡ []
-    → before.ending ≡ None → steps_left after < steps_left before
-line_nears before after room more few pending ending = by (is_none after.ending) (is_none before.ending) (ap is_none ending)
-  where
-    none : length before.pending ≡ 0
-    none = ap length pending
+-- one line more
+pub line_behind : (plain : Bool) (lines : List (List ℕ)) (count : ℕ) (before : List Event) (line : List ℕ) (after : ℕ) (events : List Event)
+    → HaveEvents plain lines count before → ((more : List (List ℕ)) → session plain count (line ∷ more) ≡ with_events events (session plain after more))
+    → HaveEvents plain (lines ++ line ∷ []) after (before ++ events)
+line_behind plain lines count before line after events have goes =
+    λ more.
+    ap (session plain 0) (append_assoc lines (line ∷ []) more) ∙ have (line ∷ more) ∙ ap (with_events before) (goes more)
+    ∙ with_more before events (session plain after more)
 
-    by : (goes was : Bool) → was ≡ true
-        → 3 * (MOST_LINES - after.count) + length after.pending + (if goes then 1 else 0) < 3 * (MOST_LINES - before.count) + length before.pending + (if was then 1 else 0)
-    by true true e = omega (arith, none)
-    by false true e = omega (arith, none)
-    by goes false e = cc
+-- there is no line more
+pub all_events : (plain : Bool) (lines : List (List ℕ)) (count : ℕ) (events : List Event) → HaveEvents plain lines count events
+    → session plain 0 lines ≡ made events AtEnd
+all_events plain lines count events have =
+    ap (session plain 0) (sym (append-nil lines)) ∙ have [] ∙ ap (λ all. made all AtEnd) (append-nil events)

@@ -1,10 +1,8 @@
-//! The events of a session, from any source, one after another.
+//! The events of a session, and how it ends.
 #![tactic(auto)]
 
 mod ending;
-mod next;
-mod reader;
+mod shutting;
 
 pub use ending::{Ending, MOST_LINES};
-pub use next::NextEvent;
-pub use reader::SessionReader;
+pub use shutting::shuts;

@@ -1,4 +1,5 @@
 mod Short
+mod Fronts
 mod Midway
 mod Serving
 pub mod Causes

@@ -1,5 +1,5 @@
--- Each event of a session is one of a line that is no longer than a line can be.
-use Rattle.std.proofs.Common.{◌≡◌, ℕ, ◌+◌, ◌-◌, ◌≤◌, Bool, true, false, ◌&&◌, ◌==◌, nat_le, nat_lt, List, [], ◌∷◌, ◌++◌, length, Option, Some, None, if◌then◌else◌, refl, subst, arith}
+-- The events of a line are no longer than an event can be.
+use Rattle.std.proofs.Common.{◌≡◌, ℕ, ◌-◌, ◌≤◌, Bool, true, false, ◌&&◌, ◌==◌, nat_le, List, [], ◌∷◌, ◌++◌, length, Option, Some, None, if◌then◌else◌, refl, subst, arith}
 use Rattle.std.specs.Prelude.{option_map}
 use Rattle.std.proofs.lemmas.Bool.Decides.{nat_tests}
 use Rattle.task_numbers.specs.declared.limits.TheConstants.{LONGEST_LINE}
@@ -7,29 +7,14 @@ use Rattle.session_text.specs.declared.events.Event.{Event}
 use Rattle.session_text.specs.declared.events.Event.TheVariants.{Line, Supervisor, Turns, Fixpoint, Shut}
 use Rattle.session_text.specs.declared.lines.TheConstants.{PLAIN_TURNS}
 use Rattle.session_text.specs.Lines as spec
-use Rattle.session_lines.specs.Lines.{lines_of}
-use Rattle.session_events.specs.declared.ending.Ending.TheVariants.{ByShut, Full}
-use Rattle.session_events.specs.declared.ending.TheConstants.{MOST_LINES}
-use Rattle.session_events.specs.Sessions.{Session, ends, from_line, shuts, session}
-use Rattle.session_events.specs.Serving.{AreFirst}
 use Rattle.system.specs.Systems.{IsShort}
-
-abbrev pub AreShort : List Event → Type 0
-AreShort [] = Unit {0}
-AreShort (e ∷ es) = IsShort e × AreShort es
+use Rattle.session_play.specs.Serving.{AreShort}
 
 abbrev AreShortIn : Option (List Event) → Type 0
 AreShortIn None = Unit {0}
 AreShortIn (Some events) = AreShort events
 
-both : (es fs : List Event) → AreShort es → AreShort fs → AreShort (es ++ fs)
-both [] fs short more = more
-both (e ∷ es) fs short more = (short.0, both es fs short.1 more)
-
-behind : (es fs : List Event) → AreShort (es ++ fs) → AreShort fs
-behind [] fs short = short
-behind (e ∷ es) fs short = behind es fs short.1
-
+-- one of them
 last : (es : List Event) (e : Event) (fs : List Event) → AreShort ((es ++ e ∷ []) ++ fs) → IsShort e
 last [] e fs short = short.0
 last (d ∷ es) e fs short = last es e fs short.1
@@ -108,22 +93,10 @@ of-line : (plain : Bool) (line : List ℕ) → AreShortIn (spec.events_of plain 
 of-line true line = plain-line line
 of-line false line = tagged line
 
-of-session : (plain : Bool) (count : ℕ) (lines : List (List ℕ)) → AreShort (session plain count lines).events
-of-session plain count [] = tt
-of-session plain count (line ∷ lines) =
-    by (nat_lt count MOST_LINES) (spec.events_of plain line) (of-line plain line) (session plain (count + 1) lines) (of-session plain (count + 1) lines)
-  where
-    behind-line : (shut : Bool) (rest : Session) → AreShort rest.events → AreShort (if shut then ends ByShut else rest).events
-    behind-line true rest short = tt
-    behind-line false rest short = short
+-- each event of a line
+pub line_short : (plain : Bool) (line : List ℕ) (events : List Event) → spec.events_of plain line ≡ Some events → AreShort events
+line_short plain line events is = subst AreShortIn is (of-line plain line)
 
-    by : (room : Bool) (events : Option (List Event)) → AreShortIn events → (rest : Session) → AreShort rest.events
-        → AreShort (if room then from_line events (count + 1) rest else ends Full).events
-    by false events short rest more = tt
-    by true None short rest more = tt
-    by true (Some events) short rest more = both events (if shuts events then ends ByShut else rest).events short (behind-line (shuts events) rest more)
-
--- the last of those that are first
-pub next_short : (left : Option (List ℕ)) (plain : Bool) (events : List Event) (event : Event) → AreFirst left plain (events ++ event ∷ []) → IsShort event
-next_short left plain events event first =
-    last events event first.2.0 (subst AreShort first.2.1 (of-session plain 0 (lines_of first.0)))
+-- the event behind some
+pub next_short : (all first : List Event) (event : Event) (rest : List Event) → all ≡ (first ++ event ∷ []) ++ rest → AreShort all → IsShort event
+next_short all first event rest parts short = last first event rest (subst AreShort parts short)

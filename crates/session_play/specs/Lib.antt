@@ -2,3 +2,4 @@ pub mod Causes
 pub mod Output
 pub mod Serving
 pub mod Play
+pub mod Midway

@@ -1,5 +1,5 @@
 -- What is put in a session of the opening system.
-use Rattle.std.specs.Prelude.{ℕ, Bool, List, [], ◌++◌, Option, codes}
+use Rattle.std.specs.Prelude.{◌≡◌, ℕ, Bool, List, [], ◌++◌, Option, codes}
 use Rattle.std.specs.Fmt.{decimal}
 use Rattle.std.specs.Io.KnownBytes.{Keeps, Appends}
 use Rattle.edge.specs.Piece.{AppendsFront}
@@ -12,14 +12,18 @@ use Rattle.system.specs.Below.source_machine.specs.Monitor.{Reading}
 use Rattle.system.specs.Below.source_machine.specs.Readings.{IsReading}
 use Rattle.system.specs.Below.source_machine.specs.Systems.{opening}
 use Rattle.system.specs.Below.source_machine.specs.Events.{output}
-use Rattle.session_play.specs.declared.error.PlayError.{PlayError}
-use Rattle.session_play.specs.declared.error.PlayError.TheVariants.{NoMemory, SourceFault, SinkFault}
+use Rattle.session_play.specs.declared.fault.LineFault.{LineFault}
+use Rattle.session_play.specs.declared.fault.LineFault.TheVariants as fault
+
+-- the line that names the line of this number, which is of no form
+abbrev pub bad_line : ℕ → List ℕ
+bad_line number = codes "! Zeile " ++ (decimal number ++ codes "\n")
 
 -- behind the output of a session that ends so: the line that names a line of no form, and nothing else
 abbrev pub end_line : Ending → List ℕ
 end_line ByShut = []
 end_line AtEnd = []
-end_line (BadLine number) = codes "! Zeile " ++ (decimal number ++ codes "\n")
+end_line (BadLine number) = bad_line number
 end_line Full = []
 
 -- all that is put in a session of the opening system, where texts are read so
@@ -42,7 +46,13 @@ PutsEvents plain events taken taken' =
     (read : Env → Bool → List ℕ → Reading) → IsReading read → Appends taken taken' (output read plain opening events)
 
 -- these bytes were not wholly put: none where memory was wanting, and a front of them where the sink failed
-abbrev pub PutsLess : List ℕ → Option (List ℕ) → Option (List ℕ) → PlayError → Type 0
-PutsLess bytes taken taken' NoMemory = Keeps taken taken'
-PutsLess bytes taken taken' SourceFault = ⊥
-PutsLess bytes taken taken' SinkFault = AppendsFront taken taken' bytes
+abbrev pub PutsLess : List ℕ → Option (List ℕ) → Option (List ℕ) → LineFault → Type 0
+PutsLess bytes taken taken' fault.NoMemory = Keeps taken taken'
+PutsLess bytes taken taken' (fault.BadLine number) = ⊥
+PutsLess bytes taken taken' fault.SinkFault = AppendsFront taken taken' bytes
+
+-- the line that names one of no form was put, or not wholly put
+abbrev pub NamesLine : ℕ → Option (List ℕ) → Option (List ℕ) → LineFault → Type 0
+NamesLine number taken taken' fault.NoMemory = Keeps taken taken'
+NamesLine number taken taken' (fault.BadLine named) = (named ≡ number) × Appends taken taken' (bad_line named)
+NamesLine number taken taken' fault.SinkFault = AppendsFront taken taken' (bad_line number)

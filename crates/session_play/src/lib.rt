@@ -1,11 +1,14 @@
-//! A session of the opening system, from any source to any sink.
+//! A session of the opening system, from any source to any sink, line by line.
 #![tactic(auto)]
 
 mod desk;
 mod error;
+mod fault;
 mod play;
+mod put;
 
 pub use desk::Desk;
 pub use error::PlayError;
+pub use fault::LineFault;
 pub use play::run_play;
-pub use session_events::Ending;
+pub use session_events::{Ending, MOST_LINES};

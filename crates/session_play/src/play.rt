@@ -1,20 +1,21 @@
 //! The command `play`.
-ghost use Rattle.std.specs.Prelude.{◌≡◌, ◌≤◌, IfOk, IfErr};
-ghost use Rattle.std.specs.Io.KnownBytes.{Appends};
+ghost use Rattle.std.specs.Prelude.{◌≡◌, ◌+◌, ◌<◌, ◌≤◌, ℕ, List, length, None, IfOk, IfErr, IfSome, MatchOption};
 ghost use Rattle.eu_base.specs.Faults.{Rose};
+ghost use Rattle.session_lines.specs.declared.reader.TheConstants.{LONGEST};
+ghost use Rattle.system.specs.Below.source_machine.specs.Systems.{opening};
+ghost use Rattle.system.specs.Systems.{StandsFor};
 ghost use Rattle.session_play.specs.Causes.{HasCause};
-ghost use Rattle.session_play.specs.Output.{end_line, PutsLess};
+ghost use Rattle.session_play.specs.Midway as spec;
 ghost use Rattle.session_play.specs.Play.{PlayEnds, PlayStops, PlaySettles};
 
-use crate::desk::put_whole;
-use crate::{Desk, PlayError};
+use crate::{Desk, LineFault, PlayError};
 use edge::{Sink, Source};
-use eu_base::{Bytes, NoMemory, decimal};
-use session_events::{Ending, NextEvent, SessionReader};
+use session_events::{Ending, MOST_LINES};
+use session_lines::{LineReader, Next};
 use std::alloc::Global;
 
-/// Runs a session of the opening system: each event is served, and what it shows is put, before the next is read. It answers how the
-/// session ended, or why it came to no end.
+/// Runs a session of the opening system: each line is served, and what its events show is put, before the next is read. It answers how
+/// the session ended, or why it came to no end.
 pub fn run_play<S: Source, K: Sink>(
     alloc: Global,
     plain: bool,
@@ -34,51 +35,108 @@ pub fn run_play<S: Source, K: Sink>(
     let Ok(mut desk) = Desk::opening(alloc, plain) else {
         return Err(PlayError::NoMemory);
     };
-    let mut reader = SessionReader::new(alloc, plain);
-    'events: loop {
-        let Ok(next) = reader.next(alloc, source) else {
-            return Err(PlayError::NoMemory);
-        };
-        match next {
-            NextEvent::Given(event) => {
-                if let Err(error) = desk.event(alloc, &event, sink) {
-                    return Err(error);
-                }
-            }
-            NextEvent::Ends(ending) => return finish(alloc, ending, sink),
-            NextEvent::Fault => return Err(PlayError::SourceFault),
+    let end = serve_lines(alloc, &mut desk, source, sink);
+    desk.let_go();
+    end
+}
+
+/// Serves the lines of a source one after another, until the session has come to its answer.
+fn serve_lines<S: Source, K: Sink>(
+    alloc: Global,
+    desk: &mut Desk,
+    source: &mut S,
+    sink: &mut K,
+) -> Result<Ending, PlayError>
+    requires stands { StandsFor desk.old.system opening }
+    requires count { desk.old.count ≡ 0 }
+    ensures ends { IfOk result (PlayEnds desk.old.plain (S.left source.old) (K.taken sink.old) (K.taken sink.new)) }
+    ensures stops { IfErr result (PlayStops desk.old.plain (S.left source.old) (S.left source.new) (K.taken sink.old) (K.taken sink.new)) }
+    ensures cause { IfErr result (HasCause (Rose (S.faults source.old) (S.faults source.new)) (Rose (K.faults sink.old) (K.faults sink.new))) }
+    ensures source_later { S.faults source.old ≤ S.faults source.new }
+    ensures sink_later { K.faults sink.old ≤ K.faults sink.new }
+{
+    let mut lines = LineReader::new();
+    'lines: loop {
+        if let Some(end) = serve_next(alloc, desk, &mut lines, source, sink) {
+            return end;
         }
     }
 }
 
-/// Puts what is put behind the output of a session that ends so.
-fn finish<K: Sink>(alloc: Global, ending: Ending, sink: &mut K) -> Result<Ending, PlayError>
-    ensures ends { IfOk result (λ end. (end ≡ ending) × Appends (K.taken sink.old) (K.taken sink.new) (end_line ending)) }
-    ensures less { IfErr result (PutsLess (end_line ending) (K.taken sink.old) (K.taken sink.new)) }
+/// Reads the next line and serves it. The answer of the session, where it has come to one.
+fn serve_next<S: Source, K: Sink>(
+    alloc: Global,
+    desk: &mut Desk,
+    lines: &mut LineReader,
+    source: &mut S,
+    sink: &mut K,
+) -> Option<Result<Ending, PlayError>>
+    ensures next { MatchOption result
+        (spec.GoesOn desk.old desk.new lines.old lines.new (S.left source.old) (S.left source.new) (K.taken sink.old) (K.taken sink.new))
+        (spec.Concludes desk.old lines.old (S.left source.old) (S.left source.new) (K.taken sink.old) (K.taken sink.new)) }
+    ensures counted { result ≡ None → (desk.old.count < MOST_LINES) × (desk.new.count ≡ desk.old.count + 1) }
+    ensures plain { desk.new.plain ≡ desk.old.plain }
+    ensures cause { IfSome result (λ end. IfErr end
+        (HasCause (Rose (S.faults source.old) (S.faults source.new)) (Rose (K.faults sink.old) (K.faults sink.new)))) }
+    ensures source_later { S.faults source.old ≤ S.faults source.new }
+    ensures sink_later { K.faults sink.old ≤ K.faults sink.new }
+{
+    let Ok(next) = lines.next_line(alloc, source) else {
+        return Some(Err(PlayError::NoMemory));
+    };
+    match next {
+        Next::Line(line) => serve_line(alloc, desk, line.as_slice(), sink),
+        Next::TooLong => Some(refuse_long(alloc, desk, sink)),
+        Next::End => Some(Ok(Ending::AtEnd)),
+        Next::Fault => Some(Err(PlayError::SourceFault)),
+    }
+}
+
+/// Serves a line, where a session has so many. The answer of the session, where it has come to one.
+fn serve_line<K: Sink>(
+    alloc: Global,
+    desk: &mut Desk,
+    line: &[u8],
+    sink: &mut K,
+) -> Option<Result<Ending, PlayError>>
+    ensures line { MatchOption result
+        (spec.LineGoes desk.old desk.new line.now (K.taken sink.old) (K.taken sink.new))
+        (spec.LineEnds desk.old line.now (K.taken sink.old) (K.taken sink.new)) }
+    ensures counted { result ≡ None → (desk.old.count < MOST_LINES) × (desk.new.count ≡ desk.old.count + 1) }
+    ensures plain { desk.new.plain ≡ desk.old.plain }
+    ensures cause { IfSome result (λ end. IfErr end (HasCause ⊥ (Rose (K.faults sink.old) (K.faults sink.new)))) }
+    ensures later { K.faults sink.old ≤ K.faults sink.new }
+{
+    if desk.is_full() {
+        return Some(Ok(Ending::Full));
+    }
+    match desk.line(alloc, line, sink) {
+        Ok(true) => Some(Ok(Ending::ByShut)),
+        Ok(false) => None,
+        Err(fault) => Some(end_by(fault)),
+    }
+}
+
+/// The answer of a session that comes to a line that is too long.
+fn refuse_long<K: Sink>(alloc: Global, desk: &mut Desk, sink: &mut K) -> Result<Ending, PlayError>
+    ensures line { (line : List ℕ) → LONGEST < length line → spec.LineEnds desk.old line (K.taken sink.old) (K.taken sink.new) result }
+    ensures plain { desk.new.plain ≡ desk.old.plain }
     ensures cause { IfErr result (HasCause ⊥ (Rose (K.faults sink.old) (K.faults sink.new))) }
     ensures later { K.faults sink.old ≤ K.faults sink.new }
 {
-    let Ok(line) = end_line(alloc, ending) else {
-        return Err(PlayError::NoMemory);
-    };
-    match put_whole(sink, line.as_slice()) {
-        Ok(()) => Ok(ending),
-        Err(error) => Err(error),
+    if desk.is_full() {
+        return Ok(Ending::Full);
     }
+    end_by(desk.too_long(alloc, sink))
 }
 
-/// The line behind the output: it names the line of no form; else there is none.
-fn end_line(alloc: Global, ending: Ending) -> Result<Bytes, NoMemory>
-    ensures { IfOk result (λ line. line ≡ end_line ending) }
+/// The answer of a session at a line that is not served.
+fn end_by(fault: LineFault) -> Result<Ending, PlayError>
+    ensures { result ≡ spec.end_by fault }
 {
-    let mut line = Bytes::new(alloc);
-    match ending {
-        Ending::BadLine(number) => {
-            line.append(b"! Zeile ")?;
-            line.append(decimal(alloc, i64::from(number))?.as_slice())?;
-            line.append(b"\n")?;
-        }
-        Ending::ByShut | Ending::AtEnd | Ending::Full => {}
+    match fault {
+        LineFault::BadLine(number) => Ok(Ending::BadLine(number)),
+        LineFault::SinkFault => Err(PlayError::SinkFault),
+        LineFault::NoMemory => Err(PlayError::NoMemory),
     }
-    Ok(line)
 }

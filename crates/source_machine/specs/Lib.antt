@@ -1,6 +1,7 @@
 pub mod Stores
 pub mod Tasks
 pub mod Systems
+pub mod Whole
 pub mod Ends
 pub mod Serving
 pub mod Monitor

@@ -3,8 +3,10 @@
 
 mod evaluations;
 mod events;
+mod isolated;
 mod lines;
 mod turns;
 
 pub use events::{event, opening};
+pub use isolated::{others, two_worlds};
 pub use task_requests::System;

@@ -8,7 +8,9 @@ ghost use Rattle.task_requests.specs.Below.source_machine.specs.Turns as spec;
 ghost use Rattle.task_requests.specs.Below.live_system.specs.Machines.{StandsAt};
 
 use crate::evaluations::evaluation;
+use crate::isolated::{others, two_worlds};
 use eu_base::NoMemory;
+use slice_law::{enough, stays_calm};
 use std::alloc::Global;
 use task_numbers::TaskNo;
 use task_requests::System;
@@ -24,11 +26,15 @@ pub(crate) fn turns(alloc: Global, system: &mut System, number: u16) -> Result<(
     Ok(())
 }
 
-/// A turn, behind which all open lines end.
+/// A turn, behind which all open lines end. It leaves what is the own of each other task (`others`), and depends on what is the task's own alone, its
+/// channel, and what it is told (`two_worlds`).
 fn turn(alloc: Global, system: &mut System) -> Result<(), NoMemory>
     ensures { OnOk result ((read : Env → Bool → List ℕ → Reading) → IsReading read → (m : Moment) → StandsAt system.old m
         → StandsAt system.new (spec.turn read m)) }
 {
+    others(system);
+    two_worlds(system);
+    stays_calm(system);
     first_turn(alloc, system)?;
     system.close_all()?;
     Ok(())
@@ -40,7 +46,10 @@ fn first_turn(alloc: Global, system: &mut System) -> Result<(), NoMemory>
         → StandsAt system.new (spec.turn_of read m.system.shared.ready m)) }
 {
     match system.next_ready() {
-        Some(task) => slice(alloc, system, task, most_evaluations(), turn_marks()),
+        Some(task) => {
+            enough(system);
+            slice(alloc, system, task, most_evaluations(), turn_marks())
+        }
         None => Ok(()),
     }
 }

@@ -11,8 +11,6 @@ mod directory;
 #[cfg(test)]
 mod display;
 #[cfg(test)]
-mod events;
-#[cfg(test)]
 mod lines;
 #[cfg(test)]
 mod messages;

@@ -24,8 +24,8 @@ fn letter(event: &Event) -> [u8; 3] {
     }
 }
 
-/// Writes an event: a letter, two bytes of a number and a text.
-pub fn put_event(out: &mut Bytes, event: &Event) {
+// Writes an event: a letter, two bytes of a number and a text.
+fn put_event(out: &mut Bytes, event: &Event) {
     put(out, &letter(event));
     if let Event::Line { text, .. } = event {
         put(out, text.as_slice());

@@ -25,8 +25,8 @@ fn put_next(out: &mut Bytes, next: Result<Next, NoMemory>) {
     }
 }
 
-/// A source. Before the blank stand how many bytes it gives in one call, and which call of it fails, and behind it stands what it has.
-pub fn source(alloc: Global, row: &[u8]) -> Option<MemSource> {
+// A source. Before the blank stand how many bytes it gives in one call, and which call of it fails, and behind it stands what it has.
+fn source(alloc: Global, row: &[u8]) -> Option<MemSource> {
     let [piece, failing, b' ', input @ ..] = row else {
         return None
     };

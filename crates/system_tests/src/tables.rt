@@ -183,16 +183,3 @@ pub const SESSIONS: &str = "\
 23 ab|c => ab|!c|...
 24 ab|c => ab|c|....
 95 ~~~~~xx|b => !~~~~~xx|b|...";
-
-/// The form of a session, `c` or `p`, and its source as before; and behind the arrow six answers of a reader: events, each as a letter,
-/// two bytes of a number and a text; `$` where a line shut the session, `.` at the end of input, `?` and the number of a line of no form,
-/// and `!` where the source failed. In turn: no line; a session that is shut, and more lines; the plain form; a line of no form behind
-/// three others, and one that is too long; and a source that fails in a line, and before the first.
-pub const EVENTS: &str = "\
-c90  => ......
-c90 1>a||2^|.|5>x => L\u{0}\u{1}aS\u{0}\u{2}E\u{0}\u{0}$$$
-p30 put|!| => L\u{0}\u{1}putT\u{0}\u{14}F\u{0}\u{0}...
-c90 ||1^|x|! => S\u{0}\u{1}?\u{4}?\u{4}?\u{4}?\u{4}?\u{4}
-c90 !|1>~~~~~x|! => F\u{0}\u{0}?\u{2}?\u{2}?\u{2}?\u{2}?\u{2}
-c22 *1|! => !T\u{0}\u{1}F\u{0}\u{0}...
-p91  => !.....";

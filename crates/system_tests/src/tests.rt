@@ -1,8 +1,7 @@
 //! Lines and scenes, each with the text that is noted of it.
 use crate::notes::put;
 use crate::{
-    channels, commands, directory, display, events, lines, messages, rotation, sessions, tables,
-    tree,
+    channels, commands, directory, display, lines, messages, rotation, sessions, tables, tree,
 };
 use containers::Bytes;
 use std::alloc::Global;
@@ -22,8 +21,6 @@ enum Place {
     Display,
     /// As a source of lines.
     Session,
-    /// As a source of a session.
-    Events,
 }
 
 fn read(alloc: Global, out: &mut Bytes, line: &[u8], place: Place) {
@@ -34,7 +31,6 @@ fn read(alloc: Global, out: &mut Bytes, line: &[u8], place: Place) {
         Place::Supervisor => commands::described(alloc, out, line, true),
         Place::Display => display::lines(alloc, out, line),
         Place::Session => sessions::answers(alloc, out, line),
-        Place::Events => events::answers(alloc, out, line),
     }
 }
 
@@ -85,8 +81,6 @@ fn wrong_lines(alloc: Global) -> &'static str {
         "display"
     } else if right_rows(alloc, tables::SESSIONS, Place::Session) != 13 {
         "session"
-    } else if right_rows(alloc, tables::EVENTS, Place::Events) != 7 {
-        "events"
     } else {
         ""
     }

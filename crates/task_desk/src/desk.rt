@@ -22,6 +22,7 @@ use output_pieces::Display;
 use slicer::Slicer;
 use std::alloc::Global;
 use std::marker::Model;
+use std::mem;
 use task_numbers::{LONGEST_LINE, TaskNo};
 use task_tree::{BeginError, TaskTree};
 use task_walks::Entry;
@@ -59,6 +60,11 @@ impl TaskDesk {
             channels: Terminals::new(alloc)?,
             display: Display::new(alloc),
         })
+    }
+
+    /// Lets it go.
+    pub fn let_go(self) {
+        mem::drop(self);
     }
 
     /// What holds of every desk: the laws of its parts, and that the ready tasks live.

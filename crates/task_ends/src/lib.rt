@@ -2,8 +2,10 @@
 #![tactic(auto)]
 
 mod behind;
+mod going;
 mod settling;
 mod sons;
 
+pub use going::all_let_go;
 pub use settling::settle;
 pub use sons::son;

@@ -9,7 +9,7 @@ use Rattle.live_system.specs.Below.packet_store.specs.Library.{Library}
 use Rattle.live_system.specs.Below.source_machine.specs.Tasks.{Command, Idle, Own, store_in, with_doing}
 use Rattle.live_system.specs.Below.source_machine.specs.Systems.{System, Moment, place, changed_at, does, on_system}
 use Rattle.live_system.specs.Below.source_machine.specs.Monitor.{Reading, is_full, rested_with, insertion_over, over_as, over}
-use Rattle.live_packets.specs.Packets.{insertion_told}
+use Rattle.live_system.specs.Below.live_packets.specs.Packets.{insertion_told}
 use Rattle.live_system.specs.Finishing.{insertion_leaves, leaves_by, finished, told_by}
 use Rattle.live_system.specs.Machines.{Machine, StandsAt}
 

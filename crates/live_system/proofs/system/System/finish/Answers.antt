@@ -25,9 +25,9 @@ returns-in_ok-install-in-None c = λ m command w is s.
     inserted_at c.self.inside.desk c.self.inside.packets c.self.inside.tasks c.args.self.now c.self.view_is c.args.task c.in-Some.place c.in-Some.ensures.place c.in-Some.ensures.within
     c.args.finished.unit c.args.finished.stop command w m is s shows.0 shows.1 c.in-None.ensures c.install.new.packets c.install.new.tasks c.in_ok-install-in-None.ensures
 
-pub returns-in_ok-settle-in-Some-told : goal.returns-in_ok-settle-in-Some-told
-returns-in_ok-settle-in-Some-told c = λ m command w is s.
+pub returns-in_ok-settled-in-Some-told : goal.returns-in_ok-settled-in-Some-told
+returns-in_ok-settled-in-Some-told c = λ m command w is s.
     let shows = shown_some c.args.finished.unit.shown (sym c.is_program.ensures ∙ c.if-is_program.false) in
     settled_at c.self.inside.desk c.self.inside.packets c.self.inside.tasks c.args.self.now c.self.view_is c.args.task c.in-Some.place c.in-Some.ensures.place c.in-Some.ensures.within
-    c.args.finished.unit c.args.finished.stop command w m is s shows.0 shows.1 c.in-Some-told.stop c.in-Some-told.ensures c.settle.new.self
-    (λ kinds_of owns own d v over has same. c.in_ok-settle-in-Some-told.ensures kinds_of owns own d v over has (same ∙ sym c.compiled-in-Some-told.ensures.compiled))
+    c.args.finished.unit c.args.finished.stop command w m is s shows.0 shows.1 c.in-Some-told.stop c.in-Some-told.ensures c.settle-settled.new.self
+    (λ kinds_of owns own d v over has same. c.in_ok-settled-in-Some-told.ensures kinds_of owns own d v over has (same ∙ sym c.compiled-in-Some-told.ensures.compiled))

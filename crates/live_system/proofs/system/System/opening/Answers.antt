@@ -4,7 +4,7 @@ use Rattle.live_packets.specs.Packets.{kinds_in}
 use Rattle.live_system.proofs.Opening.{opens}
 use Rattle.live_system.proofs.system.System.opening.Goals as goal
 
-pub returns : goal.returns
-returns c =
-    opens c.in_ok-opening.field-0 c.new.result c.in_ok-opening-2.field-0 c.in_ok-opening.ensures c.new.ensures
-    (c.in_ok-opening-2.ensures (kinds_in none_live) refl)
+pub returns-in-Ok : goal.returns-in-Ok
+returns-in-Ok c =
+    opens c.in_ok-desk.desk c.new.result c.in-Ok.tasks c.in_ok-desk.ensures c.new.ensures
+    (c.in-Ok.ensures (kinds_in none_live) refl)

@@ -1,0 +1,13 @@
+pub mod Found
+pub mod Envs
+pub mod Owns
+pub mod Finding
+pub mod Trees
+pub mod Steps
+pub mod Others
+pub mod Walking
+pub mod Beside
+pub mod Screens
+pub mod Couplings
+pub mod Alike
+pub mod Worlds

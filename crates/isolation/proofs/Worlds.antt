@@ -1,0 +1,366 @@
+-- A turn does the same in two worlds that are the same for the task.
+use Rattle.std.proofs.Common.{◌≡◌, ℕ, ◌-◌, ◌<◌, ◌≤◌, Bool, true, false, not, ◌&&◌, List, [], ◌∷◌, ◌++◌, length, fold, Option, Some, None, if◌then◌else◌}
+use Rattle.std.proofs.Common.{refl, sym, ap, ◌∙◌, subst, inl, append-nil, arith}
+use Rattle.std.specs.List.{list_any, flat_map}
+use Rattle.std.proofs.Math.Seq.{drop-length}
+use Rattle.std.proofs.lemmas.Bool.{false≢true, or_left, or_right, true_from_ne_false, ne_eqb, eq-eqb}
+use Rattle.std.proofs.lemmas.List.Folds.{list_any-append}
+use Rattle.std.proofs.lemmas.List.Sums.{fold-append}
+use Rattle.std.proofs.lemmas.Option.{none-some, same_Some}
+use Rattle.task_numbers.specs.declared.limits.TheConstants.{TASKS}
+use Rattle.task_numbers.specs.declared.number.TaskNo.{TaskNo}
+use Rattle.task_numbers.specs.Numbers.{is_nil, is_task}
+use Rattle.eu_base.specs.declared.stop.Stop.{Stop}
+use Rattle.eu_base.specs.declared.request.Request.{Request}
+use Rattle.eu_base.specs.declared.request.Request.TheVariants.{Out, Input, Begin, End, Myself, Father, Son, Brother, Named, Name, Exists, Break}
+use Rattle.eu_base.specs.declared.request.Reply.TheVariants.{Done}
+use Rattle.elan_scope.specs.declared.env.Env.{Env}
+use Rattle.task_tree.specs.Tree as tree
+use Rattle.task_tree.specs.Tree.{Tree, sons}
+use Rattle.task_tree.specs.Trees.{IsTree}
+use Rattle.task_walks.specs.Families.{descent, family}
+use Rattle.task_walks.specs.Ends.{EndInTurn}
+use Rattle.terminals.specs.Channels.{channel, channel_of}
+use Rattle.output_pieces.specs.Display.{unfinished_at, close_all}
+use Rattle.source_machine.specs.Below.packet_store.specs.declared.unit.Compiled.{Compiled}
+use Rattle.source_machine.specs.Below.packet_store.specs.Library.{started_at}
+use Rattle.source_machine.specs.Stores.{heir}
+use Rattle.source_machine.specs.Tasks.{Running, starting}
+use Rattle.source_machine.specs.Systems.{System, Moment, packets, kept, on_ready, on_system, on_display}
+use Rattle.source_machine.specs.Ends.{next, begun, ended, ended_with_descendants}
+use Rattle.source_machine.specs.Serving.{Served, Replies, Rests, put, line_taken, input, son_begins, begin_with, begin_refusal, is_first, may_end, end_allowed, end_living, named_or, serve}
+use Rattle.source_machine.specs.Monitor.{Reading}
+use Rattle.source_machine.specs.Turns.{turn, turn_of, turn_marks, most_evaluations}
+use Rattle.source_machine.specs.Whole.{IsSystem}
+use Rattle.isolation.specs.Own.{own_of}
+use Rattle.isolation.specs.Told.{told_first, turn_told}
+use Rattle.isolation.specs.Worlds.{at_channel, SameAt, SameFor, SameShown, GoesSame, IsNext}
+use Rattle.isolation.proofs.Found.{same_task, itself}
+use Rattle.isolation.proofs.Finding.{has, living, part, sons_are}
+use Rattle.isolation.proofs.Trees.{numbered, not_younger, son_is_younger, under_from}
+use Rattle.isolation.proofs.Steps.{Quiet, CanWait, waits_behind, can_wait, quiet_ready, nothing_of, begun_others}
+use Rattle.isolation.proofs.Others.{back_same, back_channels, can_begin, son_served, MayEnd, may}
+use Rattle.isolation.proofs.Walking.{Keeps, BothServed, slices}
+use Rattle.isolation.proofs.Screens.{all_close}
+use Rattle.isolation.proofs.Couplings.{is_at_channel}
+use Rattle.isolation.proofs.Alike.{AtChannel, ScreenAt, Alike, same_channel, at_that, Elsewhere, alike_on, IsFromAt, from_left, from_right, elsewhere_same, elsewhere_system, elsewhere_back, all_elsewhere, both_change, both_insert, both_say, both_write, both_take, both_uncouple_at, both_end}
+
+-- u is another than w where it is not younger
+older : (u w : TaskNo) → u.0 < w.0 → is_task w u ≡ false
+older u w less = ne_eqb w.0 u.0 (λ e. omega (arith, less, e))
+
+-- ---- a request whose task stays
+
+-- it is answered, and what is the task's stays
+abbrev Answered : TaskNo → Option ℕ → ℕ → Moment → Served → Type 0
+Answered u c a m (Replies r n) = Elsewhere u c a m n
+Answered u c a m (Rests n) = ⊥
+
+both_answered : (u : TaskNo) (c : Option ℕ) (a b : ℕ) (m n : Moment) (x y : Served) → Alike u c a b m n → Answered u c a m x → Answered u c b n y
+    → BothServed (Alike u c a b) x y
+both_answered u c a b m n (Replies r k) (Replies s l) h first second = λ e. alike_on u c a b m n k l h first second
+both_answered u c a b m n (Replies r k) (Rests l) h first second = absurd second
+both_answered u c a b m n (Rests k) (Replies s l) h first second = absurd first
+both_answered u c a b m n (Rests k) (Rests l) h first second = absurd first
+
+begin_answered : (u : TaskNo) (c : Option ℕ) (a : ℕ) (name : List ℕ) (unit : Option Compiled) (m : Moment) → IsFromAt c a u m → IsSystem m.system
+    → tree.lives u m.system.shared.tree ≡ true → (stop : Option Stop) → begin_refusal name m.system ≡ stop
+    → Answered u c a m (begin_with stop unit name u m)
+begin_answered u c a name unit m from is live (Some stop) e = elsewhere_same u c a m from is
+begin_answered u c a name None m from is live None e = elsewhere_same u c a m from is
+begin_answered u c a name (Some unit) m from is live None e =
+    let lives = living u m.system.shared.tree.tasks live in
+    elsewhere_system u c a m (son_begins name u unit m.system) from
+    (son_served name u unit m.system is live (can_begin name m.system e)).sound
+    (back_same (next m.system) u (begun name u (Running (starting unit (heir (kept u m.system)))) m.system)
+    ∙ begun_others name u (Running (starting unit (heir (kept u m.system)))) m.system is u (numbered m.system.shared.tree u lives.0 is.tree lives.1).given)
+    (back_channels (next m.system) (begun name u (Running (starting unit (heir (kept u m.system)))) m.system))
+
+-- another task ends, with its descendants
+family_elsewhere : (u v : TaskNo) (c : Option ℕ) (a : ℕ) (m : Moment) → is_nil u ≡ false → IsFromAt c a u m → IsSystem m.system → is_task u v ≡ false
+    → MayEnd u v m.system.shared.tree → Elsewhere u c a m (ended_with_descendants v m)
+family_elsewhere u v c a m some from is other can =
+    (all_elsewhere u some c a (family v m.system.shared.tree) [] m from is
+    (subst (λ (ts : List TaskNo). EndInTurn ts m.system.shared.tree) (sym (append-nil (family v m.system.shared.tree))) can.turn)
+    (λ w one.
+    let least = not_younger m.system.shared.tree w v is.tree (under_from m.system.shared.tree is.tree TASKS v w one) in
+    let less = not_younger m.system.shared.tree v u is.tree can.under in
+    older u w (apart u.0 v.0 w.0 less least (λ e. false≢true (sym other ∙ eq-eqb u.0 v.0 e))))).elsewhere
+  where
+    apart : (i j k : ℕ) → i ≤ j → j ≤ k → (i ≡ j → ⊥) → i < k
+    apart i j k less least other = omega (arith, less, least, other)
+
+end_answered : (u v : TaskNo) (c : Option ℕ) (a : ℕ) (m : Moment) → is_nil u ≡ false → IsFromAt c a u m → IsSystem m.system → is_task u v ≡ false
+    → (live : Bool) → tree.lives v m.system.shared.tree ≡ live → Answered u c a m (end_living live u v m)
+end_answered u v c a m some from is other false e = elsewhere_same u c a m from is
+end_answered u v c a m some from is other true live = by (may_end u v m.system) refl
+  where
+    which : (b : Bool) → b ≡ false → Elsewhere u c a m (ended_with_descendants v m)
+        → Answered u c a m (if b then Rests (ended_with_descendants v m) else Replies Done (ended_with_descendants v m))
+    which true e h = absurd (false≢true (sym e))
+    which false e h = h
+
+    by : (b : Bool) → may_end u v m.system ≡ b → Answered u c a m (end_allowed b u v m)
+    by false e = elsewhere_same u c a m from is
+    by true e = which (is_task u v) other (family_elsewhere u v c a m some from is other (may u v m.system is.tree live e))
+
+-- ---- a task ends itself
+
+abbrev descendants : TaskNo → Tree → List TaskNo
+descendants u s = flat_map (λ w. descent (TASKS - 1) w s) (sons u s)
+
+are_younger : (u w : TaskNo) (s : Tree) → IsTree s → has w (descendants u s) ≡ true → is_task w u ≡ false
+are_younger u w s is e =
+    let p = part (λ v. descent (TASKS - 1) v s) w (sons u s) e in
+    let less = son_is_younger s u p.of is (sons_are u p.of s.tasks is.apart p.one) in
+    let more = not_younger s w p.of is (under_from s is (TASKS - 1) p.of w p.inside) in
+    older u w (omega (arith, less, more))
+
+itself_ends : (u : TaskNo) (c : Option ℕ) (a b : ℕ) (m n : Moment) → is_nil u ≡ false → MayEnd u u m.system.shared.tree → MayEnd u u n.system.shared.tree
+    → Alike u c a b m n → Alike u c a b (ended_with_descendants u m) (ended_with_descendants u n)
+itself_ends u c a b m n some can may h =
+    let first = all_elsewhere u some c a (descendants u m.system.shared.tree) (u ∷ []) m (from_left u c a b m n h) h.first can.turn
+    (λ w one. are_younger u w m.system.shared.tree h.first.tree one) in
+    let second = all_elsewhere u some c b (descendants u n.system.shared.tree) (u ∷ []) n (from_right u c a b m n h) h.second may.turn
+    (λ w one. are_younger u w n.system.shared.tree h.second.tree one) in
+    subst (λ (k : Moment). Alike u c a b k (ended_with_descendants u n)) (sym (last_one m))
+    (subst (λ (k : Moment). Alike u c a b (ended (before m) u) k) (sym (last_one n))
+    (both_end u c a b (before m) (before n) first.turn.0 second.turn.0
+    (alike_on u c a b m n (before m) (before n) h first.elsewhere second.elsewhere)))
+  where
+    before : Moment → Moment
+    before m = fold ended m (descendants u m.system.shared.tree)
+
+    last_one : (m : Moment) → ended_with_descendants u m ≡ ended (before m) u
+    last_one m = fold-append ended m (descendants u m.system.shared.tree) (u ∷ [])
+
+-- a task is of its own family
+may_itself : (u : TaskNo) (s : System) → may_end u u s ≡ not (is_first u)
+may_itself u s = ap (λ (b : Bool). not (is_first u) && b) (last (descendants u s.shared.tree)) ∙ all_true (not (is_first u))
+  where
+    last : (ts : List TaskNo) → list_any (is_task u) (ts ++ u ∷ []) ≡ true
+    last ts = list_any-append (is_task u) ts (u ∷ []) ∙ or_right (list_any (is_task u) ts) _ (or_left (is_task u u) false (itself u))
+
+    all_true : (b : Bool) → (b && true) ≡ b
+    all_true true = refl
+    all_true false = refl
+
+itself_served : (u : TaskNo) (c : Option ℕ) (a b : ℕ) (m n : Moment) → is_nil u ≡ false → tree.lives u m.system.shared.tree ≡ true
+    → tree.lives u n.system.shared.tree ≡ true → Alike u c a b m n
+    → BothServed (Alike u c a b) (end_living (tree.lives u m.system.shared.tree) u u m) (end_living (tree.lives u n.system.shared.tree) u u n)
+itself_served u c a b m n some live lives h =
+    subst (λ (x : Bool). BothServed (Alike u c a b) (end_living x u u m) (end_living (tree.lives u n.system.shared.tree) u u n)) (sym live)
+    (subst (λ (x : Bool). BothServed (Alike u c a b) (end_allowed (may_end u u m.system) u u m) (end_living x u u n)) (sym lives)
+    (subst (λ (x : Bool). BothServed (Alike u c a b) (end_allowed x u u m) (end_allowed (may_end u u n.system) u u n)) (sym (may_itself u m.system))
+    (subst (λ (x : Bool). BothServed (Alike u c a b) (end_allowed (not (is_first u)) u u m) (end_allowed x u u n)) (sym (may_itself u n.system))
+    (by (not (is_first u)) refl))))
+  where
+    which : (x : Bool) → x ≡ true → Alike u c a b (ended_with_descendants u m) (ended_with_descendants u n)
+        → BothServed (Alike u c a b)
+        (if x then Rests (ended_with_descendants u m) else Replies Done (ended_with_descendants u m))
+        (if x then Rests (ended_with_descendants u n) else Replies Done (ended_with_descendants u n))
+    which true e h = h
+    which false e h = absurd (false≢true e)
+
+    by : (x : Bool) → not (is_first u) ≡ x → BothServed (Alike u c a b) (end_allowed x u u m) (end_allowed x u u n)
+    by false e = λ same. h
+    by true e =
+        which (is_task u u) (itself u)
+        (itself_ends u c a b m n some (may u u m.system h.first.tree live (may_itself u m.system ∙ e))
+        (may u u n.system h.second.tree lives (may_itself u n.system ∙ e)) h)
+
+-- ---- each request
+
+module _ (u : TaskNo) (c : Option ℕ) (a b : ℕ) where
+  puts : (bytes : List ℕ) (ends : Bool) (m n : Moment) → Alike u c a b m n
+      → BothServed (Alike u c a b) (put (channel_of u m.system.shared.channels) bytes ends m) (put (channel_of u n.system.shared.channels) bytes ends n)
+  puts bytes ends m n h =
+      subst (λ (o : Option ℕ). BothServed (Alike u c a b) (put (channel_of u m.system.shared.channels) bytes ends m) (put o bytes ends n))
+      (same_channel u c m.system.shared.channels n.system.shared.channels h.at) (by (channel_of u m.system.shared.channels) refl)
+    where
+      by : (o : Option ℕ) → channel_of u m.system.shared.channels ≡ o → BothServed (Alike u c a b) (put o bytes ends m) (put o bytes ends n)
+      by None e = h
+      by (Some j) e = λ same. both_write u c a b bytes ends j m n e h
+
+  inputs : (m n : Moment) → Alike u c a b m n
+      → BothServed (Alike u c a b) (input (channel_of u m.system.shared.channels) m) (input (channel_of u n.system.shared.channels) n)
+  inputs m n h =
+      subst (λ (o : Option ℕ). BothServed (Alike u c a b) (input (channel_of u m.system.shared.channels) m) (input o n))
+      (same_channel u c m.system.shared.channels n.system.shared.channels h.at) (by (channel_of u m.system.shared.channels) refl)
+    where
+      lines : (j : ℕ) → channel_of u m.system.shared.channels ≡ Some j → (queue : List (List ℕ))
+          → BothServed (Alike u c a b) (line_taken queue j m) (line_taken queue j n)
+      lines j e [] = h
+      lines j e (line ∷ rest) = λ same. both_take u c a b j m n e h
+
+      by : (o : Option ℕ) → channel_of u m.system.shared.channels ≡ o → BothServed (Alike u c a b) (input o m) (input o n)
+      by None e = h
+      by (Some j) e =
+          subst (λ (queue : List (List ℕ)). BothServed (Alike u c a b) (input (Some j) m) (line_taken queue j n))
+          (at_that u c j m.system.shared.channels n.system.shared.channels h.at e).coupled.queue
+          (lines j e (channel j m.system.shared.channels).queue)
+
+  ends : (v : TaskNo) (m n : Moment) → is_nil u ≡ false → tree.lives u m.system.shared.tree ≡ true → tree.lives u n.system.shared.tree ≡ true → Alike u c a b m n
+      → BothServed (Alike u c a b) (end_living (tree.lives v m.system.shared.tree) u v m) (end_living (tree.lives v n.system.shared.tree) u v n)
+  ends v m n some live lives h = by (is_task u v) refl
+    where
+      by : (x : Bool) → is_task u v ≡ x
+          → BothServed (Alike u c a b) (end_living (tree.lives v m.system.shared.tree) u v m) (end_living (tree.lives v n.system.shared.tree) u v n)
+      by true e =
+          subst
+          (λ (w : TaskNo). BothServed (Alike u c a b) (end_living (tree.lives w m.system.shared.tree) u w m) (end_living (tree.lives w n.system.shared.tree) u w n))
+          (same_task u v e) (itself_served u c a b m n some live lives h)
+      by false other =
+          both_answered u c a b m n _ _ h
+          (end_answered u v c a m some (from_left u c a b m n h) h.first other (tree.lives v m.system.shared.tree) refl)
+          (end_answered u v c b n some (from_right u c a b m n h) h.second other (tree.lives v n.system.shared.tree) refl)
+
+  serves : (q : Request) (m n : Moment) → (own_of u m.system ≡ None → ⊥) → Alike u c a b m n → BothServed (Alike u c a b) (serve u q m) (serve u q n)
+  serves q m n there h = by q
+    where
+      live : tree.lives u m.system.shared.tree ≡ true
+      live = true_from_ne_false (tree.lives u m.system.shared.tree) (λ dead. there (nothing_of u m.system dead))
+
+      lives : tree.lives u n.system.shared.tree ≡ true
+      lives = true_from_ne_false (tree.lives u n.system.shared.tree) (λ dead. there (h.own ∙ nothing_of u n.system dead))
+
+      some : is_nil u ≡ false
+      some =
+          let found = living u m.system.shared.tree.tasks live in
+          let low = (numbered m.system.shared.tree u found.0 h.first.tree found.1).some in
+          ne_eqb u.0 0 (λ e. omega (arith, low, e))
+
+      by : (q : Request) → BothServed (Alike u c a b) (serve u q m) (serve u q n)
+      by (Out bytes ends) = puts bytes ends m n h
+      by Input = inputs m n h
+      by (Begin name start) =
+          both_answered u c a b m n _ _ h
+          (begin_answered u c a name (started_at m.system.shared.library (packets u m.system) start) m (from_left u c a b m n h) h.first live
+          (begin_refusal name m.system) refl)
+          (begin_answered u c b name (started_at n.system.shared.library (packets u n.system) start) n (from_right u c a b m n h) h.second lives
+          (begin_refusal name n.system) refl)
+      by Myself = λ same. h
+      by (Father of) = λ same. h
+      by (Son of) = λ same. h
+      by (Brother of) = λ same. h
+      by (Named name) = λ same. h
+      by (Name of) = λ same. h
+      by (Exists of) = λ same. h
+      by (End of) = ends (named_or of u) m n some live lives h
+      by Break = λ same. both_uncouple_at u c a b m n h
+
+  keeps : Keeps u (Alike u c a b)
+  keeps = record {
+    own = λ m n h. h.own;
+    channel = λ m n h. same_channel u c m.system.shared.channels n.system.shared.channels h.at;
+    queue = λ j m n h e. (at_that u c j m.system.shared.channels n.system.shared.channels h.at e).coupled.queue;
+    backs = λ m n h.
+        alike_on u c a b m n _ _ h (elsewhere_back u c a m (from_left u c a b m n h) h.first) (elsewhere_back u c b n (from_right u c a b m n h) h.second);
+    changes = λ f same m n h. both_change u c a b f same m n h;
+    says = λ j bytes m n e h. both_say u c a b bytes j m n e h;
+    takes = λ j m n e h. both_take u c a b j m n e h;
+    inserts = λ unit i m n last h. both_insert u c a b unit i m n last h;
+    serves = serves;
+  }
+
+-- ---- a turn
+
+module _ (read : Env → Bool → List ℕ → Reading) (u : TaskNo) (m n : Moment) (is_m : IsSystem m.system) (is_n : IsSystem n.system)
+    (four_m : length m.display.unfinished ≡ 4) (four_n : length n.display.unfinished ≡ 4) (h : SameFor u m n) where
+  begins_at : (o : Option ℕ) → channel_of u m.system.shared.channels ≡ o → SameAt o m n → AtChannel o u m.system.shared.channels n.system.shared.channels
+  begins_at None e at = (e, sym h.channel ∙ e)
+  begins_at (Some k) e at = inl (record { left = e; right = sym h.channel ∙ e; queue = at.0 })
+
+  shows_at : (o : Option ℕ) → channel_of u m.system.shared.channels ≡ o → SameAt o m n → ScreenAt o (length m.display.shown) (length n.display.shown) m.display n.display
+  shows_at None e at = tt
+  shows_at (Some k) e at = (
+    (is_at_channel k u m.system.shared.channels e).from,
+    record {
+      line = at.1;
+      many = four_m ∙ sym four_n;
+      shown = ap (at_channel k) (drop-length m.display.shown) ∙ sym (ap (at_channel k) (drop-length n.display.shown));
+      low = omega arith;
+      less = omega arith;
+    },
+  )
+
+  begins : (ms ns : List TaskNo) → CanWait m.system.shared.tree ms → CanWait n.system.shared.tree ns
+      → Alike u (channel_of u m.system.shared.channels) (length m.display.shown) (length n.display.shown)
+      (on_system (on_ready (λ _. ms)) m) (on_system (on_ready (λ _. ns)) n)
+  begins ms ns waits wait = record {
+    first = (quiet_ready u (λ _. ms) m.system waits is_m).sound;
+    second = (quiet_ready u (λ _. ns) n.system wait is_n).sound;
+    own = h.own;
+    at = begins_at (channel_of u m.system.shared.channels) refl h.terminal;
+    screen = shows_at (channel_of u m.system.shared.channels) refl h.terminal;
+  }
+
+  closed : (later other : Moment) → Alike u (channel_of u m.system.shared.channels) (length m.display.shown) (length n.display.shown) later other
+      → Alike u (channel_of u m.system.shared.channels) (length m.display.shown) (length n.display.shown) (on_display close_all later) (on_display close_all other)
+  closed later other h = record {
+    first = h.first;
+    second = h.second;
+    own = h.own;
+    at = h.at;
+    screen = by (channel_of u m.system.shared.channels) h.screen;
+  }
+    where
+      by : (o : Option ℕ) → ScreenAt o (length m.display.shown) (length n.display.shown) later.display other.display
+          → ScreenAt o (length m.display.shown) (length n.display.shown) (close_all later.display) (close_all other.display)
+      by None screen = tt
+      by (Some k) screen = (screen.0, all_close k (length m.display.shown) (length n.display.shown) later.display other.display screen.0 screen.1)
+
+  goes : (later other : Moment) → Alike u (channel_of u m.system.shared.channels) (length m.display.shown) (length n.display.shown) later other
+      → GoesSame u m n later other
+  goes later other alike = record {
+    same = record {
+      own = alike.own;
+      channel = same_channel u (channel_of u m.system.shared.channels) later.system.shared.channels other.system.shared.channels alike.at;
+      terminal = same_terminal (channel_of u later.system.shared.channels) refl;
+    };
+    shown = same_shown (channel_of u m.system.shared.channels) alike.screen;
+  }
+    where
+      line_at : (o : Option ℕ) (j : ℕ) → o ≡ Some j → ScreenAt o (length m.display.shown) (length n.display.shown) later.display other.display
+          → unfinished_at j later.display ≡ unfinished_at j other.display
+      line_at None j e screen = absurd (none-some j e)
+      line_at (Some k) j e screen =
+          subst (λ (i : ℕ). unfinished_at i later.display ≡ unfinished_at i other.display) (same_Some k j e) screen.1.line
+
+      same_terminal : (o : Option ℕ) → channel_of u later.system.shared.channels ≡ o → SameAt o later other
+      same_terminal None e = tt
+      same_terminal (Some j) e =
+          let that = at_that u (channel_of u m.system.shared.channels) j later.system.shared.channels other.system.shared.channels alike.at e in
+          (that.coupled.queue, line_at (channel_of u m.system.shared.channels) j that.is alike.screen)
+
+      same_shown : (o : Option ℕ) → ScreenAt o (length m.display.shown) (length n.display.shown) later.display other.display → SameShown o m n later other
+      same_shown None screen = tt
+      same_shown (Some k) screen = screen.1.shown
+
+  first_goes : (ms ns : List TaskNo) → CanWait m.system.shared.tree (u ∷ ms) → CanWait n.system.shared.tree (u ∷ ns) → told_first (u ∷ ms) m ≡ told_first (u ∷ ns) n
+      → GoesSame u m n (on_display close_all (turn_of read (u ∷ ms) m)) (on_display close_all (turn_of read (u ∷ ns) n))
+  first_goes ms ns waits wait same =
+      goes (on_display close_all (turn_of read (u ∷ ms) m)) (on_display close_all (turn_of read (u ∷ ns) n))
+      (closed (turn_of read (u ∷ ms) m) (turn_of read (u ∷ ns) n)
+      (slices u (Alike u (channel_of u m.system.shared.channels) (length m.display.shown) (length n.display.shown))
+      (keeps u (channel_of u m.system.shared.channels) (length m.display.shown) (length n.display.shown)) read most_evaluations turn_marks
+      (on_system (on_ready (λ _. ms)) m) (on_system (on_ready (λ _. ns)) n) (begins ms ns (waits_behind m.system.shared.tree u ms waits) (waits_behind n.system.shared.tree u ns wait)) same))
+
+  any_goes : (ms ns : List TaskNo) → CanWait m.system.shared.tree ms → CanWait n.system.shared.tree ns → IsNext u ms → IsNext u ns
+      → told_first ms m ≡ told_first ns n → GoesSame u m n (on_display close_all (turn_of read ms m)) (on_display close_all (turn_of read ns n))
+  any_goes [] ns waits wait one other = absurd one
+  any_goes (t ∷ ms) [] waits wait one other = absurd other
+  any_goes (t ∷ ms) (v ∷ ns) waits wait one other =
+      subst
+      (λ (x : TaskNo). CanWait m.system.shared.tree (x ∷ ms) → told_first (x ∷ ms) m ≡ told_first (v ∷ ns) n
+      → GoesSame u m n (on_display close_all (turn_of read (x ∷ ms) m)) (on_display close_all (turn_of read (v ∷ ns) n)))
+      (sym one)
+      (subst
+      (λ (y : TaskNo). CanWait n.system.shared.tree (y ∷ ns) → CanWait m.system.shared.tree (u ∷ ms) → told_first (u ∷ ms) m ≡ told_first (y ∷ ns) n
+      → GoesSame u m n (on_display close_all (turn_of read (u ∷ ms) m)) (on_display close_all (turn_of read (y ∷ ns) n)))
+      (sym other) (λ w v same. first_goes ms ns v w same) wait)
+      waits
+
+  pub turn_goes : IsNext u m.system.shared.ready → IsNext u n.system.shared.ready → turn_told m ≡ turn_told n
+      → GoesSame u m n (turn read m) (turn read n)
+  turn_goes one other = any_goes m.system.shared.ready n.system.shared.ready (can_wait m.system is_m) (can_wait n.system is_n) one other

@@ -1,0 +1,9 @@
+-- The steps of a turn, one after another.
+use Rattle.isolation.proofs.Beside.{turn_leaves, turn_keeps}
+use Rattle.isolation.proofs.law.others_stay.Goals as goal
+
+pub returns-clause-others : goal.returns-clause-others
+returns-clause-others c = λ read m is. turn_leaves read m is
+
+pub returns-clause-whole : goal.returns-clause-whole
+returns-clause-whole c = λ read m is. turn_keeps read m is
