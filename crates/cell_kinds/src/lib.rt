@@ -3,8 +3,10 @@
 
 mod kinds;
 mod packet;
+mod same;
 mod shape;
 
 pub use kinds::CellKinds;
 pub use packet::Packet;
+pub use same::is_same;
 pub use shape::count;

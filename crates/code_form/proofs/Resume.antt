@@ -42,8 +42,8 @@ Widens marks replies Lost c s st = Unit {0}
 
 after_widens : (marks : ℕ) (replies : List Reply) (a : After) (d : Control) (s : Scene)
     → Widens marks replies (after_stage a d s) d s (after_stage a d (wider s marks replies))
-after_widens marks replies (To c' cells) d s = refl
-after_widens marks replies (Asks c' q cells) d s = refl
+after_widens marks replies (To c' m) d s = refl
+after_widens marks replies (Asks c' q m) d s = refl
 after_widens marks replies (Stops stop) d s = λ paused. absurd paused
 after_widens marks replies Unsaid d s = tt
 
@@ -54,8 +54,8 @@ of_marks marks replies (Over r) st' c s s' never w = λ paused. absurd (never r 
 of_marks marks replies Lost st' c s s' never w = tt
 
 never_paused : (a : After) (d : Control) (s : Scene) (r : Rest) → after_stage a d s ≡ Over r → IsPaused r.how → ⊥
-never_paused (To c' cells) d s r e paused = let f : ⊥ = cc in f
-never_paused (Asks c' q cells) d s r e paused = let f : ⊥ = cc in f
+never_paused (To c' m) d s r e paused = let f : ⊥ = cc in f
+never_paused (Asks c' q m) d s r e paused = let f : ⊥ = cc in f
 never_paused (Stops stop) d s r e paused =
     let f : record { how = halts.Stopped stop; control = d; scene = s } ≡ r = cc in
     subst (λ (x : Rest). IsPaused x.how) (sym f) paused
@@ -73,7 +73,7 @@ mark_widens marks replies (suc m) a d s =
 
 move_widens : (marks : ℕ) (replies : List Reply) (m : Move) (d : Control) (s : Scene)
     → Widens marks replies (move_stage m d s) d s (move_stage m d (wider s marks replies))
-move_widens marks replies (Goes c' cells) d s = refl
+move_widens marks replies (Goes c' m) d s = refl
 move_widens marks replies (Spends a) d s = mark_widens marks replies s.marks a d s
 move_widens marks replies (Halts stop) d s = λ paused. (refl, refl)
 move_widens marks replies (Refuses stop c') d s = refl
@@ -83,9 +83,9 @@ move_widens marks replies Stuck d s = tt
 
 stage_widens : (p : Program) (marks : ℕ) (replies : List Reply) (w : Waits) (c : Position) (s : Scene)
     → Widens marks replies (stage_at w p c s) (record { position = c; waits = w }) s (stage_at w p c (wider s marks replies))
-stage_widens p marks replies Nothing c s = move_widens marks replies (step p c s.cells) (free c) s
+stage_widens p marks replies Nothing c s = move_widens marks replies (step p c s.mem) (free c) s
 stage_widens p marks replies (Given r) c s =
-    move_widens marks replies (takes_reply (instr_of (slice_get p.lines c.pc)) r c s.cells) (given c r) s
+    move_widens marks replies (takes_reply (instr_of (slice_get p.lines c.pc)) r c s.mem) (given c r) s
 stage_widens p marks replies (Asked q) c s = asks s.replies
   where
     asks : (rs : List Reply)

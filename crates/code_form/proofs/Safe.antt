@@ -14,8 +14,11 @@ use Rattle.eu_base.specs.declared.value.Kind.TheVariants as kinds
 use Rattle.eu_base.specs.declared.value.Value.{Value}
 use Rattle.eu_base.specs.declared.value.Value.TheVariants as item
 use Rattle.eu_base.specs.declared.operation.Way.{Way}
-use Rattle.eu_base.specs.declared.stop.Stop.TheVariants.{CellRoom, TextRoom}
-use Rattle.eu_base.specs.Values.{kind_of, number_of, truth_of, blank_of, number_in, truth_in, task_in}
+use Rattle.eu_base.specs.declared.stop.Stop.TheVariants.{CellRoom, OperandRoom, TextRoom, NoSpace}
+use Rattle.eu_base.specs.Values.{SpaceNo, kind_of, number_of, truth_of, space_of, blank_of, number_in, truth_in, task_in, space_in}
+use Rattle.eu_base.specs.DataSpaces.{SpaceChange}
+use Rattle.eu_base.specs.SpaceOperations.{space_operand_kinds, space_result_kind, Plan, planned, copy_plan, bind_plan}
+use Rattle.eu_base.specs.SpacePlaces.{is_in}
 use Rattle.eu_base.specs.declared.shape.Shape.{Shape}
 use Rattle.eu_base.specs.declared.shape.Shape.TheVariants.{Cell as OneCell}
 use Rattle.eu_base.specs.Shapes.{cell_kinds}
@@ -26,7 +29,7 @@ use Rattle.eu_base.specs.declared.request.Request.{Request}
 use Rattle.eu_base.specs.declared.request.Reply.{Reply}
 use Rattle.eu_base.specs.declared.request.Reply.TheVariants as replies
 use Rattle.eu_base.specs.Requests.{request_kinds, request_places, request_result, request_size, request_of, read_as, answer_of}
-use Rattle.eu_base.specs.Cells.{Cell, Free, Word, Letters, Cells, held_of, IsCell, run_cell, packet_cell, place_in, written, cell_blocks, area_blocks, blocks_in, freed}
+use Rattle.eu_base.specs.Cells.{Cell, Free, Word, Letters, held_of, IsCell, run_cell, packet_cell, place_in, written, cell_blocks, area_blocks, blocks_in, freed}
 use Rattle.code_form.specs.declared.operand.Operand.{Operand}
 use Rattle.code_form.specs.declared.operand.Operand.TheVariants.{Value as Of, Place as At, Aggregate}
 use Rattle.code_form.specs.declared.operand.OperandKind.{OperandKind}
@@ -34,7 +37,7 @@ use Rattle.code_form.specs.declared.operand.OperandKind.TheVariants.{Value as Of
 use Rattle.code_form.specs.declared.waits.Waits.{Waits}
 use Rattle.code_form.specs.declared.waits.Waits.TheVariants.{Nothing, Asked, Given, Refused}
 use Rattle.code_form.specs.declared.instr.Instr.{Instr}
-use Rattle.code_form.specs.declared.instr.Instr.TheVariants.{Mark, Number, Truth, Text, Outer, Packet, Local, Param, Index, Field, Pick, Take, Load, Store, Do, Modify, Jump, False}
+use Rattle.code_form.specs.declared.instr.Instr.TheVariants.{Mark, Number, Truth, Text, Outer, Packet, Local, Param, Index, Field, Content, Pick, Take, Load, Store, Do, OnSpaces, Copy, Bind, Modify, Jump, False}
 use Rattle.code_form.specs.declared.instr.Instr.TheVariants.{When, Drop, Limit, Unlimit, Step, Ask, ErrorStop, Call, Refer, Back, Out, End}
 use Rattle.code_form.specs.declared.code.Line.{Line}
 use Rattle.code_form.specs.declared.code.Spot.{Spot}
@@ -42,6 +45,8 @@ use Rattle.code_form.specs.declared.code.Entry.{Entry}
 use Rattle.code_form.specs.declared.code.Layout.{Layout}
 use Rattle.code_form.specs.declared.code.Layout.TheVariants as layouts
 use Rattle.code_form.specs.Program.{Program, line_of, instr_of, in_body, deeper, owner, owner_in, owner_at, layout_of, cells_of, cells_in, cells_at, CellUse, HoldsValue, cell_uses, frame_cells}
+use Rattle.code_form.specs.Machine.{Mem, with_cells, if_there, takes_number, content_at, mem_after, changes, answers, keeps_space, without_held, copies, can_all_change}
+use Rattle.code_form.specs.Machine.{fills, binds}
 use Rattle.code_form.specs.Machine.{value_in, keeps, settles, takes_reply, asking, given, answered}
 use Rattle.code_form.specs.Machine.{Frame, Position, free, To, Stops, Unsaid, Move, Goes, Spends, operand_of, least_bytes, operand_bytes, bytes_on, bytes_of, base_of, at}
 use Rattle.code_form.specs.Machine.{using, goes, pushes, on_value, on_all, on_place, on_values, on_operands, on_result, or_halt, on_word, on_cell, on_cells, is_free, are_free}
@@ -52,6 +57,7 @@ use Rattle.code_form.specs.Valid.{is_ask, is_asking, request_operands, FitsKinds
 use Rattle.code_form.specs.Runs.{IsSafe, StaysFit}
 use Rattle.eu_base.proofs.Results.{result_gives, answer_gives, kind_is}
 use Rattle.eu_base.proofs.Shapes.{kinds_of_cell}
+use Rattle.code_form.proofs.Plans.{IsAnswer, Delivers, planned_delivers}
 
 -- so many operands a request has
 pub request_many : (q : RequestName) → length (request_operands q) ≡ request_size q
@@ -257,7 +263,7 @@ module _ (p : Program) (valid : IsValid p) where
       omega (arith, e, o, below, x.2, x.3, made.used))
       made.entry.layout refl
 
-module _ (p : Program) (valid : IsValid p) (pc : ℕ) (ops : List Operand) (used : ℕ) (frames : List Frame) (cells : Cells) where
+module _ (p : Program) (valid : IsValid p) (pc : ℕ) (ops : List Operand) (used : ℕ) (frames : List Frame) (mem : Mem) where
   abbrev now : Position
   now = record { pc = pc; ops = ops; used = used; frames = frames }
 
@@ -363,10 +369,18 @@ module _ (p : Program) (valid : IsValid p) (pc : ℕ) (ops : List Operand) (used
         → Fits p (free (record { pc = pc; ops = ops; used = used; frames = frames }))
     fit pc ks ops next f = fits_at pc ks ops Nothing next f (λ e. absurd (cc e))
 
+    push_on : (o : Operand) (k : OperandKind) (r : List Operand) (ks : List OperandKind) (u : Mem) → FitsKind o k → Next p.lines (pc + 1) (k ∷ ks) m
+        → FitsKinds r ks → Safe (pushes now o r u)
+    push_on o k r ks u is next f =
+        cond_safe (bytes_fit (operand_bytes o + bytes_on r (bytes_of frames))) (goes now (o ∷ r) u) (Halts OperandRoom)
+        (λ e. fit (pc + 1) (k ∷ ks) (o ∷ r) next ((is, f), e)) tt
+
+    there_safe : (ks : List Kind) (a : Addr) (u : Mem) (move : Move) → Safe move → Safe (if_there ks a u move)
+    there_safe ks a u move x = cond_safe (is_in ks a.area a.cell u.heads) move (Halts NoSpace) (λ _. x) tt
+
     push_safe : (o : Operand) (k : OperandKind) (r : List Operand) (ks : List OperandKind) → FitsKind o k → Next p.lines (pc + 1) (k ∷ ks) m → FitsKinds r ks
-        → Safe (pushes now o r cells)
-    push_safe o k r ks is next f =
-        cond_safe (bytes_fit (operand_bytes o + bytes_on r (bytes_of frames))) _ _ (λ e. fit (pc + 1) (k ∷ ks) (o ∷ r) next ((is, f), e)) tt
+        → Safe (pushes now o r mem)
+    push_safe o k r ks is next f = push_on o k r ks mem is next f
 
     chosen : (t : Bool) (a b : ℕ) (ks : List OperandKind) (m : Spot) → Next p.lines a ks m → Next p.lines b ks m → Next p.lines (cond t a b) ks m
     chosen true a b ks m x y = x
@@ -393,11 +407,12 @@ module _ (p : Program) (valid : IsValid p) (pc : ℕ) (ops : List Operand) (used
     cell_safe kinds.Text (Word n) f h = tt
     cell_safe kinds.Text (Letters t) f h = h (item.Text t) refl
     cell_safe kinds.Task x f h = word_safe x (λ n. f (item.Task (task_in n))) (λ n. h (item.Task (task_in n)) refl)
+    cell_safe kinds.Space x f h = word_safe x (λ n. f (item.Space (space_in n))) (λ n. h (item.Space (space_in n)) refl)
 
-    cells_safe : (ks : List Kind) (a : Addr) (f : List Value → Move) → ((vs : List Value) → map kind_of vs ≡ ks → Safe (f vs)) → Safe (on_cells ks a cells f)
+    cells_safe : (ks : List Kind) (a : Addr) (f : List Value → Move) → ((vs : List Value) → map kind_of vs ≡ ks → Safe (f vs)) → Safe (on_cells ks a mem.cells f)
     cells_safe [] a f h = h [] refl
     cells_safe (k ∷ ks) a f h =
-        cell_safe k (cells a) _ (λ v is.
+        cell_safe k (mem.cells a) _ (λ v is.
         cells_safe ks (next a) (λ vs. f (v ∷ vs)) (λ vs same. h (v ∷ vs) (ap (λ k. k ∷ map kind_of vs) is ∙ ap (λ l. k ∷ l) same)))
 
     -- a place further on is pushed in the stead of one
@@ -406,7 +421,7 @@ module _ (p : Program) (valid : IsValid p) (pc : ℕ) (ops : List Operand) (used
     item_safe (Some n) go h = h n refl
 
     further_safe : (a : Addr) (n : ℕ) (k : Shape) (r : List Operand) (ks : List OperandKind) → Next p.lines (pc + 1) (AtKind k ∷ ks) m → FitsKinds r ks
-        → Safe (pushes now (At (further a n)) r cells)
+        → Safe (pushes now (At (further a n)) r mem)
     further_safe a n k r ks next f =
         let small : (a.cell + n) % CELLS < CELLS = omega arith in
         push_safe (At (further a n)) (AtKind k) r ks small next f
@@ -414,7 +429,7 @@ module _ (p : Program) (valid : IsValid p) (pc : ℕ) (ops : List Operand) (used
     -- so many cells of a value are pushed in its stead
     part_safe : (from size : ℕ) (vs : List Value) (s t : Shape) (r : List Operand) (ks : List OperandKind) → map kind_of vs ≡ cell_kinds s
         → take size (drop from (cell_kinds s)) ≡ cell_kinds t → Next p.lines (pc + 1) (OfKind t ∷ ks) m → Has r ks
-        → Safe (pushes now (operand_of (take size (drop from vs))) r cells)
+        → Safe (pushes now (operand_of (take size (drop from vs))) r mem)
     part_safe from size vs s t r ks is part next g =
         let kinds : map kind_of (take size (drop from vs)) ≡ cell_kinds t =
         sym (take-map kind_of size (drop from vs)) ∙ ap (take size) (sym (drop-map kind_of from vs) ∙ ap (drop from) is) ∙ part in
@@ -422,11 +437,11 @@ module _ (p : Program) (valid : IsValid p) (pc : ℕ) (ops : List Operand) (used
 
     -- more and fewer limits
     limit_safe : (way : Way) (a : ℕ) (v : Value) (x : Addr) (r : List Operand) (ks : List OperandKind) → Next p.lines (pc + 1) ks (deeper m)
-        → Next p.lines a ks (deeper m) → Has r ks → Safe (limit_to now way a (number_of v) x r cells)
+        → Next p.lines a ks (deeper m) → Has r ks → Safe (limit_to now way a (number_of v) x r mem)
     limit_safe way a v x r ks next lands f =
         cond_safe (cells_fit (used + 1)) _ _ (λ e.
-        cond_safe (is_free (cells (run_cell used))) _ _ (λ _.
-        word_safe (cells x) _ (λ n.
+        cond_safe (is_free (mem.cells (run_cell used))) _ _ (λ _.
+        there_safe (kinds.Int ∷ []) x mem _ (word_safe (mem.cells x) _ (λ n.
         let t = is_past way (number_of v) (number_in n) in
         record {
           kinds = ks;
@@ -440,7 +455,7 @@ module _ (p : Program) (valid : IsValid p) (pc : ℕ) (ops : List Operand) (used
           asks = λ e. absurd (cc e);
           cells = λ _. e;
           bytes = f.1;
-        })) tt) tt
+        }))) tt) tt
 
     unlimit_safe : (outer : Spot) (ks : List OperandKind) → m ≡ deeper outer → Next p.lines (pc + 1) ks outer → Has ops ks
         → Fits p (free (using (at now (pc + 1) ops) (used - 1)))
@@ -471,7 +486,7 @@ module _ (p : Program) (valid : IsValid p) (pc : ℕ) (ops : List Operand) (used
           used = used + length ns;
           frames =
               record { back = pc + 1; base = base; used = used; refines = refines; body = n; ops = r } ∷ frames;
-        }) (written_from used ns cells)) (Stops TextRoom)) (Stops CellRoom))
+        }) (with_cells (written_from used ns mem.cells) mem)) (Stops TextRoom)) (Stops CellRoom))
         Unsaid))
     enters_safe n e base floor' refines r rest ns has f is so false t texts fit = tt
     enters_safe n e base floor' refines r rest ns has f is so true false texts fit = tt
@@ -499,12 +514,12 @@ module _ (p : Program) (valid : IsValid p) (pc : ℕ) (ops : List Operand) (used
     }
 
     call_safe : (n : ℕ) (ks : List OperandKind) → slice_get p.lines pc ≡ Some (line_of (Call n) ks m) → IsCalled p pc n ks m → Has ops ks
-        → Safe (call_move now n (slice_get p.bodies n) cells)
+        → Safe (call_move now n (slice_get p.bodies n) mem)
     call_safe n ks line c f =
-        subst (λ o. Safe (call_move now n o cells)) (sym c.has)
-        (subst (λ l. Safe (calls_to now n c.entry.first l cells)) (sym c.own)
+        subst (λ o. Safe (call_move now n o mem)) (sym c.has)
+        (subst (λ l. Safe (calls_to now n c.entry.first l mem)) (sym c.own)
         (let e : length c.parameters ≡ length c.parameters + 0 = omega arith in
-        subst (λ k. Safe (on_operands k [] ops (λ args ops. Spends (enters now c.entry.first (used + 2) false n ops (frame_contents args c.variables) cells))))
+        subst (λ k. Safe (on_operands k [] ops (λ args ops. Spends (enters now c.entry.first (used + 2) false n ops (frame_contents args c.variables) mem))))
         (sym e)
         (some_fitting c.parameters 0 [] c.rest [] ops _ tt (subst (Has ops) c.taken f) (λ args r fits g.
         let many : length (flat_map held_cells args) ≡ length (flat_map cell_uses c.parameters) =
@@ -524,16 +539,16 @@ module _ (p : Program) (valid : IsValid p) (pc : ℕ) (ops : List Operand) (used
         enters_safe n c.entry (used + 2) floor' false r c.rest (frame_contents args c.variables) c.has g
         (omega (arith, numbers))
         (subst (λ l. MadeSo p l n pc c.rest m (record { back = pc + 1; base = used + 2; used = used; refines = false; body = n; ops = r })
-        floor' (base_of frames)) (sym c.own) so) (are_free used (frame_contents args c.variables) cells)
+        floor' (base_of frames)) (sym c.own) so) (are_free used (frame_contents args c.variables) mem.cells)
         (cells_fit (used + length (frame_contents args c.variables)))
-        (texts_fit (content_blocks (frame_contents args c.variables)) (blocks_in (written_from used (frame_contents args c.variables) cells))) refl))))
+        (texts_fit (content_blocks (frame_contents args c.variables)) (blocks_in (written_from used (frame_contents args c.variables) mem.cells))) refl))))
 
     refer_safe : (n : ℕ) (ks : List OperandKind) → slice_get p.lines pc ≡ Some (line_of (Refer n) ks m) → IsReferred p pc n ks m → Has ops ks
-        → Safe (refer_move now n (slice_get p.bodies n) cells)
+        → Safe (refer_move now n (slice_get p.bodies n) mem)
     refer_safe n ks line c f =
-        subst (λ o. Safe (refer_move now n o cells)) (sym c.has)
+        subst (λ o. Safe (refer_move now n o mem)) (sym c.has)
         (enters_safe n c.entry (base_of frames) (used + 2) true ops ks link_contents c.has f refl (so c.entry.layout c.refinement)
-        (are_free used link_contents cells) (cells_fit (used + length link_contents)) true refl)
+        (are_free used link_contents mem.cells) (cells_fit (used + length link_contents)) true refl)
       where
         so : (l : Layout) → IsRefinement l
             → MadeSo p l n pc ks m (record { back = pc + 1; base = base_of frames; used = used; refines = true; body = n; ops = ops }) (used + 2)
@@ -569,11 +584,11 @@ module _ (p : Program) (valid : IsValid p) (pc : ℕ) (ops : List Operand) (used
         → floor' ≤ used → bytes_of (f ∷ fs) ≤ bytes_of frames → h.1.1.0.entry.delivers ≡ k
         → ((r : List Operand) (rest : List OperandKind) → FitsKinds r rest → FitsKinds (os ++ r) (with_result k rest))
         → ((r : List Operand) (held : ℕ) → bytes_on r held ≤ bytes_of frames → bytes_fit (bytes_on (os ++ r) held) ≡ true)
-        → Safe (back_into p os used f fs cells)
+        → Safe (back_into p os used f fs mem)
     into_safe f fs body floor' k os h le bytes is fits room' =
         let made' = h.1.1.0 in
-        cond_safe (is_framed (slice_get p.bodies f.body) f.used used cells)
-        (Goes (record { pc = f.back; ops = os ++ f.ops; used = f.used; frames = fs }) (freed f.used used cells)) Unknown (λ _. record {
+        cond_safe (is_framed (slice_get p.bodies f.body) f.used used mem.cells)
+        (Goes (record { pc = f.back; ops = os ++ f.ops; used = f.used; frames = fs }) (with_cells (freed f.used used mem.cells) mem)) Unknown (λ _. record {
           kinds = with_result k made'.rest;
           spot = h.0;
           floor = h.1.0;
@@ -589,7 +604,7 @@ module _ (p : Program) (valid : IsValid p) (pc : ℕ) (ops : List Operand) (used
     back_safe : (fs : List Frame) (k : Option Shape) (os : List Operand) (n : ℕ) (e : Entry) (floor' : ℕ) (body : Option ℕ) → FitsFrames p fs body floor'
         → body ≡ Some n → slice_get p.bodies n ≡ Some e → e.delivers ≡ k → floor' ≤ used → bytes_of fs ≤ bytes_of frames
         → ((r : List Operand) (rest : List OperandKind) → FitsKinds r rest → FitsKinds (os ++ r) (with_result k rest))
-        → ((r : List Operand) (held : ℕ) → bytes_on r held ≤ bytes_of frames → bytes_fit (bytes_on (os ++ r) held) ≡ true) → Safe (back_to p os used fs cells)
+        → ((r : List Operand) (held : ℕ) → bytes_on r held ≤ bytes_of frames → bytes_fit (bytes_on (os ++ r) held) ≡ true) → Safe (back_to p os used fs mem)
     back_safe [] k os n e floor' body h b has is le bytes fits room' = let f : ⊥ = cc (b, h.0) in absurd f
     back_safe (f ∷ fs) k os n e floor' body h b has is le bytes fits room' =
         let made' = h.1.1.0 in
@@ -600,45 +615,92 @@ module _ (p : Program) (valid : IsValid p) (pc : ℕ) (ops : List Operand) (used
     out_safe : (fs : List Frame) (k : Option Shape) (os : List Operand) (n : ℕ) (e : Entry) (floor' : ℕ) (body : Option ℕ) → FitsFrames p fs body floor'
         → owner p body ≡ Some n → slice_get p.bodies n ≡ Some e → e.delivers ≡ k → floor' ≤ used → bytes_of fs ≤ bytes_of frames
         → ((r : List Operand) (rest : List OperandKind) → FitsKinds r rest → FitsKinds (os ++ r) (with_result k rest))
-        → ((r : List Operand) (held : ℕ) → bytes_on r held ≤ bytes_of frames → bytes_fit (bytes_on (os ++ r) held) ≡ true) → Safe (out_to p os used fs cells)
+        → ((r : List Operand) (held : ℕ) → bytes_on r held ≤ bytes_of frames → bytes_fit (bytes_on (os ++ r) held) ≡ true) → Safe (out_to p os used fs mem)
     out_safe [] k os n e floor' body h o has is le bytes fits room' = let f : None ≡ Some n = sym (ap (owner p) h.0) ∙ o in let g : ⊥ = cc in absurd g
     out_safe (f ∷ fs) k os n e floor' body h o has is le bytes fits room' =
         let made' = h.1.1.0 in
         let number : owner p (Some made'.number) ≡ Some n = ap (owner p) (sym made'.is) ∙ o in
         let under = used_below p valid f body floor' (base_of fs) h.0 h.1.0 made' in
-        by_layout p valid f body floor' (base_of fs) h.0 h.1.0 made' (λ _. Safe (out_to p os used (f ∷ fs) cells))
+        by_layout p valid f body floor' (base_of fs) h.0 h.1.0 made' (λ _. Safe (out_to p os used (f ∷ fs) mem))
         (λ ps vs l.
         let own : Some made'.number ≡ Some n = sym (owner_is p valid made'.number made'.entry made'.has ∙ ap (owner_in made'.number) l) ∙ number in
         let same : made'.number ≡ n = some_is made'.number n own in
         let entry : made'.entry ≡ e = some_is made'.entry e (sym made'.has ∙ ap (slice_get p.bodies) same ∙ has) in
-        subst (λ t. Safe (cond t (out_to p os used fs cells) (back_into p os used f fs cells)))
+        subst (λ t. Safe (cond t (out_to p os used fs mem) (back_into p os used f fs mem)))
         (sym (as_proc p valid f body floor' (base_of fs) h.0 h.1.0 made' ps vs l).1)
         (into_safe f fs body floor' k os h le bytes (ap (λ (x : Entry). x.delivers) entry ∙ is) fits room'))
         (λ l q r.
-        subst (λ t. Safe (cond t (out_to p os used fs cells) (back_into p os used f fs cells)))
+        subst (λ t. Safe (cond t (out_to p os used fs mem) (back_into p os used f fs mem)))
         (sym (as_refined p valid f body floor' (base_of fs) h.0 h.1.0 made' l q r).1)
         (out_safe fs k os n e h.1.0 h.0.body h.1.1.1 (sym (same_owner p valid f body floor' (base_of fs) h.0 h.1.0 made' l q r) ∙ number) has is
         (omega (arith, le, under, made'.used)) (omega (arith, bytes, bytes_below f.ops (bytes_of fs))) fits room'))
         made'.entry.layout refl
 
     -- a value is put into a cell
-    put_safe : (a : Addr) (v : Value) (ks : List OperandKind) (r : List Operand) → Next p.lines (pc + 1) ks m → Has r ks → Safe (puts now a v r cells)
+    put_safe : (a : Addr) (v : Value) (ks : List OperandKind) (r : List Operand) → Next p.lines (pc + 1) ks m → Has r ks → Safe (puts now a v r mem)
     put_safe a v ks r next g =
-        let now' = written cells a (held_of v) in
-        cond_safe (takes (held_of v) (cells a)) _ _
+        let now' = written mem.cells a (held_of v) in
+        there_safe (kind_of v ∷ []) a mem _
+        (cond_safe (takes (held_of v) (mem.cells a)) _ _
         (λ _.
-        cond_safe (texts_fit (cell_blocks (held_of v)) (area_blocks a.area now')) (goes now r now') (Halts TextRoom) (λ _. fit (pc + 1) ks r next g) tt) tt
+        cond_safe (texts_fit (cell_blocks (held_of v)) (area_blocks a.area now')) (goes now r (with_cells now' mem)) (Halts TextRoom)
+        (λ _. fit (pc + 1) ks r next g) tt) tt)
 
     put_all_safe : (a : Addr) (vs : List Value) (ks : List OperandKind) (r : List Operand) → Next p.lines (pc + 1) ks m → Has r ks
-        → Safe (puts_all now a vs r cells)
+        → Safe (puts_all now a vs r mem)
     put_all_safe a vs ks r next g =
-        let now' = written_all cells a vs in
-        cond_safe (takes_all vs a cells) _ _
-        (λ _. cond_safe (texts_fit (values_blocks vs) (area_blocks a.area now')) (goes now r now') (Halts TextRoom) (λ _. fit (pc + 1) ks r next g) tt) tt
+        let now' = written_all mem.cells a vs in
+        there_safe (map kind_of vs) a mem _
+        (cond_safe (takes_all vs a mem.cells) _ _
+        (λ _.
+        cond_safe (texts_fit (values_blocks vs) (area_blocks a.area now')) (goes now r (with_cells now' mem)) (Halts TextRoom)
+        (λ _. fit (pc + 1) ks r next g) tt) tt)
+
+    -- data spaces change
+    changes_safe : {A : Type 0} (plan : Plan A) (f : A → Mem → Move) → ((q : A × List SpaceChange) (u : Mem) → plan ≡ Ok q → Safe (f q.0 u))
+        → Safe (changes plan mem f)
+    changes_safe (Ok q) f h = h q (mem_after q.1 mem) refl
+    changes_safe (Err stop) f h = tt
+
+    fills_safe : {A : Type 0} (plan : Plan A) (f : A → Mem → Move) → ((a : A) (u : Mem) → Safe (f a u)) → Safe (fills plan mem f)
+    fills_safe (Ok q) f h = cond_safe (can_all_change q.1 mem.cells) (f q.0 (mem_after q.1 mem)) Unknown (λ _. h q.0 (mem_after q.1 mem)) tt
+    fills_safe (Err stop) f h = tt
+
+    keeps_safe : (a : Addr) (n : SpaceNo) (u : Mem) (f : Mem → Move) → ((u : Mem) → Safe (f u)) → Safe (keeps_space a n u f)
+    keeps_safe a n u f h =
+        let now' = with_cells (written u.cells a (held_of (item.Space (Some n)))) u in
+        cond_safe (takes_number (u.cells a)) (f now') Unknown (λ _. h now') tt
+
+    answer_safe : (o : Option Kind) (v : Option Value) (rest : List OperandKind) (r : List Operand) (u : Mem) → IsAnswer o v
+        → Next p.lines (pc + 1) (with_answer o rest) m → Has r rest → Safe (answers now v r u)
+    answer_safe None None rest r u is next g = fit (pc + 1) rest r next g
+    answer_safe None (Some v) rest r u is next g = absurd is
+    answer_safe (Some k) None rest r u is next g = absurd is
+    answer_safe (Some k) (Some v) rest r u is next g = push_on (Of v) (cell_value k) r rest u (as_one v k is) next g.0
+
+    copy_safe : (from : Option SpaceNo) (a : Addr) (ks : List OperandKind) (r : List Operand) → Next p.lines (pc + 1) ks m → Has r ks
+        → Safe (copies now from a r mem)
+    copy_safe from a ks r next g =
+        there_safe (kinds.Space ∷ []) a mem _
+        (word_safe (mem.cells a) _ (λ held. changes_safe (copy_plan None from mem.heads)
+        (λ n u. keeps_space a n u (λ u'. goes now r (without_held (space_in held) u')))
+        (λ q u _. keeps_safe a q.0 u (λ u'. goes now r (without_held (space_in held) u')) (λ u'. fit (pc + 1) ks r next g))))
+
+    bind_safe : (t : Shape) (space : Option SpaceNo) (a : Addr) (ks : List OperandKind) (r : List Operand) → Next p.lines (pc + 1) ks m → Has r ks
+        → Safe (binds now t space a r mem)
+    bind_safe t space a ks r next g =
+        there_safe (kinds.Space ∷ []) a mem _
+        (cond_safe (cells_fit (length (cell_kinds t))) _ _
+        (λ _. fills_safe (bind_plan t space mem.heads) (λ n u. keeps_space a n u (goes now r))
+        (λ n u. keeps_safe a n u (goes now r) (λ u'. fit (pc + 1) ks r next g))) tt)
+
+    content_cell : (s : Option SpaceNo) → IsCell (content_at s)
+    content_cell (Some s) = omega arith
+    content_cell None = omega arith
 
     -- the variable of a request gets a value
     keep_safe : (ks : List Kind) (os : List Operand) (v : Value) (rest : List OperandKind) (r : List Operand) → FitsKinds os (map cell_place ks ++ [])
-        → Next p.lines (pc + 1) rest m → Has r rest → Safe (keeps now os v r cells)
+        → Next p.lines (pc + 1) rest m → Has r rest → Safe (keeps now os v r mem)
     keep_safe [] [] v rest r is next g = fit (pc + 1) rest r next g
     keep_safe [] (o ∷ os) v rest r is next g = absurd is
     keep_safe (k ∷ ks) [] v rest r is next g = absurd is
@@ -649,7 +711,7 @@ module _ (p : Program) (valid : IsValid p) (pc : ℕ) (ops : List Operand) (used
     -- what a request does with its reply
     settle_safe : (q : RequestName) (t : Reply) (o : Option Kind) → request_result q ≡ o → (os r : List Operand) (rest : List OperandKind)
         → FitsKinds (drop (length (request_kinds q)) os) (map cell_place (request_places q) ++ []) → Next p.lines (pc + 1) (with_answer o rest) m
-        → Has r rest → Safe (settles q o t now os r cells)
+        → Has r rest → Safe (settles q o t now os r mem)
     settle_safe q t None e os r rest is next g =
         or_safe (read_as q t) _ (λ v _. keep_safe (request_places q) (drop (length (request_kinds q)) os) v rest r is next g)
     settle_safe q t (Some k) e os r rest is next g =
@@ -657,7 +719,7 @@ module _ (p : Program) (valid : IsValid p) (pc : ℕ) (ops : List Operand) (used
         (λ v h. push_safe (Of v) (cell_value k) r rest (as_one v k (kind_is k v (answer_gives q k t e v h))) next g.0)
 
     -- a request goes on with its reply
-    reply_safe : (q : RequestName) (t : Reply) (ks : List OperandKind) → IsFine p pc (Ask q) ks m → Has ops ks → Safe (takes_reply (Some (Ask q)) t now cells)
+    reply_safe : (q : RequestName) (t : Reply) (ks : List OperandKind) → IsFine p pc (Ask q) ks m → Has ops ks → Safe (takes_reply (Some (Ask q)) t now mem)
     reply_safe q t ks f k =
         taken_safe q f.0 ops _ (subst (Has ops) f.1 k) (λ os r is g.
         settle_safe q t (request_result q) refl os r f.0
@@ -665,7 +727,7 @@ module _ (p : Program) (valid : IsValid p) (pc : ℕ) (ops : List Operand) (used
         (subst (FitsKinds os) (append_assoc (map cell_value (request_kinds q)) (map cell_place (request_places q)) []) is)) f.2 g)
 
     safe : (i : Instr) (ks : List OperandKind) → slice_get p.lines pc ≡ Some (line_of i ks m) → IsFine p pc i ks m → Has ops ks
-        → Safe (instruction p (Some i) now cells)
+        → Safe (instruction p (Some i) now mem)
     safe Mark ks line f k = fit (pc + 1) ks ops f k
     safe (Number z) ks line f k = push_safe (Of (item.Int z)) (cell_value kinds.Int) ops ks (as_one (item.Int z) kinds.Int refl) f k.0
     safe (Truth b) ks line f k = push_safe (Of (item.Truth b)) (cell_value kinds.Truth) ops ks (as_one (item.Truth b) kinds.Truth refl) f k.0
@@ -675,7 +737,7 @@ module _ (p : Program) (valid : IsValid p) (pc : ℕ) (ops : List Operand) (used
         let small : x % CELLS < CELLS = omega arith in push_safe (At (packet_cell (x % CELLS))) (AtKind f.2.0) ops ks small f.2.1 k.0
     safe (Local x) ks line f k = push_safe (At (run_cell (base_of frames + x))) (AtKind f.2.0) ops ks (local_cell x (HoldsValue f.0) f.1) f.2.1 k.0
     safe (Param x) ks line f k =
-        word_safe (cells (run_cell (base_of frames + x))) _ (λ n.
+        word_safe (mem.cells (run_cell (base_of frames + x))) _ (λ n.
         let small : n % CELLS < CELLS = omega arith in
         push_safe (At (place_in n)) (AtKind f.1.0) ops ks small f.1.1 k.0)
     safe (Index n size) ks line f k =
@@ -684,6 +746,10 @@ module _ (p : Program) (valid : IsValid p) (pc : ℕ) (ops : List Operand) (used
         item_safe (in_row n (number_of v)) _ (λ i _. further_safe a (i * size) f.2.given r f.2.rest f.2.next g.0)))
     safe (Field n) ks line f k =
         one_place ops f.shape f.rest _ (subst (Has ops) f.taken k) (λ a r g. further_safe a n f.given r f.rest f.next g.0)
+    safe Content ks line f k =
+        one_place ops f.shape f.rest _ (subst (Has ops) f.taken k) (λ a r g.
+        there_safe (kinds.Space ∷ []) a mem _ (word_safe (mem.cells a) _ (λ n.
+        push_safe (At (content_at (space_in n))) (AtKind f.given) r f.rest (content_cell (space_in n)) f.next g.0)))
     safe (Pick n size) ks line f k =
         one_value ops kinds.Int f.0 _ (subst (Has ops) f.1 k) (λ v q e h.
         all_value q f.2.shape f.2.rest _ (subst (Has q) f.2.taken h) (λ vs r is g.
@@ -693,20 +759,31 @@ module _ (p : Program) (valid : IsValid p) (pc : ℕ) (ops : List Operand) (used
         all_value ops f.shape f.rest _ (subst (Has ops) f.taken k) (λ vs r is g. part_safe from size vs f.shape f.given r f.rest is f.part.is f.next g)
     safe (Load s) ks line f k =
         one_place ops s f.0 _ (subst (Has ops) f.1 k) (λ a r g.
-        cond_safe (bytes_fit (least_bytes s + bytes_on r (bytes_of frames))) _ _ (λ _.
+        there_safe (cell_kinds s) a mem _ (cond_safe (bytes_fit (least_bytes s + bytes_on r (bytes_of frames))) _ _ (λ _.
         cells_safe (cell_kinds s) a _ (λ vs is.
-        push_safe (operand_of vs) (OfKind s) r f.0 (record { values = vs; is = refl; kinds = is }) f.2 g.0)) tt)
+        push_safe (operand_of vs) (OfKind s) r f.0 (record { values = vs; is = refl; kinds = is }) f.2 g.0)) tt))
     safe (Store s) ks line f k =
         all_value ops s (AtKind s ∷ f.0) _ (subst (Has ops) f.1 k) (λ vs q is h. one_place q s f.0 _ h (λ a r g. put_all_safe a vs f.0 r f.2 g))
     safe (Do op) ks line f k =
         let e : length (operand_kinds op) ≡ length (operand_kinds op) + 0 = omega arith in
-        subst (λ n. Safe (on_values n [] ops (λ vs ops. or_halt (result_of op vs) (λ v. pushes now (Of v) ops cells)))) (sym e)
+        subst (λ n. Safe (on_values n [] ops (λ vs ops. or_halt (result_of op vs) (λ v. pushes now (Of v) ops mem)))) (sym e)
         (some_values (operand_kinds op) 0 f.0 [] ops _ (subst (Has ops) f.1 k) (λ vs r g.
         or_safe (result_of op vs) _ (λ v is.
         push_safe (Of v) (cell_value (result_kind op)) r f.0 (as_one v (result_kind op) (kind_is _ v (result_gives op vs v is))) f.2 g.0)))
+    safe (OnSpaces op) ks line f k =
+        let e : length (space_operand_kinds op) ≡ length (space_operand_kinds op) + 0 = omega arith in
+        subst (λ n. Safe (on_values n [] ops (λ vs ops. changes (planned op vs mem.heads) mem (λ v u. answers now v ops u)))) (sym e)
+        (some_values (space_operand_kinds op) 0 f.0 [] ops _ (subst (Has ops) f.1 k) (λ vs r g.
+        changes_safe (planned op vs mem.heads) (λ v u. answers now v r u) (λ q u is.
+        answer_safe (space_result_kind op) q.0 f.0 r u (subst (Delivers (space_result_kind op)) is (planned_delivers op vs mem.heads)) f.2 g)))
+    safe Copy ks line f k =
+        value_place ops kinds.Space (OneCell kinds.Space) f.0 _ (subst (Has ops) f.1 k) (λ v a r g. copy_safe (space_of v) a f.0 r f.2 g)
+    safe (Bind t) ks line f k =
+        value_place ops kinds.Space (OneCell kinds.Space) f.0 _ (subst (Has ops) f.1 k) (λ v a r g. bind_safe t (space_of v) a f.0 r f.2 g)
     safe (Modify change) ks line f k =
         value_place ops (change_kind change) (OneCell (change_kind change)) f.0 _ (subst (Has ops) f.1 k)
-        (λ v a r g. cell_safe (change_kind change) (cells a) _ (λ w is. or_safe (changed change w v) _ (λ x _. put_safe a x f.0 r f.2 g)))
+        (λ v a r g. there_safe (change_kind change ∷ []) a mem _
+        (cell_safe (change_kind change) (mem.cells a) _ (λ w is. or_safe (changed change w v) _ (λ x _. put_safe a x f.0 r f.2 g))))
     safe (Jump a) ks line f k = fit a ks ops f.next k
     safe (False a) ks line f k =
         one_value ops kinds.Truth f.0 _ (subst (Has ops) f.1 k)
@@ -714,7 +791,7 @@ module _ (p : Program) (valid : IsValid p) (pc : ℕ) (ops : List Operand) (used
     safe (When z a) ks line f k = by ops (subst (Has ops) f.1 k)
       where
         by : (ops' : List Operand) → Has ops' (cell_value kinds.Int ∷ f.0)
-            → Safe (on_value ops' (λ v ops. cond (int_eq (number_of v) z) (Goes (at now a ops) cells) (goes now (Of v ∷ ops) cells)))
+            → Safe (on_value ops' (λ v ops. cond (int_eq (number_of v) z) (Goes (at now a ops) mem) (goes now (Of v ∷ ops) mem)))
         by [] g = absurd g.0
         by (At x ∷ r) g = absurd (is_one (At x) kinds.Int g.0.0)
         by (Aggregate vs ∷ r) g = absurd (is_one (Aggregate vs) kinds.Int g.0.0)
@@ -726,9 +803,9 @@ module _ (p : Program) (valid : IsValid p) (pc : ℕ) (ops : List Operand) (used
     safe Unlimit ks line f k = unlimit_safe f.0 ks f.1 f.2 k
     safe (Step way a) ks line f k =
         one_place ops (OneCell kinds.Int) f.2.0 _ (subst (Has ops) f.2.1 k) (λ q r g.
-        word_safe (limit_cell now cells) _ (λ l. word_safe (cells q) _ (λ n.
+        word_safe (limit_cell now mem.cells) _ (λ l. there_safe (kinds.Int ∷ []) q mem _ (word_safe (mem.cells q) _ (λ n.
         cond_safe (has_reached way (number_in l) (number_in n)) _ _ (λ _. fit a f.2.0 r f.2.3.next g)
-        (fit (pc + 1) f.2.0 r f.2.2 g))))
+        (fit (pc + 1) f.2.0 r f.2.2 g)))))
     safe (Ask q) ks line f k =
         taken_safe q f.0 ops _ (subst (Has ops) f.1 k) (λ os r fits g.
         fits_at pc ks ops (Asked (request_of q (map value_in os))) (Ask q, line) k (λ _. ap (λ l. is_ask (instr_of l)) line))
@@ -745,30 +822,30 @@ module _ (p : Program) (valid : IsValid p) (pc : ℕ) (ops : List Operand) (used
         (λ os fits room'. out_safe frames r os f.number f.entry floor m.body made f.proc f.has f.delivers (omega (arith, used_is)) (omega arith) fits room')
     safe End ks line f k = tt
 
-step_safe : (p : Program) (c : Position) (cells : Cells) → IsValid p → Fits p (free c) → IsSafe p (step p c cells)
-step_safe p c cells valid fits =
+step_safe : (p : Program) (c : Position) (mem : Mem) → IsValid p → Fits p (free c) → IsSafe p (step p c mem)
+step_safe p c mem valid fits =
     let i = fits.next.0 in
     let fine = valid.each c.pc (line_of i fits.kinds fits.spot) fits.next.1 in
     let made =
-    safe p valid c.pc c.ops c.used c.frames cells fits.spot fits.floor fits.frames fits.used (fits.cells refl) i fits.kinds fits.next.1 fine
+    safe p valid c.pc c.ops c.used c.frames mem fits.spot fits.floor fits.frames fits.used (fits.cells refl) i fits.kinds fits.next.1 fine
     (fits.operands, fits.bytes) in
-    subst (λ (o : Option Line). IsSafe p (instruction p (instr_of o) c cells)) (sym fits.next.1) made
+    subst (λ (o : Option Line). IsSafe p (instruction p (instr_of o) c mem)) (sym fits.next.1) made
 
 -- it is the instruction of a request
 pub asks_name : (i : Instr) → is_ask (Some i) ≡ true → (q : RequestName) × (i ≡ Ask q)
 asks_name (Ask q) e = (q, refl)
 asks_name _ e = absurd (cc e)
 
-takes_safe : (p : Program) (c : Position) (r : Reply) (cells : Cells) → IsValid p → Fits p (given c r)
-    → IsSafe p (takes_reply (instr_of (slice_get p.lines c.pc)) r c cells)
-takes_safe p c r cells valid fits =
+takes_safe : (p : Program) (c : Position) (r : Reply) (mem : Mem) → IsValid p → Fits p (given c r)
+    → IsSafe p (takes_reply (instr_of (slice_get p.lines c.pc)) r c mem)
+takes_safe p c r mem valid fits =
     let i = fits.next.0 in
     let q = asks_name i (ap (λ l. is_ask (instr_of l)) (sym fits.next.1) ∙ fits.asks refl) in
     let fine = valid.each c.pc (line_of i fits.kinds fits.spot) fits.next.1 in
     let made =
-    reply_safe p valid c.pc c.ops c.used c.frames cells fits.spot fits.floor fits.frames fits.used (fits.cells refl) q.0 r fits.kinds
+    reply_safe p valid c.pc c.ops c.used c.frames mem fits.spot fits.floor fits.frames fits.used (fits.cells refl) q.0 r fits.kinds
     (subst (λ i. IsFine p c.pc i fits.kinds fits.spot) q.1 fine) (fits.operands, fits.bytes) in
-    subst (λ o. IsSafe p (takes_reply o r c cells)) (ap (λ i. Some i) (sym q.1) ∙ ap instr_of (sym fits.next.1)) made
+    subst (λ o. IsSafe p (takes_reply o r c mem)) (ap (λ i. Some i) (sym q.1) ∙ ap instr_of (sym fits.next.1)) made
 
 -- a request is answered where it was made
 answered_fits : (p : Program) (c : Position) (q : Request) (r : Reply) → Fits p (asking c q) → Fits p (answered q r c)

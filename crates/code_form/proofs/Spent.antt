@@ -5,12 +5,11 @@ use Rattle.std.proofs.Common.{⊎_elim}
 use Rattle.std.specs.Prelude.{slice_get}
 use Rattle.eu_base.specs.declared.request.Request.{Request}
 use Rattle.eu_base.specs.declared.request.Reply.{Reply}
-use Rattle.eu_base.specs.Cells.{Cells}
 use Rattle.code_form.specs.Program.{Program, instr_of}
 use Rattle.code_form.specs.declared.waits.Waits.{Waits}
 use Rattle.code_form.specs.declared.waits.Waits.TheVariants.{Nothing, Asked, Given, Refused}
 use Rattle.code_form.specs.Machine.{Position, Control, free, asking, given, answered, After, To, Asks, Stops, Unsaid, Move, Goes, Spends, Halts, Refuses}
-use Rattle.code_form.specs.Machine.{Ends, Unknown, Stuck, Scene, Rest, step, takes_reply, Stage, On, Over, Lost, after_stage, mark_stage, reply_stage}
+use Rattle.code_form.specs.Machine.{Ends, Unknown, Stuck, Mem, Scene, Rest, step, takes_reply, Stage, On, Over, Lost, after_stage, mark_stage, reply_stage}
 use Rattle.code_form.specs.Machine.{move_stage, stage_at, advance, carry_on, exec}
 use Rattle.code_form.specs.Runs.{IsPaused, Rests, Stands, StandsOn}
 use Rattle.code_form.proofs.Resume.{replied}
@@ -27,10 +26,10 @@ Shifts rs Lost c s f = Unit {0}
 
 paid_shifts : (rs : List Reply) (m : ℕ) (a : After) (d : Control) (s : Scene) → s.marks ≡ suc m
     → Shifts rs (after_stage a d (record s { marks = m })) d s (λ n. mark_stage n a d (at_marks rs n s))
-paid_shifts rs m (To c' cells) d s e =
-    (omega (arith, e), λ k. let f : (s.marks - m) + k ≡ suc k = omega (arith, e) in ap (λ n. mark_stage n (To c' cells) d (at_marks rs n s)) f)
-paid_shifts rs m (Asks c' q cells) d s e =
-    (omega (arith, e), λ k. let f : (s.marks - m) + k ≡ suc k = omega (arith, e) in ap (λ n. mark_stage n (Asks c' q cells) d (at_marks rs n s)) f)
+paid_shifts rs m (To c' x) d s e =
+    (omega (arith, e), λ k. let f : (s.marks - m) + k ≡ suc k = omega (arith, e) in ap (λ n. mark_stage n (To c' x) d (at_marks rs n s)) f)
+paid_shifts rs m (Asks c' q x) d s e =
+    (omega (arith, e), λ k. let f : (s.marks - m) + k ≡ suc k = omega (arith, e) in ap (λ n. mark_stage n (Asks c' q x) d (at_marks rs n s)) f)
 paid_shifts rs m (Stops stop) d s e = λ calm. absurd (⊎_elim (λ paused. paused) (λ none. omega (arith, e, none)) calm)
 paid_shifts rs m Unsaid d s e = tt
 
@@ -40,8 +39,8 @@ mark_shifts rs zero a d s e = λ paused. (refl, refl)
 mark_shifts rs (suc m) a d s e = paid_shifts rs m a d s e
 
 move_shifts : (rs : List Reply) (m : Move) (d : Control) (s : Scene) → Shifts rs (move_stage m d s) d s (λ n. move_stage m d (at_marks rs n s))
-move_shifts rs (Goes c' cells) d s =
-    (omega arith, λ k. let f : (s.marks - s.marks) + k ≡ k = omega arith in ap (λ n. move_stage (Goes c' cells) d (at_marks rs n s)) f)
+move_shifts rs (Goes c' x) d s =
+    (omega arith, λ k. let f : (s.marks - s.marks) + k ≡ k = omega arith in ap (λ n. move_stage (Goes c' x) d (at_marks rs n s)) f)
 move_shifts rs (Spends a) d s = mark_shifts rs s.marks a d s refl
 move_shifts rs (Halts stop) d s = λ paused. (refl, refl)
 move_shifts rs (Refuses stop c') d s =
@@ -52,8 +51,8 @@ move_shifts rs Stuck d s = tt
 
 pub stage_shifts : (p : Program) (rs : List Reply) (w : Waits) (c : Position) (s : Scene)
     → Shifts rs (stage_at w p c s) (record { position = c; waits = w }) s (λ n. stage_at w p c (at_marks rs n s))
-stage_shifts p rs Nothing c s = move_shifts rs (step p c s.cells) (free c) s
-stage_shifts p rs (Given r) c s = move_shifts rs (takes_reply (instr_of (slice_get p.lines c.pc)) r c s.cells) (given c r) s
+stage_shifts p rs Nothing c s = move_shifts rs (step p c s.mem) (free c) s
+stage_shifts p rs (Given r) c s = move_shifts rs (takes_reply (instr_of (slice_get p.lines c.pc)) r c s.mem) (given c r) s
 stage_shifts p rs (Asked q) c s = asks s.replies
   where
     asks : (xs : List Reply) → Shifts rs (reply_stage xs q c s) (asking c q) s (λ n. reply_stage (xs ++ rs) q c (at_marks rs n s))
@@ -68,13 +67,13 @@ Falls n (Over r) = r.scene.marks ≤ n
 Falls n Lost = Unit {0}
 
 after_falls : (m : ℕ) (a : After) (d : Control) (s : Scene) → Falls (suc m) (after_stage a d (record s { marks = m }))
-after_falls m (To c' cells) d s = omega arith
-after_falls m (Asks c' q cells) d s = omega arith
+after_falls m (To c' x) d s = omega arith
+after_falls m (Asks c' q x) d s = omega arith
 after_falls m (Stops stop) d s = omega arith
 after_falls m Unsaid d s = tt
 
 move_falls : (m : Move) (d : Control) (s : Scene) → Falls s.marks (move_stage m d s)
-move_falls (Goes c' cells) d s = omega arith
+move_falls (Goes c' x) d s = omega arith
 move_falls (Spends a) d s = by s.marks refl
   where
     by : (n : ℕ) → s.marks ≡ n → Falls n (mark_stage n a d s)
@@ -87,8 +86,8 @@ move_falls Unknown d s = tt
 move_falls Stuck d s = tt
 
 stage_falls : (p : Program) (w : Waits) (c : Position) (s : Scene) → Falls s.marks (stage_at w p c s)
-stage_falls p Nothing c s = move_falls (step p c s.cells) (free c) s
-stage_falls p (Given r) c s = move_falls (takes_reply (instr_of (slice_get p.lines c.pc)) r c s.cells) (given c r) s
+stage_falls p Nothing c s = move_falls (step p c s.mem) (free c) s
+stage_falls p (Given r) c s = move_falls (takes_reply (instr_of (slice_get p.lines c.pc)) r c s.mem) (given c r) s
 stage_falls p (Asked q) c s = by s.replies
   where
     by : (rs : List Reply) → Falls s.marks (reply_stage rs q c s)
@@ -145,32 +144,32 @@ module _ (p : Program) (rs : List Reply) where
   leads (suc j) c s r paused e = leads_stage j (advance p c s) c s r paused (λ c s calm e. leads j c s r calm e) e (stage_shifts p rs c.waits c.position s)
 
 pub stands_run : StandsOn
-stands_run p first cells spent left replies c now r paused k h none = record {
+stands_run p first was spent left replies c now r paused k h none = record {
   goes = λ marks more last g.
-      let s : Scene = record { cells = now; marks = left; replies = [] } in
+      let s : Scene = record { mem = now; marks = left; replies = [] } in
       let l : Leads p more c s r = leads p more h.0 c s r paused h.1 in
       let g' : Rests p r.control (at_marks more marks r.scene) last =
-      subst (λ rs. Rests p r.control (record { cells = r.scene.cells; marks = marks; replies = rs ++ more }) last) (sym none) g in
+      subst (λ rs. Rests p r.control (record { mem = r.scene.mem; marks = marks; replies = rs ++ more }) last) (sym none) g in
       let e : spent + ((left - r.scene.marks) + marks) ≡ (spent + (left - r.scene.marks)) + marks = omega arith in
-      subst (λ n. Rests p first (record { cells = cells; marks = n; replies = replies ++ more }) last) e
+      subst (λ n. Rests p first (record { mem = was; marks = n; replies = replies ++ more }) last) e
       (k.goes ((left - r.scene.marks) + marks) more last (l.goes marks last g'));
 }
 
-module _ (p : Program) (first : Control) (cells : Cells) where
+module _ (p : Program) (first : Control) (was : Mem) where
   -- at the start nothing was spent
-  pub stands_first : Stands p first cells 0 [] first cells
+  pub stands_first : Stands p first was 0 [] first was
   stands_first = record {
     goes =
         λ marks more last h. let e : marks ≡ 0 + marks = omega arith in
-        subst (λ n. Rests p first (record { cells = cells; marks = n; replies = more }) last) e h;
+        subst (λ n. Rests p first (record { mem = was; marks = n; replies = more }) last) e h;
   }
 
   -- after a reply
-  pub stands_reply : (spent : ℕ) (replies : List Reply) (c : Position) (now : Cells) (q : Request) (reply : Reply)
-      → Stands p first cells spent replies (asking c q) now → Stands p first cells spent (replies ++ reply ∷ []) (answered q reply c) now
+  pub stands_reply : (spent : ℕ) (replies : List Reply) (c : Position) (now : Mem) (q : Request) (reply : Reply)
+      → Stands p first was spent replies (asking c q) now → Stands p first was spent (replies ++ reply ∷ []) (answered q reply c) now
   stands_reply spent replies c now q reply k = record {
     goes = λ marks more last g.
         let same : replies ++ reply ∷ more ≡ (replies ++ reply ∷ []) ++ more = sym (append_assoc replies (reply ∷ []) more) in
-        subst (λ rs. Rests p first (record { cells = cells; marks = spent + marks; replies = rs }) last) same
-        (k.goes marks (reply ∷ more) last (replied p c (record { cells = now; marks = marks; replies = more }) q reply last g));
+        subst (λ rs. Rests p first (record { mem = was; marks = spent + marks; replies = rs }) last) same
+        (k.goes marks (reply ∷ more) last (replied p c (record { mem = now; marks = marks; replies = more }) q reply last g));
   }

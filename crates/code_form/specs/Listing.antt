@@ -8,9 +8,11 @@ use Rattle.eu_base.specs.declared.shape.Shape.TheOpen.{Shape-F, Cell, Row, Struc
 use Rattle.eu_base.specs.declared.shape.Shape.TheFolds.{fold-Shape}
 use Rattle.eu_base.specs.declared.operation.Operation.{Operation}
 use Rattle.eu_base.specs.declared.operation.Operation.TheVariants.{Plus, Negate, Add, Subtract, Multiply, Divide, Modulo, Equal, Unequal, Less, LessEqual}
-use Rattle.eu_base.specs.declared.operation.Operation.TheVariants.{Greater, GreaterEqual, Same, Different, And, Or, Not, Absolute, Minimum, Maximum, Largest, NoTask, SameTask, OtherTask, OnTexts}
+use Rattle.eu_base.specs.declared.operation.Operation.TheVariants.{Greater, GreaterEqual, Same, Different, And, Or, Not, Absolute, Minimum, Maximum, Largest, NoTask, SameTask, OtherTask, NilSpace, OnTexts}
 use Rattle.eu_base.specs.declared.text_operation.TextOperation.{TextOperation}
 use Rattle.eu_base.specs.declared.text_operation.TextOperation.TheVariants as texts
+use Rattle.eu_base.specs.declared.space_operation.SpaceOperation.{SpaceOperation}
+use Rattle.eu_base.specs.declared.space_operation.SpaceOperation.TheVariants as spaces
 use Rattle.eu_base.specs.declared.operation.Change.{Change}
 use Rattle.eu_base.specs.declared.operation.Change.TheVariants.{Increase, Decrease, Append}
 use Rattle.eu_base.specs.declared.operation.Way.{Way}
@@ -18,7 +20,7 @@ use Rattle.eu_base.specs.declared.operation.Way.TheVariants as ways
 use Rattle.eu_base.specs.declared.request.RequestName.{RequestName}
 use Rattle.eu_base.specs.declared.request.RequestName.TheVariants as requests
 use Rattle.code_form.specs.declared.instr.Instr.{Instr}
-use Rattle.code_form.specs.declared.instr.Instr.TheVariants.{Mark, Number, Truth, Text, Outer, Packet as InPackets, Local, Param, Index, Field, Pick, Take, Load, Store, Do, Modify, Jump, False}
+use Rattle.code_form.specs.declared.instr.Instr.TheVariants.{Mark, Number, Truth, Text, Outer, Packet as InPackets, Local, Param, Index, Field, Content, Pick, Take, Load, Store, Do, OnSpaces, Copy, Bind, Modify, Jump, False}
 use Rattle.code_form.specs.declared.instr.Instr.TheVariants.{When, Drop, Limit, Unlimit, Step, Ask, ErrorStop, Call, Refer, Back, Out, End}
 use Rattle.code_form.specs.declared.code.Line.{Line}
 use Rattle.code_form.specs.declared.code.Entry.{Entry}
@@ -35,6 +37,7 @@ kind_word kinds.Int = codes "INT"
 kind_word kinds.Truth = codes "BOOL"
 kind_word kinds.Text = codes "TEXT"
 kind_word kinds.Task = codes "TASK"
+kind_word kinds.Space = codes "DATASPACE"
 
 -- with commas between
 abbrev pub listed : List (List ℕ) → List ℕ
@@ -98,17 +101,30 @@ operation_name Largest = codes "maxint"
 operation_name NoTask = codes "TASK"
 operation_name SameTask = codes "="
 operation_name OtherTask = codes "<>"
+operation_name NilSpace = codes "DATASPACE"
 operation_name (OnTexts op) = text_operation_name op
 
--- the word before it: niltask is the nil value of its type, and all else is done
+-- the word before it: niltask and nilspace are the nil values of their types, and all else is done
 abbrev pub operation_word : Operation → List ℕ
 operation_word NoTask = codes "NIL "
+operation_word NilSpace = codes "NIL "
 operation_word _ = codes "DO "
 
 abbrev pub change_name : Change → List ℕ
 change_name Increase = codes "INCR"
 change_name Decrease = codes "DECR"
 change_name Append = codes "CAT"
+
+abbrev pub space_operation_name : SpaceOperation → List ℕ
+space_operation_name spaces.KindOf = codes "type"
+space_operation_name spaces.New = codes "new"
+space_operation_name spaces.Old = codes "old"
+space_operation_name spaces.IsNamed = codes "exists"
+space_operation_name spaces.SetKind = codes "type"
+space_operation_name spaces.Forget = codes "forget"
+space_operation_name spaces.ForgetNamed = codes "forget"
+space_operation_name spaces.Rename = codes "rename"
+space_operation_name spaces.CopyNamed = codes "copy"
 
 abbrev pub request_name : RequestName → List ℕ
 request_name requests.PutNumber = codes "put(INT)"
@@ -165,11 +181,15 @@ instr_text packets bodies texts (Local k) = codes "LOCAL " ++ decimal k
 instr_text packets bodies texts (Param k) = codes "PARAM " ++ decimal k
 instr_text packets bodies texts (Index n c) = codes "INDEX " ++ decimal n ++ codes " " ++ decimal c
 instr_text packets bodies texts (Field c) = codes "FIELD " ++ decimal c
+instr_text packets bodies texts Content = codes "CONTENT"
 instr_text packets bodies texts (Pick n c) = codes "PICK " ++ decimal n ++ codes " " ++ decimal c
 instr_text packets bodies texts (Take m c k) = codes "TAKE " ++ decimal m ++ codes " " ++ decimal c ++ codes " " ++ decimal k
 instr_text packets bodies texts (Load s) = codes "LOAD " ++ shape_text s
 instr_text packets bodies texts (Store s) = codes "STORE " ++ shape_text s
 instr_text packets bodies texts (Do op) = operation_word op ++ operation_name op
+instr_text packets bodies texts (OnSpaces op) = codes "DO " ++ space_operation_name op
+instr_text packets bodies texts Copy = codes "COPY"
+instr_text packets bodies texts (Bind s) = codes "BIND " ++ shape_text s
 instr_text packets bodies texts (Modify change) = codes "DO " ++ change_name change
 instr_text packets bodies texts (Jump a) = codes "JUMP " ++ decimal a
 instr_text packets bodies texts (False a) = codes "FALSE " ++ decimal a

@@ -1,5 +1,5 @@
 -- What the machine does with a list of instructions, one by one.
-use Rattle.std.specs.Prelude.{ℕ, zero, suc, ◌+◌, ◌-◌, Bool, true, false, ◌&&◌, cond, List, [], ◌∷◌, ◌++◌, map, flat_map, length, take, drop, Option, Some, None, Ok, Err}
+use Rattle.std.specs.Prelude.{ℕ, zero, suc, ◌+◌, ◌-◌, Bool, true, false, ◌&&◌, cond, List, [], ◌∷◌, ◌++◌, map, flat_map, length, take, drop, Option, Some, None, Result, Ok, Err}
 use Rattle.std.specs.Prelude.{ℤ, pos, ◌*◌, ◌%◌, slice_get}
 use Rattle.std.specs.Ordering.{int_eq}
 use Rattle.eu_base.specs.declared.address.Area.{Area}
@@ -11,13 +11,13 @@ use Rattle.eu_base.specs.declared.value.Kind.TheVariants as kinds
 use Rattle.eu_base.specs.declared.value.Value.{Value}
 use Rattle.eu_base.specs.declared.value.Value.TheVariants as item
 use Rattle.eu_base.specs.declared.stop.Stop.{Stop}
-use Rattle.eu_base.specs.declared.stop.Stop.TheVariants.{Index as OutsideRow, CellRoom, OperandRoom, TextRoom, Own}
+use Rattle.eu_base.specs.declared.stop.Stop.TheVariants.{Index as OutsideRow, CellRoom, OperandRoom, TextRoom, NoSpace, Own}
 use Rattle.eu_base.specs.declared.operation.Way.{Way}
 use Rattle.eu_base.specs.declared.request.Request.{Request}
 use Rattle.eu_base.specs.declared.request.Reply.{Reply}
 use Rattle.eu_base.specs.declared.request.RequestName.{RequestName}
 use Rattle.eu_base.specs.declared.request.Reply.TheVariants as replies
-use Rattle.eu_base.specs.Values.{number_of, truth_of, text_of, blank_of, number_in, truth_in, task_in}
+use Rattle.eu_base.specs.Values.{SpaceNo, number_of, truth_of, text_of, space_of, kind_of, blank_of, number_in, truth_in, task_in, space_in}
 use Rattle.eu_base.specs.Room.{value_bytes, values_bytes, place_bytes, values_blocks, cells_fit, bytes_fit, texts_fit}
 use Rattle.eu_base.specs.declared.shape.Shape.{Shape}
 use Rattle.eu_base.specs.Shapes.{cell_kinds}
@@ -25,6 +25,11 @@ use Rattle.eu_base.specs.Operations.{Given, operand_kinds, result_of, change_kin
 use Rattle.eu_base.specs.Requests.{request_kinds, request_result, request_size, request_of, read_as, answer_of}
 use Rattle.eu_base.specs.Cells.{Cell, Free, Word, Letters, Cells, held_of, area_cell, run_cell, packet_cell, place_number, place_in, written, without, freed, cell_blocks}
 use Rattle.eu_base.specs.Cells.{AreBare, area_blocks, blocks_in}
+use Rattle.eu_base.specs.declared.space_operation.SpaceOperation.{SpaceOperation}
+use Rattle.eu_base.specs.DataSpaces.{Heads, SpaceChange, Fills, heads_by}
+use Rattle.eu_base.specs.SpaceOperations.{space_operand_kinds, Plan, planned, copy_plan, bind_plan, forgetting}
+use Rattle.eu_base.specs.SpaceCells.{cells_by}
+use Rattle.eu_base.specs.SpacePlaces.{is_in}
 use Rattle.eu_base.specs.declared.address.TheConstants.{CELLS}
 use Rattle.code_form.specs.declared.operand.Operand.{Operand}
 use Rattle.code_form.specs.declared.operand.Operand.TheVariants.{Value as Of, Place as At, Aggregate}
@@ -33,7 +38,7 @@ use Rattle.code_form.specs.declared.halt.Halt.TheVariants as halts
 use Rattle.code_form.specs.declared.waits.Waits.{Waits}
 use Rattle.code_form.specs.declared.waits.Waits.TheVariants.{Nothing, Asked, Given as Replied, Refused}
 use Rattle.code_form.specs.declared.instr.Instr.{Instr}
-use Rattle.code_form.specs.declared.instr.Instr.TheVariants.{Mark, Number, Truth, Text, Outer, Packet, Local, Param, Index, Field, Pick, Take, Load, Store, Do, Modify, Jump, False}
+use Rattle.code_form.specs.declared.instr.Instr.TheVariants.{Mark, Number, Truth, Text, Outer, Packet, Local, Param, Index, Field, Content, Pick, Take, Load, Store, Do, OnSpaces, Copy, Bind, Modify, Jump, False}
 use Rattle.code_form.specs.declared.instr.Instr.TheVariants.{When, Drop, Limit, Unlimit, Step, Ask, ErrorStop, Call, Refer, Back, Out, End}
 use Rattle.code_form.specs.declared.code.Entry.{Entry}
 use Rattle.code_form.specs.declared.code.Start.{Start}
@@ -76,17 +81,22 @@ given c r = record { position = c; waits = Replied r }
 abbrev pub refused : Position → Stop → Control
 refused c stop = record { position = c; waits = Refused stop }
 
+-- what is known of the cells, and the data spaces without their content
+pub record Mem : Type 0 where
+  pub cells : Cells
+  pub heads : Heads
+
 -- where an instruction leads once its mark is spent: on, to a request, or to a stop; or it is not known that the cells that it takes are free
 pub data After : Type 0 where
-  To : Position → Cells → After
-  Asks : Position → Request → Cells → After
+  To : Position → Mem → After
+  Asks : Position → Request → Mem → After
   Stops : Stop → After
   Unsaid : After
 
 -- what an instruction does: it goes on, spends a mark and then does more, stops, goes on to where a stop waits, ends the command; or what
 -- it reads is not known; or it cannot be done
 pub data Move : Type 0 where
-  Goes : Position → Cells → Move
+  Goes : Position → Mem → Move
   Spends : After → Move
   Halts : Stop → Move
   Refuses : Stop → Position → Move
@@ -102,8 +112,12 @@ at c pc ops = record c { pc = pc; ops = ops }
 abbrev pub using : Position → ℕ → Position
 using c n = record c { used = n }
 
-abbrev pub goes : Position → List Operand → Cells → Move
-goes c ops cells = Goes (at c (c.pc + 1) ops) cells
+abbrev pub goes : Position → List Operand → Mem → Move
+goes c ops m = Goes (at c (c.pc + 1) ops) m
+
+-- with other cells
+abbrev pub with_cells : Cells → Mem → Mem
+with_cells cells m = record m { cells = cells }
 
 -- a value is the list of the values of its cells; one of one cell is pushed as it is
 abbrev pub operand_of : List Value → Operand
@@ -138,8 +152,8 @@ abbrev pub on_room : Position → ℕ → List Operand → Move → Move
 on_room c bytes ops move = cond (bytes_fit (bytes + bytes_on ops (bytes_of c.frames))) move (Halts OperandRoom)
 
 -- the next instruction, with one operand more, where it has room
-abbrev pub pushes : Position → Operand → List Operand → Cells → Move
-pushes c o ops cells = on_room c (operand_bytes o) ops (goes c (o ∷ ops) cells)
+abbrev pub pushes : Position → Operand → List Operand → Mem → Move
+pushes c o ops m = on_room c (operand_bytes o) ops (goes c (o ∷ ops) m)
 
 -- takes what is on top: a value of one cell, the values of the cells of any value, a place
 abbrev pub on_value : List Operand → (Value → List Operand → Move) → Move
@@ -190,6 +204,7 @@ on_cell kinds.Int cell go = on_number cell (λ z. go (item.Int z))
 on_cell kinds.Truth cell go = on_word cell (λ n. go (item.Truth (truth_in n)))
 on_cell kinds.Text cell go = on_text cell (λ t. go (item.Text t))
 on_cell kinds.Task cell go = on_word cell (λ n. go (item.Task (task_in n)))
+on_cell kinds.Space cell go = on_word cell (λ n. go (item.Space (space_in n)))
 
 -- the place so many cells further on in its area
 abbrev pub further : Addr → ℕ → Addr
@@ -197,6 +212,10 @@ further a n = area_cell a.area ((a.cell + n) % CELLS)
 
 abbrev pub next : Addr → Addr
 next a = further a 1
+
+-- goes on where cells of these kinds stand at a place. A data space is looked at in each access: it may be gone
+abbrev pub if_there : List Kind → Addr → Mem → Move → Move
+if_there ks a m move = cond (is_in ks a.area a.cell m.heads) move (Halts NoSpace)
 
 -- the values of these kinds in the cells from a place on
 abbrev pub on_cells : List Kind → Addr → Cells → (List Value → Move) → Move
@@ -219,11 +238,13 @@ takes Free cell = false
 takes (Word n) cell = takes_number cell
 takes (Letters t) cell = is_text cell
 
-abbrev pub puts : Position → Addr → Value → List Operand → Cells → Move
-puts c a v ops cells =
-    cond (takes (held_of v) (cells a))
-    (cond (texts_fit (cell_blocks (held_of v)) (area_blocks a.area (written cells a (held_of v)))) (goes c ops (written cells a (held_of v))) (Halts TextRoom))
-    Unknown
+abbrev pub puts : Position → Addr → Value → List Operand → Mem → Move
+puts c a v ops m =
+    if_there (kind_of v ∷ []) a m
+    (cond (takes (held_of v) (m.cells a))
+    (cond (texts_fit (cell_blocks (held_of v)) (area_blocks a.area (written m.cells a (held_of v)))) (goes c ops (with_cells (written m.cells a (held_of v)) m))
+    (Halts TextRoom))
+    Unknown)
 
 -- values are put into the cells from a place on, all of them or, where their texts have no room in the area, none
 abbrev pub written_all : Cells → Addr → List Value → Cells
@@ -234,10 +255,12 @@ abbrev pub takes_all : List Value → Addr → Cells → Bool
 takes_all [] a cells = true
 takes_all (v ∷ vs) a cells = takes (held_of v) (cells a) && takes_all vs (next a) cells
 
-abbrev pub puts_all : Position → Addr → List Value → List Operand → Cells → Move
-puts_all c a vs ops cells =
-    cond (takes_all vs a cells)
-    (cond (texts_fit (values_blocks vs) (area_blocks a.area (written_all cells a vs))) (goes c ops (written_all cells a vs)) (Halts TextRoom)) Unknown
+abbrev pub puts_all : Position → Addr → List Value → List Operand → Mem → Move
+puts_all c a vs ops m =
+    if_there (map kind_of vs) a m
+    (cond (takes_all vs a m.cells)
+    (cond (texts_fit (values_blocks vs) (area_blocks a.area (written_all m.cells a vs))) (goes c ops (with_cells (written_all m.cells a vs) m)) (Halts TextRoom))
+    Unknown)
 
 abbrev pub on_item : Option ℕ → (ℕ → Move) → Move
 on_item None go = Halts OutsideRow
@@ -294,35 +317,35 @@ are_free at [] cells = true
 are_free at (n ∷ ns) cells = is_free (cells (run_cell at)) && are_free (suc at) ns cells
 
 -- goes to a body, with a frame that has this in its cells, which were free, where the cells have room, and then the texts
-abbrev pub entering : Position → ℕ → ℕ → Bool → ℕ → List Operand → List Cell → Cells → After
-entering c first base refines body ops contents cells =
+abbrev pub entering : Position → ℕ → ℕ → Bool → ℕ → List Operand → List Cell → Mem → After
+entering c first base refines body ops contents m =
     cond (cells_fit (c.used + length contents))
-    (cond (texts_fit (content_blocks contents) (blocks_in (written_from c.used contents cells)))
+    (cond (texts_fit (content_blocks contents) (blocks_in (written_from c.used contents m.cells)))
     (To (record {
       pc = first;
       ops = [];
       used = c.used + length contents;
       frames =
           record { back = c.pc + 1; base = base; used = c.used; refines = refines; body = body; ops = ops } ∷ c.frames;
-    }) (written_from c.used contents cells))
+    }) (with_cells (written_from c.used contents m.cells) m))
     (Stops TextRoom))
     (Stops CellRoom)
 
-abbrev pub enters : Position → ℕ → ℕ → Bool → ℕ → List Operand → List Cell → Cells → After
-enters c first base refines body ops contents cells = cond (are_free c.used contents cells) (entering c first base refines body ops contents cells) Unsaid
+abbrev pub enters : Position → ℕ → ℕ → Bool → ℕ → List Operand → List Cell → Mem → After
+enters c first base refines body ops contents m = cond (are_free c.used contents m.cells) (entering c first base refines body ops contents m) Unsaid
 
-abbrev pub calls_to : Position → ℕ → ℕ → Layout → Cells → Move
-calls_to c n first (Own parameters variables) cells =
-    on_operands (length parameters) [] c.ops (λ args ops. Spends (enters c first (c.used + 2) false n ops (frame_contents args variables) cells))
-calls_to c n first _ cells = Stuck
+abbrev pub calls_to : Position → ℕ → ℕ → Layout → Mem → Move
+calls_to c n first (Own parameters variables) m =
+    on_operands (length parameters) [] c.ops (λ args ops. Spends (enters c first (c.used + 2) false n ops (frame_contents args variables) m))
+calls_to c n first _ m = Stuck
 
-abbrev pub call_move : Position → ℕ → Option Entry → Cells → Move
-call_move c n (Some e) cells = calls_to c n e.first e.layout cells
-call_move c n None cells = Stuck
+abbrev pub call_move : Position → ℕ → Option Entry → Mem → Move
+call_move c n (Some e) m = calls_to c n e.first e.layout m
+call_move c n None m = Stuck
 
-abbrev pub refer_move : Position → ℕ → Option Entry → Cells → Move
-refer_move c n (Some e) cells = Spends (enters c e.first (base_of c.frames) true n c.ops link_contents cells)
-refer_move c n None cells = Stuck
+abbrev pub refer_move : Position → ℕ → Option Entry → Mem → Move
+refer_move c n (Some e) m = Spends (enters c e.first (base_of c.frames) true n c.ops link_contents m)
+refer_move c n None m = Stuck
 
 -- the result, where there is one
 abbrev pub on_result : Option Shape → List Operand → (List Operand → Move) → Move
@@ -342,6 +365,7 @@ is_of (HoldsValue kinds.Int) cell = is_word cell
 is_of (HoldsValue kinds.Truth) cell = is_word cell
 is_of (HoldsValue kinds.Text) cell = is_text cell
 is_of (HoldsValue kinds.Task) cell = is_word cell
+is_of (HoldsValue kinds.Space) cell = is_word cell
 is_of HoldsPlace cell = is_word cell
 
 -- so many of the command's cells from one on are known to hold what they are used for, and the others of them numbers
@@ -356,26 +380,27 @@ is_framed e from used cells = are_of (HoldsValue kinds.Int ∷ HoldsValue kinds.
 
 -- leaves a frame, and leaves those of refinements and that of their PROC; so many cells were in use, and what those of the frames hold is
 -- known: numbers are forgotten, and texts freed
-abbrev pub back_into : Program → List Operand → ℕ → Frame → List Frame → Cells → Move
-back_into p result used f fs cells =
-    cond (is_framed (slice_get p.bodies f.body) f.used used cells)
-    (Goes (record { pc = f.back; ops = result ++ f.ops; used = f.used; frames = fs }) (freed f.used used cells)) Unknown
+abbrev pub back_into : Program → List Operand → ℕ → Frame → List Frame → Mem → Move
+back_into p result used f fs m =
+    cond (is_framed (slice_get p.bodies f.body) f.used used m.cells)
+    (Goes (record { pc = f.back; ops = result ++ f.ops; used = f.used; frames = fs }) (with_cells (freed f.used used m.cells) m)) Unknown
 
-abbrev pub back_to : Program → List Operand → ℕ → List Frame → Cells → Move
-back_to p result used [] cells = Stuck
-back_to p result used (f ∷ fs) cells = back_into p result used f fs cells
+abbrev pub back_to : Program → List Operand → ℕ → List Frame → Mem → Move
+back_to p result used [] m = Stuck
+back_to p result used (f ∷ fs) m = back_into p result used f fs m
 
-abbrev pub out_to : Program → List Operand → ℕ → List Frame → Cells → Move
-out_to p result used [] cells = Stuck
-out_to p result used (f ∷ fs) cells = cond f.refines (out_to p result used fs cells) (back_into p result used f fs cells)
+abbrev pub out_to : Program → List Operand → ℕ → List Frame → Mem → Move
+out_to p result used [] m = Stuck
+out_to p result used (f ∷ fs) m = cond f.refines (out_to p result used fs m) (back_into p result used f fs m)
 
 -- keeps a limit in a cell, and looks whether the counter is past it
-abbrev pub limit_to : Position → Way → ℕ → ℤ → Addr → List Operand → Cells → Move
-limit_to c way a limit x ops cells =
+abbrev pub limit_to : Position → Way → ℕ → ℤ → Addr → List Operand → Mem → Move
+limit_to c way a limit x ops m =
     cond (cells_fit (c.used + 1))
-    (cond (is_free (cells (run_cell c.used)))
-    (on_number (cells x) (λ z.
-    Goes (using (at c (cond (is_past way limit z) a (c.pc + 1)) ops) (c.used + 1)) (written cells (run_cell c.used) (held_of (item.Int limit)))))
+    (cond (is_free (m.cells (run_cell c.used)))
+    (if_there (kinds.Int ∷ []) x m (on_number (m.cells x) (λ z.
+    Goes (using (at c (cond (is_past way limit z) a (c.pc + 1)) ops) (c.used + 1))
+    (with_cells (written m.cells (run_cell c.used) (held_of (item.Int limit))) m))))
     Unknown)
     (Halts CellRoom)
 
@@ -385,79 +410,152 @@ value_in (Of v) = v
 value_in _ = item.Int (pos 0)
 
 -- goes on from a request, and puts a value into its variable, where it has one
-abbrev pub keeps : Position → List Operand → Value → List Operand → Cells → Move
-keeps c [] v ops cells = goes c ops cells
-keeps c (At a ∷ os) v ops cells = puts c a v ops cells
-keeps c _ v ops cells = Stuck
+abbrev pub keeps : Position → List Operand → Value → List Operand → Mem → Move
+keeps c [] v ops m = goes c ops m
+keeps c (At a ∷ os) v ops m = puts c a v ops m
+keeps c _ v ops m = Stuck
 
 -- what a request does with the reply, where it took these operands: what it delivers is pushed; where it delivers nothing, its variable
 -- behind its values gets what it reads
-abbrev pub settles : RequestName → Option Kind → Reply → Position → List Operand → List Operand → Cells → Move
-settles name None r c os ops cells = or_halt (read_as name r) (λ v. keeps c (drop (length (request_kinds name)) os) v ops cells)
-settles name (Some k) r c os ops cells = or_halt (answer_of name r) (λ v. pushes c (Of v) ops cells)
+abbrev pub settles : RequestName → Option Kind → Reply → Position → List Operand → List Operand → Mem → Move
+settles name None r c os ops m = or_halt (read_as name r) (λ v. keeps c (drop (length (request_kinds name)) os) v ops m)
+settles name (Some k) r c os ops m = or_halt (answer_of name r) (λ v. pushes c (Of v) ops m)
 
 -- what an instruction does that made a request, with the reply. No other makes one
-abbrev pub takes_reply : Option Instr → Reply → Position → Cells → Move
-takes_reply (Some (Ask name)) r c cells =
-    on_operands (request_size name) [] c.ops (λ os ops. settles name (request_result name) r c os ops cells)
-takes_reply _ r c cells = Stuck
+abbrev pub takes_reply : Option Instr → Reply → Position → Mem → Move
+takes_reply (Some (Ask name)) r c m =
+    on_operands (request_size name) [] c.ops (λ os ops. settles name (request_result name) r c os ops m)
+takes_reply _ r c m = Stuck
+
+-- ---- data spaces
+
+-- the place where the content of a data space begins. The nil space has none; the number 0, which no data space has, stands for it
+abbrev pub content_at : Option SpaceNo → Addr
+content_at (Some s) = area_cell (areas.Space s) 0
+content_at None = area_cell (areas.Space (record { 0 = 0 })) 0
+
+-- the data spaces change so, and with them what is known of their cells
+abbrev pub mem_by : SpaceChange → Mem → Mem
+mem_by change m = record { cells = cells_by change m.heads m.cells; heads = heads_by change m.heads }
+
+abbrev pub mem_after : List SpaceChange → Mem → Mem
+mem_after [] m = m
+mem_after (change ∷ changes) m = mem_after changes (mem_by change m)
+
+-- goes on with what is planned, after its changes, or stops
+abbrev pub changes : {A : Type 0} → Plan A → Mem → (A → Mem → Move) → Move
+changes (Ok plan) m go = go plan.0 (mem_after plan.1 m)
+changes (Err s) m go = Halts s
+
+-- what a procedure on data spaces delivers is pushed, where it delivers something
+abbrev pub answers : Position → Option Value → List Operand → Mem → Move
+answers c None ops m = goes c ops m
+answers c (Some v) ops m = pushes c (Of v) ops m
+
+-- the cell of a variable gets the number of a data space
+abbrev pub keeps_space : Addr → SpaceNo → Mem → (Mem → Move) → Move
+keeps_space a s m go = cond (takes_number (m.cells a)) (go (with_cells (written m.cells a (held_of (item.Space (Some s)))) m)) Unknown
+
+-- the data space that a variable held is forgotten
+abbrev pub without_held : Option SpaceNo → Mem → Mem
+without_held held m = mem_after (forgetting held m.heads) m
+
+-- a variable gets a copy of a data space
+abbrev pub copies : Position → Option SpaceNo → Addr → List Operand → Mem → Move
+copies c from a ops m =
+    if_there (kinds.Space ∷ []) a m (on_word (m.cells a) (λ held.
+    changes (copy_plan None from m.heads) m (λ s m'. keeps_space a s m' (λ m''. goes c ops (without_held (space_in held) m'')))))
+
+-- nothing is known of so many cells of an area from one on, and so it is with those that get their first values by changes
+abbrev pub are_unknown : Area → ℕ → ℕ → Cells → Bool
+are_unknown area at zero cells = true
+are_unknown area at (suc n) cells = is_free (cells (area_cell area at)) && are_unknown area (suc at) n cells
+
+abbrev pub can_change : SpaceChange → Cells → Bool
+can_change (Fills s shape) cells = are_unknown (areas.Space s) 0 (length (cell_kinds shape)) cells
+can_change _ cells = true
+
+abbrev pub can_all_change : List SpaceChange → Cells → Bool
+can_all_change [] cells = true
+can_all_change (change ∷ changes) cells = can_change change cells && can_all_change changes cells
+
+abbrev pub fills : {A : Type 0} → Plan A → Mem → (A → Mem → Move) → Move
+fills (Ok plan) m go = cond (can_all_change plan.1 m.cells) (go plan.0 (mem_after plan.1 m)) Unknown
+fills (Err s) m go = Halts s
+
+-- a variable is bound to a data space, which has this shape then
+abbrev pub binds : Position → Shape → Option SpaceNo → Addr → List Operand → Mem → Move
+binds c shape space a ops m =
+    if_there (kinds.Space ∷ []) a m
+    (cond (cells_fit (length (cell_kinds shape)))
+    (fills (bind_plan shape space m.heads) m (λ s m'. keeps_space a s m' (goes c ops)))
+    (Halts CellRoom))
 
 -- the cell of the innermost limit
 abbrev pub limit_cell : Position → Cells → Cell
 limit_cell c cells = cells (run_cell (c.used - 1))
 
 -- what an instruction of a program does. It looks at where bodies begin and what frames they have, not at the other tables
-abbrev pub instruction : Program → Option Instr → Position → Cells → Move
-instruction p None c cells = Stuck
-instruction p (Some Mark) c cells = Spends (To (at c (c.pc + 1) c.ops) cells)
-instruction p (Some (Number z)) c cells = pushes c (Of (item.Int z)) c.ops cells
-instruction p (Some (Truth b)) c cells = pushes c (Of (item.Truth b)) c.ops cells
-instruction p (Some (Text t)) c cells = pushes c (Of (item.Text t)) c.ops cells
-instruction p (Some (Outer k)) c cells = pushes c (At (run_cell k)) c.ops cells
-instruction p (Some (Packet k)) c cells = pushes c (At (packet_cell (k % CELLS))) c.ops cells
-instruction p (Some (Local k)) c cells = pushes c (At (run_cell (base_of c.frames + k))) c.ops cells
-instruction p (Some (Param k)) c cells = on_word (cells (run_cell (base_of c.frames + k))) (λ n. pushes c (At (place_in n)) c.ops cells)
-instruction p (Some (Index n size)) c cells =
-    on_value c.ops (λ v ops. on_place ops (λ a ops. on_item (in_row n (number_of v)) (λ k. pushes c (At (further a (k * size))) ops cells)))
-instruction p (Some (Field n)) c cells = on_place c.ops (λ a ops. pushes c (At (further a n)) ops cells)
-instruction p (Some (Pick n size)) c cells =
+abbrev pub instruction : Program → Option Instr → Position → Mem → Move
+instruction p None c m = Stuck
+instruction p (Some Mark) c m = Spends (To (at c (c.pc + 1) c.ops) m)
+instruction p (Some (Number z)) c m = pushes c (Of (item.Int z)) c.ops m
+instruction p (Some (Truth b)) c m = pushes c (Of (item.Truth b)) c.ops m
+instruction p (Some (Text t)) c m = pushes c (Of (item.Text t)) c.ops m
+instruction p (Some (Outer k)) c m = pushes c (At (run_cell k)) c.ops m
+instruction p (Some (Packet k)) c m = pushes c (At (packet_cell (k % CELLS))) c.ops m
+instruction p (Some (Local k)) c m = pushes c (At (run_cell (base_of c.frames + k))) c.ops m
+instruction p (Some (Param k)) c m = on_word (m.cells (run_cell (base_of c.frames + k))) (λ n. pushes c (At (place_in n)) c.ops m)
+instruction p (Some (Index n size)) c m =
+    on_value c.ops (λ v ops. on_place ops (λ a ops. on_item (in_row n (number_of v)) (λ k. pushes c (At (further a (k * size))) ops m)))
+instruction p (Some (Field n)) c m = on_place c.ops (λ a ops. pushes c (At (further a n)) ops m)
+instruction p (Some Content) c m =
+    on_place c.ops (λ a ops. if_there (kinds.Space ∷ []) a m (on_word (m.cells a) (λ n. pushes c (At (content_at (space_in n))) ops m)))
+instruction p (Some (Pick n size)) c m =
     on_value c.ops (λ v ops.
-    on_all ops (λ vs ops. on_item (in_row n (number_of v)) (λ k. pushes c (operand_of (take size (drop (k * size) vs))) ops cells)))
-instruction p (Some (Take m from size)) c cells = on_all c.ops (λ vs ops. pushes c (operand_of (take size (drop from vs))) ops cells)
-instruction p (Some (Load s)) c cells =
-    on_place c.ops (λ a ops. on_room c (least_bytes s) ops (on_cells (cell_kinds s) a cells (λ vs. pushes c (operand_of vs) ops cells)))
-instruction p (Some (Store s)) c cells = on_all c.ops (λ vs ops. on_place ops (λ a ops. puts_all c a vs ops cells))
-instruction p (Some (Do op)) c cells =
-    on_values (length (operand_kinds op)) [] c.ops (λ vs ops. or_halt (result_of op vs) (λ v. pushes c (Of v) ops cells))
-instruction p (Some (Modify change)) c cells =
+    on_all ops (λ vs ops. on_item (in_row n (number_of v)) (λ k. pushes c (operand_of (take size (drop (k * size) vs))) ops m)))
+instruction p (Some (Take of from size)) c m = on_all c.ops (λ vs ops. pushes c (operand_of (take size (drop from vs))) ops m)
+instruction p (Some (Load s)) c m =
+    on_place c.ops (λ a ops.
+    if_there (cell_kinds s) a m (on_room c (least_bytes s) ops (on_cells (cell_kinds s) a m.cells (λ vs. pushes c (operand_of vs) ops m))))
+instruction p (Some (Store s)) c m = on_all c.ops (λ vs ops. on_place ops (λ a ops. puts_all c a vs ops m))
+instruction p (Some (Do op)) c m =
+    on_values (length (operand_kinds op)) [] c.ops (λ vs ops. or_halt (result_of op vs) (λ v. pushes c (Of v) ops m))
+instruction p (Some (OnSpaces op)) c m =
+    on_values (length (space_operand_kinds op)) [] c.ops (λ vs ops. changes (planned op vs m.heads) m (λ v m'. answers c v ops m'))
+instruction p (Some Copy) c m = on_value c.ops (λ v ops. on_place ops (λ a ops. copies c (space_of v) a ops m))
+instruction p (Some (Bind s)) c m = on_value c.ops (λ v ops. on_place ops (λ a ops. binds c s (space_of v) a ops m))
+instruction p (Some (Modify change)) c m =
     on_value c.ops (λ v ops.
-    on_place ops (λ a ops. on_cell (change_kind change) (cells a) (λ w. or_halt (changed change w v) (λ x. puts c a x ops cells))))
-instruction p (Some (Jump a)) c cells = Goes (at c a c.ops) cells
-instruction p (Some (False a)) c cells = on_value c.ops (λ v ops. Goes (at c (cond (truth_of v) (c.pc + 1) a) ops) cells)
-instruction p (Some (When z a)) c cells =
-    on_value c.ops (λ v ops. cond (int_eq (number_of v) z) (Goes (at c a ops) cells) (goes c (Of v ∷ ops) cells))
-instruction p (Some Drop) c cells = on_value c.ops (λ v ops. goes c ops cells)
-instruction p (Some (Limit way a)) c cells = on_value c.ops (λ v ops. on_place ops (λ x ops. limit_to c way a (number_of v) x ops cells))
-instruction p (Some Unlimit) c cells = Goes (using (at c (c.pc + 1) c.ops) (c.used - 1)) (without (c.used - 1) c.used cells)
-instruction p (Some (Step way a)) c cells =
-    on_place c.ops (λ x ops. on_number (limit_cell c cells) (λ limit. on_number (cells x) (λ z.
-    cond (has_reached way limit z) (Goes (at c a ops) cells) (goes c ops (written cells x (held_of (item.Int (next_number way z))))))))
-instruction p (Some (Ask name)) c cells =
-    on_operands (request_size name) [] c.ops (λ os ops. Spends (Asks c (request_of name (map value_in os)) cells))
-instruction p (Some ErrorStop) c cells = on_value c.ops (λ v ops. Refuses (Own (text_of v)) (at c (c.pc + 1) ops))
-instruction p (Some (Call n)) c cells = call_move c n (slice_get p.bodies n) cells
-instruction p (Some (Refer n)) c cells = refer_move c n (slice_get p.bodies n) cells
-instruction p (Some (Back s)) c cells = on_result s c.ops (λ result. back_to p result c.used c.frames cells)
-instruction p (Some (Out s)) c cells = on_result s c.ops (λ result. out_to p result c.used c.frames cells)
-instruction p (Some End) c cells = Ends
+    on_place ops (λ a ops.
+    if_there (change_kind change ∷ []) a m (on_cell (change_kind change) (m.cells a) (λ w. or_halt (changed change w v) (λ x. puts c a x ops m)))))
+instruction p (Some (Jump a)) c m = Goes (at c a c.ops) m
+instruction p (Some (False a)) c m = on_value c.ops (λ v ops. Goes (at c (cond (truth_of v) (c.pc + 1) a) ops) m)
+instruction p (Some (When z a)) c m =
+    on_value c.ops (λ v ops. cond (int_eq (number_of v) z) (Goes (at c a ops) m) (goes c (Of v ∷ ops) m))
+instruction p (Some Drop) c m = on_value c.ops (λ v ops. goes c ops m)
+instruction p (Some (Limit way a)) c m = on_value c.ops (λ v ops. on_place ops (λ x ops. limit_to c way a (number_of v) x ops m))
+instruction p (Some Unlimit) c m = Goes (using (at c (c.pc + 1) c.ops) (c.used - 1)) (with_cells (without (c.used - 1) c.used m.cells) m)
+instruction p (Some (Step way a)) c m =
+    on_place c.ops (λ x ops. on_number (limit_cell c m.cells) (λ limit.
+    if_there (kinds.Int ∷ []) x m (on_number (m.cells x) (λ z.
+    cond (has_reached way limit z) (Goes (at c a ops) m) (goes c ops (with_cells (written m.cells x (held_of (item.Int (next_number way z)))) m))))))
+instruction p (Some (Ask name)) c m =
+    on_operands (request_size name) [] c.ops (λ os ops. Spends (Asks c (request_of name (map value_in os)) m))
+instruction p (Some ErrorStop) c m = on_value c.ops (λ v ops. Refuses (Own (text_of v)) (at c (c.pc + 1) ops))
+instruction p (Some (Call n)) c m = call_move c n (slice_get p.bodies n) m
+instruction p (Some (Refer n)) c m = refer_move c n (slice_get p.bodies n) m
+instruction p (Some (Back s)) c m = on_result s c.ops (λ result. back_to p result c.used c.frames m)
+instruction p (Some (Out s)) c m = on_result s c.ops (λ result. out_to p result c.used c.frames m)
+instruction p (Some End) c m = Ends
 
 -- one step, where nothing is waited for
-abbrev pub step : Program → Position → Cells → Move
-step p c cells = instruction p (instr_of (slice_get p.lines c.pc)) c cells
+abbrev pub step : Program → Position → Mem → Move
+step p c m = instruction p (instr_of (slice_get p.lines c.pc)) c m
 
--- what the machine runs on: what is known of the cells, the marks that are left, and the replies that are left
+-- what the machine runs on: its memory, the marks that are left, and the replies that are left
 pub record Scene : Type 0 where
-  pub cells : Cells
+  pub mem : Mem
   pub marks : ℕ
   pub replies : List Reply
 
@@ -486,8 +584,8 @@ rest_at h c s = record { how = h; control = c; scene = s }
 
 -- where it rests, it stays as it was
 abbrev pub after_stage : After → Control → Scene → Stage
-after_stage (To c' cells) d s = On (free c') (record s { cells = cells })
-after_stage (Asks c' q cells) d s = On (asking c' q) (record s { cells = cells })
+after_stage (To c' m) d s = On (free c') (record s { mem = m })
+after_stage (Asks c' q m) d s = On (asking c' q) (record s { mem = m })
 after_stage (Stops stop) d s = Over (rest_at (halts.Stopped stop) d s)
 after_stage Unsaid d s = Lost
 
@@ -496,7 +594,7 @@ mark_stage zero a d s = Over (rest_at halts.Marked d s)
 mark_stage (suc m) a d s = after_stage a d (record s { marks = m })
 
 abbrev pub move_stage : Move → Control → Scene → Stage
-move_stage (Goes c' cells) d s = On (free c') (record s { cells = cells })
+move_stage (Goes c' m) d s = On (free c') (record s { mem = m })
 move_stage (Spends a) d s = mark_stage s.marks a d s
 move_stage (Halts stop) d s = Over (rest_at (halts.Stopped stop) d s)
 move_stage (Refuses stop c') d s = On (refused c' stop) s
@@ -513,9 +611,9 @@ reply_stage (r ∷ rs) q c s = On (answered q r c) (record s { replies = rs })
 
 -- where nothing is waited for, a step is made; a request takes the next reply, and goes on with it; and what was refused stops
 abbrev pub stage_at : Waits → Program → Position → Scene → Stage
-stage_at Nothing p c s = stage (step p c s.cells) c s
+stage_at Nothing p c s = stage (step p c s.mem) c s
 stage_at (Asked q) p c s = reply_stage s.replies q c s
-stage_at (Replied r) p c s = move_stage (takes_reply (instr_of (slice_get p.lines c.pc)) r c s.cells) (given c r) s
+stage_at (Replied r) p c s = move_stage (takes_reply (instr_of (slice_get p.lines c.pc)) r c s.mem) (given c r) s
 stage_at (Refused stop) p c s = Over (rest_at (halts.Stopped stop) (refused c stop) s)
 
 abbrev pub advance : Program → Control → Scene → Stage

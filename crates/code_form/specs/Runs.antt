@@ -2,14 +2,13 @@
 use Rattle.std.specs.Prelude.{◌≡◌, ℕ, ◌+◌, ◌-◌, ◌*◌, ◌⊎◌, cond, List, [], ◌∷◌, ◌++◌, length, Option, Some, None, slice_get}
 use Rattle.eu_base.specs.declared.request.Request.{Request}
 use Rattle.eu_base.specs.declared.request.Reply.{Reply}
-use Rattle.eu_base.specs.Cells.{Cells}
 use Rattle.code_form.specs.declared.halt.Halt.{Halt}
 use Rattle.code_form.specs.declared.halt.Halt.TheVariants as halts
 use Rattle.code_form.specs.declared.waits.Waits.{Waits}
 use Rattle.code_form.specs.declared.waits.Waits.TheVariants.{Nothing, Asked, Given, Refused}
 use Rattle.code_form.specs.declared.code.Line.{Line}
 use Rattle.code_form.specs.Program.{Program, instr_of}
-use Rattle.code_form.specs.Machine.{Position, Control, free, asking, To, Asks, Stops, Move, Goes, Spends, Halts, Refuses, Ends, Unknown, Unsaid, Stuck, Scene, Rest}
+use Rattle.code_form.specs.Machine.{Position, Control, free, asking, To, Asks, Stops, Move, Goes, Spends, Halts, Refuses, Ends, Unknown, Unsaid, Stuck, Mem, Scene, Rest}
 use Rattle.code_form.specs.Machine.{step, exec, takes_reply, answered, given, refused}
 use Rattle.code_form.specs.Valid.{IsValid, Fits, is_mark}
 
@@ -46,9 +45,9 @@ IsOne = (p : Program) (c : Control) (s : Scene) (r r' : Rest) → Rests p c s r 
 
 -- an instruction can be done, and leads to a state that fits
 abbrev pub IsSafe : Program → Move → Type 0
-IsSafe p (Goes c cells) = Fits p (free c)
-IsSafe p (Spends (To c cells)) = Fits p (free c)
-IsSafe p (Spends (Asks c q cells)) = Fits p (asking c q)
+IsSafe p (Goes c m) = Fits p (free c)
+IsSafe p (Spends (To c m)) = Fits p (free c)
+IsSafe p (Spends (Asks c q m)) = Fits p (asking c q)
 IsSafe p (Spends (Stops s)) = Unit {0}
 IsSafe p (Spends Unsaid) = Unit {0}
 IsSafe p (Halts s) = Unit {0}
@@ -59,10 +58,10 @@ IsSafe p Stuck = ⊥
 
 -- each state that code reaches fits, and the machine is never stuck
 pub record StaysFit : Type 0 where
-  pub steps : (p : Program) (c : Position) (cells : Cells) → IsValid p → Fits p (free c) → IsSafe p (step p c cells)
+  pub steps : (p : Program) (c : Position) (m : Mem) → IsValid p → Fits p (free c) → IsSafe p (step p c m)
   pub replies : (p : Program) (c : Position) (q : Request) (r : Reply) → Fits p (asking c q) → Fits p (answered q r c)
-  pub takes : (p : Program) (c : Position) (r : Reply) (cells : Cells) → IsValid p → Fits p (given c r)
-      → IsSafe p (takes_reply (instr_of (slice_get p.lines c.pc)) r c cells)
+  pub takes : (p : Program) (c : Position) (r : Reply) (m : Mem) → IsValid p → Fits p (given c r)
+      → IsSafe p (takes_reply (instr_of (slice_get p.lines c.pc)) r c m)
 
 -- the request that is waited for
 abbrev pub asked : Waits → Option Request
@@ -81,14 +80,14 @@ steps_left lines marks frames pc = marks * (length lines + 1) + marks * (length 
 
 -- A state stands so after a start: so many marks were spent and these replies were given, and with more of both the machine goes on
 -- from it as from the start with all of them.
-pub record Stands (p : Program) (first : Control) (cells : Cells) (spent : ℕ) (replies : List Reply) (c : Control) (now : Cells) : Type 0 where
-  pub goes : (marks : ℕ) (more : List Reply) (last : Rest) → Rests p c (record { cells = now; marks = marks; replies = more }) last
-      → Rests p first (record { cells = cells; marks = spent + marks; replies = replies ++ more }) last
+pub record Stands (p : Program) (first : Control) (was : Mem) (spent : ℕ) (replies : List Reply) (c : Control) (now : Mem) : Type 0 where
+  pub goes : (marks : ℕ) (more : List Reply) (last : Rest) → Rests p c (record { mem = now; marks = marks; replies = more }) last
+      → Rests p first (record { mem = was; marks = spent + marks; replies = replies ++ more }) last
 
 -- a run from there for want of marks or replies, and one that had no marks however it came to rest, spends marks and leaves it so
 abbrev pub StandsOn : Type 0
 StandsOn =
-    (p : Program) (first : Control) (cells : Cells) (spent left : ℕ) (replies : List Reply) (c : Control) (now : Cells) (r : Rest) → IsPaused r.how ⊎ (left ≡ 0)
-    → Stands p first cells spent replies c now
-    → Rests p c (record { cells = now; marks = left; replies = [] }) r → r.scene.replies ≡ []
-    → Stands p first cells (spent + (left - r.scene.marks)) replies r.control r.scene.cells
+    (p : Program) (first : Control) (was : Mem) (spent left : ℕ) (replies : List Reply) (c : Control) (now : Mem) (r : Rest) → IsPaused r.how ⊎ (left ≡ 0)
+    → Stands p first was spent replies c now
+    → Rests p c (record { mem = now; marks = left; replies = [] }) r → r.scene.replies ≡ []
+    → Stands p first was (spent + (left - r.scene.marks)) replies r.control r.scene.mem

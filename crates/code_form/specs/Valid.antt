@@ -12,12 +12,13 @@ use Rattle.eu_base.specs.Operations.{operand_kinds, result_kind, change_kind}
 use Rattle.eu_base.specs.declared.request.RequestName.{RequestName}
 use Rattle.eu_base.specs.Requests.{request_kinds, request_places, request_result}
 use Rattle.eu_base.specs.Cells.{IsCell}
+use Rattle.eu_base.specs.SpaceOperations.{space_operand_kinds, space_result_kind}
 use Rattle.code_form.specs.declared.operand.Operand.{Operand}
 use Rattle.code_form.specs.declared.operand.Operand.TheVariants.{Place as At}
 use Rattle.code_form.specs.declared.operand.OperandKind.{OperandKind}
 use Rattle.code_form.specs.declared.operand.OperandKind.TheVariants.{Value, Place}
 use Rattle.code_form.specs.declared.instr.Instr.{Instr}
-use Rattle.code_form.specs.declared.instr.Instr.TheVariants.{Mark, Number, Truth, Text, Outer, Packet, Local, Param, Index, Field, Pick, Take, Load, Store, Do, Modify, Jump, False}
+use Rattle.code_form.specs.declared.instr.Instr.TheVariants.{Mark, Number, Truth, Text, Outer, Packet, Local, Param, Index, Field, Content, Pick, Take, Load, Store, Do, OnSpaces, Copy, Bind, Modify, Jump, False}
 use Rattle.code_form.specs.declared.instr.Instr.TheVariants.{When, Drop, Limit, Unlimit, Step, Ask, ErrorStop, Call, Refer, Back, Out, End}
 use Rattle.code_form.specs.declared.code.Line.{Line}
 use Rattle.code_form.specs.declared.code.Spot.{Spot}
@@ -162,12 +163,19 @@ IsFine p pc (Local x) ks m =
 IsFine p pc (Param x) ks m = (slice_get (frame_cells p m.body) x ≡ Some HoldsPlace) × ((s : Shape) × Next p.lines (pc + 1) (Place s ∷ ks) m)
 IsFine p pc (Index n size) ks m = (rest : List OperandKind) × (ks ≡ cell_value kinds.Int ∷ rest) × GivesPlace p.lines pc rest m
 IsFine p pc (Field n) ks m = GivesPlace p.lines pc ks m
+IsFine p pc Content ks m = GivesPlace p.lines pc ks m
 IsFine p pc (Pick n size) ks m = (rest : List OperandKind) × (ks ≡ cell_value kinds.Int ∷ rest) × GivesPart p.lines pc rest m (AreItems n size)
 IsFine p pc (Take cells from size) ks m = GivesPart p.lines pc ks m (IsPart cells from size)
 IsFine p pc (Load s) ks m = (rest : List OperandKind) × (ks ≡ Place s ∷ rest) × Next p.lines (pc + 1) (Value s ∷ rest) m
 IsFine p pc (Store s) ks m = (rest : List OperandKind) × (ks ≡ Value s ∷ Place s ∷ rest) × Next p.lines (pc + 1) rest m
 IsFine p pc (Do op) ks m =
     (rest : List OperandKind) × (ks ≡ pushed_kinds (operand_kinds op) rest) × Next p.lines (pc + 1) (cell_value (result_kind op) ∷ rest) m
+IsFine p pc (OnSpaces op) ks m =
+    (rest : List OperandKind) × (ks ≡ pushed_kinds (space_operand_kinds op) rest) × Next p.lines (pc + 1) (with_answer (space_result_kind op) rest) m
+IsFine p pc Copy ks m =
+    (rest : List OperandKind) × (ks ≡ cell_value kinds.Space ∷ cell_place kinds.Space ∷ rest) × Next p.lines (pc + 1) rest m
+IsFine p pc (Bind s) ks m =
+    (rest : List OperandKind) × (ks ≡ cell_value kinds.Space ∷ cell_place kinds.Space ∷ rest) × Next p.lines (pc + 1) rest m
 IsFine p pc (Modify change) ks m =
     (rest : List OperandKind) × (ks ≡ cell_value (change_kind change) ∷ cell_place (change_kind change) ∷ rest) × Next p.lines (pc + 1) rest m
 IsFine p pc (Jump a) ks m = Lands p.lines pc a ks m

@@ -1,6 +1,6 @@
 //! Instructions.
 
-use eu_base::{Bytes, Change, Operation, RequestName, Shape, Way};
+use eu_base::{Bytes, Change, Operation, RequestName, Shape, SpaceOperation, Way};
 
 /// What one step of the machine does. A jump names the number of the instruction that it goes to.
 #[derive(Drop)]
@@ -27,6 +27,8 @@ pub enum Instr {
     Index(u16, u16),
     /// Takes a place, and pushes the place so many cells further on.
     Field(u16),
+    /// Takes the place of a BOUND variable, and pushes the place where the content of its data space begins.
+    Content,
     /// Takes a number i and the value below it, a row of so many items of so many cells, and pushes item i. Where i is none of 1 to the
     /// number of items, the command stops.
     Pick(u16, u16),
@@ -38,6 +40,13 @@ pub enum Instr {
     Store(Shape),
     /// Takes operands, and pushes the result.
     Do(Operation),
+    /// Takes operands, does what the call does with the data spaces, and pushes what it delivers, if it does. It is listed as `DO`.
+    OnSpaces(SpaceOperation),
+    /// Takes a data space and the place of a DATASPACE variable below it, and gives the variable a copy.
+    Copy,
+    /// Takes a data space and the place of a BOUND variable below it, and binds the variable to the data space, whose content has a shape
+    /// then.
+    Bind(Shape),
     /// Takes a value and the place below it, and changes the value there by it. It is listed as `DO`.
     Modify(Change),
     /// Jumps.

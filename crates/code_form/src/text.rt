@@ -1,7 +1,7 @@
 //! Code as text.
 ghost use Rattle.std.specs.Prelude.{◌≡◌, ◌++◌, IfOk, OnOk, map, flat_map, length, slice_get, codes};
 ghost use Rattle.std.specs.Fmt.{decimal, signed_decimal};
-ghost use Rattle.code_form.specs.Listing.{truth_word, kind_word, listed, shape_text, way_word, operation_word, operation_name, text_operation_name, change_name, request_name, first_of, cells_of_frame, cell_in_packet, packet_text, start_text, instr_text, texts_with};
+ghost use Rattle.code_form.specs.Listing.{truth_word, kind_word, listed, shape_text, way_word, operation_word, operation_name, text_operation_name, space_operation_name, change_name, request_name, first_of, cells_of_frame, cell_in_packet, packet_text, start_text, instr_text, texts_with};
 ghost use Rattle.code_form.specs.Listing.{line_text, listing_text};
 ghost use Rattle.code_form.specs.Program.{cell_uses, cells_of};
 
@@ -9,7 +9,10 @@ use crate::code::{Code, Entry, Layout};
 use crate::instr::Instr;
 use crate::operand::OperandKind;
 use cell_kinds::{Packet, count};
-use eu_base::{Bytes, Change, Kind, NoMemory, Operation, RequestName, Shape, TextOperation, Way};
+use eu_base::{
+    Bytes, Change, Kind, NoMemory, Operation, RequestName, Shape, SpaceOperation, TextOperation,
+    Way,
+};
 use itoa::Buffer;
 use std::alloc::Global;
 
@@ -90,6 +93,7 @@ fn append_instr(
             append_with(out, b" ", usize::from(*cells))
         }
         Instr::Field(cells) => append_with(out, b"FIELD ", usize::from(*cells)),
+        Instr::Content => out.append(b"CONTENT"),
         Instr::Pick(count, cells) => {
             append_with(out, b"PICK ", usize::from(*count))?;
             append_with(out, b" ", usize::from(*cells))
@@ -110,6 +114,15 @@ fn append_instr(
         Instr::Do(operation) => {
             out.append(operation_word(*operation))?;
             out.append(operation_name(*operation))
+        }
+        Instr::OnSpaces(operation) => {
+            out.append(b"DO ")?;
+            out.append(space_operation_name(*operation))
+        }
+        Instr::Copy => out.append(b"COPY"),
+        Instr::Bind(shape) => {
+            out.append(b"BIND ")?;
+            append_shape(out, shape)
         }
         Instr::Modify(change) => {
             out.append(b"DO ")?;
@@ -287,6 +300,7 @@ fn kind_word(kind: Kind) -> &'static [u8]
         Kind::Truth => b"BOOL",
         Kind::Text => b"TEXT",
         Kind::Task => b"TASK",
+        Kind::Space => b"DATASPACE",
     }
 }
 
@@ -332,12 +346,12 @@ fn way_word(way: Way) -> &'static [u8]
     }
 }
 
-// The word before the name: niltask is the nil value of its type, and all else is done.
+// The word before the name: niltask and nilspace are the nil values of their types, and all else is done.
 fn operation_word(operation: Operation) -> &'static [u8]
     ensures { result.now ≡ operation_word operation }
 {
     match operation {
-        Operation::NoTask => b"NIL ",
+        Operation::NoTask | Operation::NilSpace => b"NIL ",
         _ => b"DO ",
     }
 }
@@ -365,6 +379,7 @@ fn operation_name(operation: Operation) -> &'static [u8]
         Operation::Maximum => b"max",
         Operation::Largest => b"maxint",
         Operation::NoTask => b"TASK",
+        Operation::NilSpace => b"DATASPACE",
         Operation::OnTexts(operation) => text_operation_name(operation),
     }
 }
@@ -398,6 +413,20 @@ fn change_name(change: Change) -> &'static [u8]
         Change::Increase => b"INCR",
         Change::Decrease => b"DECR",
         Change::Append => b"CAT",
+    }
+}
+
+fn space_operation_name(operation: SpaceOperation) -> &'static [u8]
+    ensures { result.now ≡ space_operation_name operation }
+{
+    match operation {
+        SpaceOperation::KindOf | SpaceOperation::SetKind => b"type",
+        SpaceOperation::New => b"new",
+        SpaceOperation::Old => b"old",
+        SpaceOperation::IsNamed => b"exists",
+        SpaceOperation::Forget | SpaceOperation::ForgetNamed => b"forget",
+        SpaceOperation::Rename => b"rename",
+        SpaceOperation::CopyNamed => b"copy",
     }
 }
 

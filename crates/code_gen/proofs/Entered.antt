@@ -9,6 +9,7 @@ use Rattle.eu_base.specs.Values.{IsOf, blank_of}
 use Rattle.eu_base.specs.Shapes.{cell_kinds}
 use Rattle.eu_base.specs.declared.address.Area.{Area}
 use Rattle.eu_base.specs.declared.address.Area.TheVariants.{Run, Packets}
+use Rattle.eu_base.specs.declared.address.Area.TheVariants as areas
 use Rattle.eu_base.specs.Cells.{Cell, held_of}
 use Rattle.eu_base.proofs.Results.{fits_in_range}
 use Rattle.code_form.specs.declared.operand.OperandKind.{OperandKind}
@@ -17,7 +18,7 @@ use Rattle.code_form.specs.Program.{Program}
 use Rattle.code_form.specs.Machine.{operand_of, held_cells, frame_contents}
 use Rattle.elan_types.specs.Eval.{Place, Slot, Holds, Passed, slots_of, all_slots, frame}
 use Rattle.place_gen.proofs.Homes.{uses_of}
-use Rattle.place_gen.proofs.Cells.{OfValue, OfNothing, Uses, AtKinds, AtPlace, StandsBefore, uses_in, AllKept}
+use Rattle.place_gen.proofs.Cells.{OfValue, OfNothing, Uses, StandsIn, AtPlace, StandsBefore, AllKept}
 use Rattle.place_gen.proofs.Spans.{AreOf, at_within}
 use Rattle.place_gen.proofs.Carry.{P, Takes, TakeAll, passed_operand}
 
@@ -33,6 +34,7 @@ blank_is kinds.Int = fits_in_range _ refl
 blank_is kinds.Truth = tt
 blank_is kinds.Text = omega arith
 blank_is kinds.Task = omega arith
+blank_is kinds.Space = omega arith
 
 -- the cells of a value are those of the values of its cells
 cells_held : (vs : List Value) → map held_of vs ≡ held_cells (operand_of vs)
@@ -56,9 +58,10 @@ all_append P L (k ∷ M) N at (s ∷ more) others (n ∷ ns) ms h g =
 stands_before : (P : List Kind) (L : Uses) (ks : List Kind) (at : ℕ) (x : Place) → length L ≤ at → AtPlace P ks L x → StandsBefore at x.area (x.variable + length ks)
 stands_before P L ks at x le h = by x.area x.variable h.0
   where
-    by : (area : Area) (n : ℕ) → AtKinds ks (uses_in P L area) n → StandsBefore at area (n + length ks)
+    by : (area : Area) (n : ℕ) → StandsIn P ks L area n → StandsBefore at area (n + length ks)
     by Run n at_n = omega (arith, le, at_within ks L n at_n)
     by Packets n at_n = tt
+    by (areas.Space s) n at_n = tt
 
 module _ (p : Program) (L : Uses) where
   values_kept : (ks : List Kind) (vs : List Value) (at : ℕ) → AreOf ks vs → AllKept (P p) L at (map OfValue ks) (map Holds vs) (map held_of vs)

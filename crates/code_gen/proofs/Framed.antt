@@ -6,7 +6,7 @@ use Rattle.std.proofs.lemmas.List.Concat.{flat_map-cons}
 use Rattle.eu_base.specs.declared.value.Kind.{Kind}
 use Rattle.eu_base.specs.declared.value.Kind.TheVariants as kinds
 use Rattle.eu_base.specs.declared.value.Value.{Value}
-use Rattle.eu_base.specs.declared.value.Value.TheVariants.{Int, Truth, Text, Task}
+use Rattle.eu_base.specs.declared.value.Value.TheVariants.{Int, Truth, Text, Task, Space}
 use Rattle.eu_base.specs.Values.{IsOf}
 use Rattle.eu_base.specs.Shapes.{cell_kinds}
 use Rattle.eu_base.specs.declared.address.Area.TheVariants.{Run}
@@ -62,18 +62,27 @@ held_kind kinds.Int (Int z) f = refl
 held_kind kinds.Int (Truth b) f = absurd f
 held_kind kinds.Int (Text t) f = absurd f
 held_kind kinds.Int (Task n) f = absurd f
+held_kind kinds.Int (Space s) f = absurd f
 held_kind kinds.Truth (Int z) f = absurd f
 held_kind kinds.Truth (Truth b) f = refl
 held_kind kinds.Truth (Text t) f = absurd f
 held_kind kinds.Truth (Task n) f = absurd f
+held_kind kinds.Truth (Space s) f = absurd f
 held_kind kinds.Text (Int z) f = absurd f
 held_kind kinds.Text (Truth b) f = absurd f
 held_kind kinds.Text (Text t) f = refl
 held_kind kinds.Text (Task n) f = absurd f
+held_kind kinds.Text (Space s) f = absurd f
 held_kind kinds.Task (Int z) f = absurd f
 held_kind kinds.Task (Truth b) f = absurd f
 held_kind kinds.Task (Text t) f = absurd f
 held_kind kinds.Task (Task n) f = refl
+held_kind kinds.Task (Space s) f = absurd f
+held_kind kinds.Space (Int z) f = absurd f
+held_kind kinds.Space (Truth b) f = absurd f
+held_kind kinds.Space (Text t) f = absurd f
+held_kind kinds.Space (Task n) f = absurd f
+held_kind kinds.Space (Space s) f = refl
 
 kept_use : (P : List Kind) (L : Uses) (at : ℕ) (u : Use) (s : Slot) (n : Cell) → Kept P L at u s n → is_of (cell_for u) n ≡ true
 kept_use P L at (OfValue k) s n g = ap (is_of (HoldsValue k)) g.3 ∙ held_kind k g.0 g.2

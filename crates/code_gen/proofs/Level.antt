@@ -10,7 +10,8 @@ use Rattle.eu_base.specs.declared.value.Kind.{Kind}
 use Rattle.eu_base.specs.declared.value.Value.{Value}
 use Rattle.eu_base.specs.Room.{cells_fit, texts_fit}
 use Rattle.eu_base.specs.declared.address.Area.TheVariants as areas
-use Rattle.eu_base.specs.Cells.{Cell, Free, Cells, freed, blocks_in}
+use Rattle.eu_base.specs.Cells.{Cell, Free, freed, blocks_in}
+use Rattle.code_form.specs.Machine.{Mem, with_cells}
 use Rattle.code_form.specs.declared.halt.Halt.TheVariants as halts
 use Rattle.code_form.specs.declared.operand.Operand.{Operand}
 use Rattle.code_form.specs.declared.operand.OperandKind.{OperandKind}
@@ -77,47 +78,47 @@ module _ (p : Program) where
         → Ends p L (at c first []) w (finish (content con (reach calls n c []) w) (l exits.Body) l)
 
   -- a stop where a body is entered changes nothing
-  full_ends : (L : Uses) (c : Position) (s : Stop) (w : World) (cells : Cells) (k : Option (List Value) → World → Ending) (l : Exit → Option (List Value) → World → Ending)
-      → Keeps (P p) L w cells → After p (after_stage (Stops s) (free c) (scene_of w cells)) (finish (Stopped s w) k l)
-  full_ends L c s w cells k l h = record {
+  full_ends : (L : Uses) (c : Position) (s : Stop) (w : World) (memory : Mem) (k : Option (List Value) → World → Ending) (l : Exit → Option (List Value) → World → Ending)
+      → Keeps (P p) L w memory → After p (after_stage (Stops s) (free c) (scene_of w memory)) (finish (Stopped s w) k l)
+  full_ends L c s w memory k l h = record {
     steps = 0;
-    rest = rest_at (halts.Stopped s) (free c) (scene_of w cells);
+    rest = rest_at (halts.Stopped s) (free c) (scene_of w memory);
     comes = refl;
-    shows = resting p (halts.Stopped s) (free c) w cells h;
+    shows = resting p (halts.Stopped s) (free c) w memory h;
   }
 
   -- the texts of a frame have room, and the machine goes into the body; or it stops
   texts_ends : (L U : Uses) (more : List Slot) (c inner : Position) (go : World → Outcome (Option (List Value))) (k : Option (List Value) → World → Ending)
-      (l : Exit → Option (List Value) → World → Ending) (w : World) (cells now : Cells) → Keeps (P p) L w cells → Keeps (P p) U (record w { store = w.store ++ more }) now → (t : Bool)
+      (l : Exit → Option (List Value) → World → Ending) (w : World) (memory now : Mem) → Keeps (P p) L w memory → Keeps (P p) U (record w { store = w.store ++ more }) now → (t : Bool)
       → Ends p U inner (record w { store = w.store ++ more }) (finish (go (record w { store = w.store ++ more })) k l)
-      → After p (after_stage (cond t (To inner now) (Stops TextRoom)) (free c) (scene_of w cells))
+      → After p (after_stage (cond t (To inner now) (Stops TextRoom)) (free c) (scene_of w memory))
       (finish (branch t (λ w. go (record w { store = w.store ++ more })) (Stopped TextRoom) w) k l)
-  texts_ends L U more c inner go k l w cells now h later false e = full_ends L c TextRoom w cells k l h
-  texts_ends L U more c inner go k l w cells now h later true e =
+  texts_ends L U more c inner go k l w memory now h later false e = full_ends L c TextRoom w memory k l h
+  texts_ends L U more c inner go k l w memory now h later true e =
       going p (free inner) (scene_of (record w { store = w.store ++ more }) now) _ (e now later)
 
   -- cells are taken for a frame where there is room, and then its texts
   room_ends : length (P p) ≤ CELLS → (L M : Uses) (more : List Slot) (ns : List Cell) (c inner : Position) (go : World → Outcome (Option (List Value))) (k : Option (List Value) → World → Ending)
-      (l : Exit → Option (List Value) → World → Ending) (w : World) (cells : Cells) → c.used ≡ length L → AllKept (P p) L (length L) M more ns → Keeps (P p) L w cells
+      (l : Exit → Option (List Value) → World → Ending) (w : World) (memory : Mem) → c.used ≡ length L → AllKept (P p) L (length L) M more ns → Keeps (P p) L w memory
       → (t : Bool) → (t ≡ true
       → (length (L ++ M) ≤ CELLS) × Ends p (L ++ M) inner (record w { store = w.store ++ more }) (finish (go (record w { store = w.store ++ more })) k l))
-      → After p (after_stage (cond t (cond (texts_fit (content_blocks ns) (blocks_in (written_from c.used ns cells)))
-      (To inner (written_from c.used ns cells)) (Stops TextRoom)) (Stops CellRoom)) (free c) (scene_of w cells))
+      → After p (after_stage (cond t (cond (texts_fit (content_blocks ns) (blocks_in (written_from c.used ns memory.cells)))
+      (To inner (with_cells (written_from c.used ns memory.cells) memory)) (Stops TextRoom)) (Stops CellRoom)) (free c) (scene_of w memory))
       (finish (branch t (branch (texts_fit (store_blocks more) (store_blocks (w.store ++ more)))
       (λ w. go (record w { store = w.store ++ more })) (Stopped TextRoom)) (Stopped CellRoom) w) k l)
-  room_ends few L M more ns c inner go k l w cells used kept h false e = full_ends L c CellRoom w cells k l h
-  room_ends few L M more ns c inner go k l w cells used kept h true e =
-      let now = written_from c.used ns cells in
+  room_ends few L M more ns c inner go k l w memory used kept h false e = full_ends L c CellRoom w memory k l h
+  room_ends few L M more ns c inner go k l w memory used kept h true e =
+      let now = with_cells (written_from c.used ns memory.cells) memory in
       let later : Keeps (P p) (L ++ M) (record w { store = w.store ++ more }) now =
-      subst (λ n. Keeps (P p) (L ++ M) (record w { store = w.store ++ more }) (written_from n ns cells)) (sym used) (extends (P p) M L w more cells ns h kept) in
+      subst (λ n. Keeps (P p) (L ++ M) (record w { store = w.store ++ more }) (with_cells (written_from n ns memory.cells) memory)) (sym used) (extends (P p) M L w more memory ns h kept) in
       let x = e refl in
       let test = texts_fit (store_blocks more) (store_blocks (w.store ++ more)) in
-      let same : texts_fit (content_blocks ns) (blocks_in now) ≡ test =
+      let same : texts_fit (content_blocks ns) (blocks_in now.cells) ≡ test =
       sym (ap (λ n. texts_fit n (store_blocks (w.store ++ more))) (more_blocks (P p) L (length L) M more ns kept)
       ∙ ap (texts_fit (content_blocks ns)) (same_blocks areas.Run (P p) (L ++ M) (record w { store = w.store ++ more }) now few x.0 later)) in
-      subst (λ t. After p (after_stage (cond t (To inner now) (Stops TextRoom)) (free c) (scene_of w cells))
+      subst (λ t. After p (after_stage (cond t (To inner now) (Stops TextRoom)) (free c) (scene_of w memory))
       (finish (branch test (λ w. go (record w { store = w.store ++ more })) (Stopped TextRoom) w) k l)) (sym same)
-      (texts_ends L (L ++ M) more c inner go k l w cells now h later test x.1)
+      (texts_ends L (L ++ M) more c inner go k l w memory now h later test x.1)
 
   -- a body is entered with these cells
   abbrev entered : Position → ℕ → ℕ → Bool → ℕ → List Operand → List Cell → Position
@@ -131,43 +132,43 @@ module _ (p : Program) where
 
   -- with the cells of a frame in use, that those of the frame below are where they were
   enter_ends : length (P p) ≤ CELLS → (L M : Uses) (more : List Slot) (ns : List Cell) (c : Position) (first base : ℕ) (refines : Bool) (body : ℕ) (ops : List Operand)
-      (go : World → Outcome (Option (List Value))) (k : Option (List Value) → World → Ending) (l : Exit → Option (List Value) → World → Ending) (w : World) (cells : Cells)
-      → c.used ≡ length L → AllKept (P p) L (length L) M more ns → Keeps (P p) L w cells
+      (go : World → Outcome (Option (List Value))) (k : Option (List Value) → World → Ending) (l : Exit → Option (List Value) → World → Ending) (w : World) (memory : Mem)
+      → c.used ≡ length L → AllKept (P p) L (length L) M more ns → Keeps (P p) L w memory
       → (length (L ++ M) ≤ CELLS
       → Ends p (L ++ M) (entered c first base refines body ops ns) (record w { store = w.store ++ more })
       (finish (go (record w { store = w.store ++ more })) k l))
-      → After p (after_stage (enters c first base refines body ops ns cells) (free c) (scene_of w cells)) (finish (with_room more go w) k l)
-  enter_ends few L M more ns c first base refines body ops go k l w cells used kept h e =
+      → After p (after_stage (enters c first base refines body ops ns memory) (free c) (scene_of w memory)) (finish (with_room more go w) k l)
+  enter_ends few L M more ns c first base refines body ops go k l w memory used kept h e =
       let lengths = kept_lengths (P p) L M (length L) more ns kept in
       let same : c.used + length ns ≡ length w.store + length more = omega (arith, used, h.command.as_many, lengths.0, lengths.1) in
       let all : length (L ++ M) ≡ c.used + length ns = omega (arith, used, lengths.1, length-append L M) in
-      let free' = free_beyond ns c.used cells (λ x le. h.command.beyond x (omega (arith, le, used))) in
+      let free' = free_beyond ns c.used memory.cells (λ x le. h.command.beyond x (omega (arith, le, used))) in
       let inner = entered c first base refines body ops ns in
-      subst (λ t. After p (after_stage (cond t (entering c first base refines body ops ns cells) Unsaid) (free c) (scene_of w cells))
+      subst (λ t. After p (after_stage (cond t (entering c first base refines body ops ns memory) Unsaid) (free c) (scene_of w memory))
       (finish (with_room more go w) k l)) (sym free')
-      (subst (λ n. After p (after_stage (entering c first base refines body ops ns cells) (free c) (scene_of w cells))
+      (subst (λ n. After p (after_stage (entering c first base refines body ops ns memory) (free c) (scene_of w memory))
       (finish (branch (cells_fit n) (branch (texts_fit (store_blocks more) (store_blocks (w.store ++ more)))
       (λ w. go (record w { store = w.store ++ more })) (Stopped TextRoom)) (Stopped CellRoom) w) k l)) same
-      (room_ends few L M more ns c inner go k l w cells used kept h (cells_fit (c.used + length ns))
+      (room_ends few L M more ns c inner go k l w memory used kept h (cells_fit (c.used + length ns))
       (λ t. let few = subst (λ n. n ≤ CELLS) (sym all) (leb-true (c.used + length ns) CELLS t) in (few, e few))))
 
   -- what comes after a body, with its cells given back
   back_after : (L more us : Uses) (n : ℕ) (f : Frame) (fs : List Frame) (c : Position) (v : Option (List Value)) (w : World)
       (k : Option (List Value) → World → Ending) → cells_at (tables.layout_of (slice_get p.bodies f.body)) ≡ map cell_for us → AreCounts more → n ≡ length L → f.used ≡ length L
       → c.used ≡ length (L ++ call_uses us) + length more
-      → Ends p L (record { pc = f.back; ops = result_ops v ++ f.ops; used = f.used; frames = fs }) (cut n w) (k v (cut n w)) → (cells : Cells)
-      → Keeps (P p) ((L ++ call_uses us) ++ more) w cells
-      → After p (stage (back_into p (result_ops v) c.used f fs cells) c (scene_of w cells)) (k v (cut n w))
-  back_after L more us n f fs c v w k kinds' counts is f_is used e cells keeps =
+      → Ends p L (record { pc = f.back; ops = result_ops v ++ f.ops; used = f.used; frames = fs }) (cut n w) (k v (cut n w)) → (memory : Mem)
+      → Keeps (P p) ((L ++ call_uses us) ++ more) w memory
+      → After p (stage (back_into p (result_ops v) c.used f fs memory) c (scene_of w memory)) (k v (cut n w))
+  back_after L more us n f fs c v w k kinds' counts is f_is used e memory keeps =
       let M = call_uses us in
       let next : Position = record { pc = f.back; ops = result_ops v ++ f.ops; used = f.used; frames = fs } in
       let all : c.used ≡ length (L ++ (M ++ more)) = omega (arith, used, length-append L M, length-append M more, length-append L (M ++ more)) in
-      let now = freed f.used c.used cells in
-      let held = subst (λ U. Keeps (P p) U w cells) (append_assoc L M more) keeps in
-      let known = framed (P p) L us more w.store cells (slice_get p.bodies f.body) f.used c.used held.command counts kinds' f_is all in
-      subst (λ t. After p (stage (cond t (Goes next now) Unknown) c (scene_of w cells)) (k v (cut n w))) (sym known)
+      let now = with_cells (freed f.used c.used memory.cells) memory in
+      let held = subst (λ U. Keeps (P p) U w memory) (append_assoc L M more) keeps in
+      let known = framed (P p) L us more w.store memory.cells (slice_get p.bodies f.body) f.used c.used held.command counts kinds' f_is all in
+      subst (λ t. After p (stage (cond t (Goes next now) Unknown) c (scene_of w memory)) (k v (cut n w))) (sym known)
       (going p (free next) (scene_of (cut n w) now) (k v (cut n w))
-      (e now (cuts (λ _. Free) (P p) L (M ++ more) w cells n f.used c.used is f_is all (λ x u s n past is kept. refl) held)))
+      (e now (cuts (λ _. Free) (P p) L (M ++ more) w memory n f.used c.used is f_is all (λ x u s n past is kept. refl) held)))
 
 -- an entry of the tables is that of a body, whose code does what the body does
 pub record IsMade (p : Program) (bodies : List Body) (q : ℕ) (e : Entry) : Type 0 where
@@ -222,20 +223,20 @@ module _ (bodies : List Body) (p : Program) where
       → Ends p L (record { pc = f.back; ops = result_ops v ++ f.ops; used = f.used; frames = fs }) w (k v w))
       → Exits p (L ++ call_uses (own_uses ks vs)) b (Some q) (f ∷ fs) (λ x v w. k v (cut n w))
   call_exits L q n b e ks vs f fs k is own body calls n_is f_is hk = record {
-    by = λ x d gives more counts v w r le c used cells keeps.
+    by = λ x d gives more counts v w r le c used memory keeps.
         let r' = subst (λ d. Result d v) (sym (delivers_is q e d is (gives_own x d gives))) r in
         let kinds' = ap (λ q. cells_at (tables.layout_of (slice_get p.bodies q))) body ∙ cells_own q e ks vs is own in
-        subst (λ m. After p (stage m c (scene_of w cells)) (k v (cut n w))) (sym (way x (result_ops v) c.used cells))
-        (back_after p L more (own_uses ks vs) n f fs c v w k kinds' counts n_is f_is used (hk v (cut n w) r' le) cells keeps);
+        subst (λ m. After p (stage m c (scene_of w memory)) (k v (cut n w))) (sym (way x (result_ops v) c.used memory))
+        (back_after p L more (own_uses ks vs) n f fs c v w k kinds' counts n_is f_is used (hk v (cut n w) r' le) memory keeps);
   }
     where
       gives_own : (x : Exit) (d : Option Shape) → LeftBy p (Some q) x d → Delivers p (Some q) d
       gives_own exits.Body d gives = gives
       gives_own exits.Around d gives = subst (λ o. Delivers p o d) (owner_own q e ks vs is own) gives
 
-      way : (x : Exit) (result : List Operand) (used : ℕ) (cells : Cells) → way_out p x result used (f ∷ fs) cells ≡ back_into p result used f fs cells
-      way exits.Body result used cells = refl
-      way exits.Around result used cells = ap (λ t. cond t (out_to p result used fs cells) (back_into p result used f fs cells)) calls
+      way : (x : Exit) (result : List Operand) (used : ℕ) (memory : Mem) → way_out p x result used (f ∷ fs) memory ≡ back_into p result used f fs memory
+      way exits.Body result used memory = refl
+      way exits.Around result used memory = ap (λ t. cond t (out_to p result used fs memory) (back_into p result used f fs memory)) calls
 
   -- a refinement is left to where it was named, and with the frames around it by the exit around
   refer_exits : (L : Uses) (q n b : ℕ) (home : Option ℕ) (e : Entry) (f : Frame) (fs : List Frame) (k : Option (List Value) → World → Ending)
@@ -246,16 +247,16 @@ module _ (bodies : List Body) (p : Program) where
   refer_exits L q n b home e f fs k l is refined owned body refines n_is f_is hk hl = record { by = by }
     where
       by : (x : Exit) (d : Option Shape) → LeftBy p (Some q) x d → (more : Uses) → AreCounts more → (v : Option (List Value)) (w : World) → Result d v → w.marks ≤ b
-          → (c : Position) → c.used ≡ length (L ++ link_uses) + length more → (cells : Cells) → Keeps (P p) ((L ++ link_uses) ++ more) w cells
-          → After p (stage (way_out p x (result_ops v) c.used (f ∷ fs) cells) c (scene_of w cells)) (from_refinement n k l x v w)
-      by exits.Body d gives more counts v w r le c used cells keeps =
+          → (c : Position) → c.used ≡ length (L ++ link_uses) + length more → (memory : Mem) → Keeps (P p) ((L ++ link_uses) ++ more) w memory
+          → After p (stage (way_out p x (result_ops v) c.used (f ∷ fs) memory) c (scene_of w memory)) (from_refinement n k l x v w)
+      by exits.Body d gives more counts v w r le c used memory keeps =
           let kinds' = ap (λ q. cells_at (tables.layout_of (slice_get p.bodies q))) body ∙ cells_refined q e is refined in
           back_after p L more [] n f fs c v w k kinds' counts n_is f_is used
-          (hk v (cut n w) (subst (λ d. Result d v) (sym (delivers_is q e d is gives)) r) le) cells keeps
-      by exits.Around d gives more counts v w r le c used cells keeps =
-          subst (λ t. After p (stage (cond t (out_to p (result_ops v) c.used fs cells) (back_into p (result_ops v) c.used f fs cells)) c (scene_of w cells))
+          (hk v (cut n w) (subst (λ d. Result d v) (sym (delivers_is q e d is gives)) r) le) memory keeps
+      by exits.Around d gives more counts v w r le c used memory keeps =
+          subst (λ t. After p (stage (cond t (out_to p (result_ops v) c.used fs memory) (back_into p (result_ops v) c.used f fs memory)) c (scene_of w memory))
           (l exits.Around v w)) (sym refines)
-          ((wider p L link_uses (tt, (tt, tt)) hl).by exits.Around d (subst (λ o. Delivers p o d) owned gives) more counts v w r le c used cells keeps)
+          ((wider p L link_uses (tt, (tt, tt)) hl).by exits.Around d (subst (λ o. Delivers p o d) owned gives) more counts v w r le c used memory keeps)
 
   -- the cells in use behind the frame below are those of the call
   pub stands_called : (L : Uses) (m : Spot) (c c' : Position) (q : ℕ) (us : Uses) → Stands p L m c → length (L ++ call_uses us) ≤ CELLS
@@ -290,13 +291,13 @@ module _ (bodies : List Body) (p : Program) where
         → e.layout ≡ layouts.Own ks us → TakeAll p ks L args → ContentCarries p q e.first con
         → (k : Option (List Value) → World → Ending) (l : Exit → Option (List Value) → World → Ending)
         → ((v : Option (List Value)) (w : World) → Result e.delivers v → w.marks ≤ b → Ends p L (at c (pc + 1) (result_ops v ++ ops)) w (k v w)) → (w : World)
-        → w.marks ≤ b → (cells : Cells) → Keeps (P p) L w cells
+        → w.marks ≤ b → (memory : Mem) → Keeps (P p) L w memory
         → After p (after_stage (enters (at c pc (pushed_passed p args ops)) e.first (c.used + 2) false q ops
-        (frame_contents (map passed_operand args) us) cells) (free (at c pc (pushed_passed p args ops))) (scene_of w cells))
+        (frame_contents (map passed_operand args) us) memory) (free (at c pc (pushed_passed p args ops))) (scene_of w memory))
         (finish (with_room (frame (all_slots args) us)
         (λ w'. called (length w.store)
         (content con (record { calls = level bodies n; turns = n; base = length w.store + 2; held = bytes_on ops (bytes_of c.frames) }) w')) w) k l)
-    call_ends n b pc q L m c ops e ks us args con calls le h is own takes body k l hk w lw cells keeps =
+    call_ends n b pc q L m c ops e ks us args con calls le h is own takes body k l hk w lw memory keeps =
         let now = at c pc (pushed_passed p args ops) in
         let N = length w.store in
         let same : c.used ≡ N = omega (arith, h.used, keeps.command.as_many) in
@@ -309,7 +310,7 @@ module _ (bodies : List Body) (p : Program) where
         let l' = λ (x : Exit) (v : Option (List Value)) (w : World). k v (cut N w) in
         let go = λ (z : ℕ) (w : World). content con (record { calls = level bodies n; turns = n; base = z + 2; held = bytes_on ops (bytes_of c.frames) }) w in
         let f : Frame = record { back = pc + 1; base = c.used + 2; used = c.used; refines = false; body = q; ops = ops } in
-        enter_ends p h.packets L M (frame (all_slots args) us) ns now e.first (c.used + 2) false q ops (λ w. called N (go N w)) k l w cells h.used kept keeps (λ room.
+        enter_ends p h.packets L M (frame (all_slots args) us) ns now e.first (c.used + 2) false q ops (λ w. called N (go N w)) k l w memory h.used kept keeps (λ room.
         let base : c.used + 2 ≡ length L + 2 = omega (arith, h.used) in
         let used : c.used + length ns ≡ length (L ++ M) = omega (arith, h.used, length-append L M, (kept_lengths (P p) L M (length L) (frame (all_slots args) us) ns kept).1) in
         let within : Within p (level bodies n) n b (L ++ M) (in_body q) inner =
@@ -324,12 +325,12 @@ module _ (bodies : List Body) (p : Program) where
         → Stands p L m c → slice_get p.bodies q ≡ Some e → IsRefinement e.layout → owner p (Some q) ≡ owner p m.body → ContentCarries p q e.first con
         → (k : Option (List Value) → World → Ending) (l : Exit → Option (List Value) → World → Ending)
         → ((v : Option (List Value)) (w : World) → Result e.delivers v → w.marks ≤ b → Ends p L (at c (pc + 1) (result_ops v ++ ops)) w (k v w))
-        → Exits p L b m.body c.frames l → (w : World) → w.marks ≤ b → (cells : Cells) → Keeps (P p) L w cells
-        → After p (after_stage (enters (at c pc ops) e.first (base_of c.frames) true q ops link_contents cells) (free (at c pc ops)) (scene_of w cells))
+        → Exits p L b m.body c.frames l → (w : World) → w.marks ≤ b → (memory : Mem) → Keeps (P p) L w memory
+        → After p (after_stage (enters (at c pc ops) e.first (base_of c.frames) true q ops link_contents memory) (free (at c pc ops)) (scene_of w memory))
         (finish (with_room link (λ w'.
         referred (length w.store)
         (content con (record { calls = level bodies n; turns = n; base = base_of c.frames; held = bytes_on ops (bytes_of c.frames) }) w')) w) k l)
-    refer_ends n b pc q L m c ops e con calls le h is refined owned body k l hk hl w lw cells keeps =
+    refer_ends n b pc q L m c ops e con calls le h is refined owned body k l hk hl w lw memory keeps =
         let now = at c pc ops in
         let N = length w.store in
         let M = link_uses in
@@ -338,7 +339,7 @@ module _ (bodies : List Body) (p : Program) where
         let go =
         λ (w : World). content con (record { calls = level bodies n; turns = n; base = base_of c.frames; held = bytes_on ops (bytes_of c.frames) }) w in
         let f : Frame = record { back = pc + 1; base = base_of c.frames; used = c.used; refines = true; body = q; ops = ops } in
-        enter_ends p h.packets L M link link_contents now e.first (base_of c.frames) true q ops (λ w. referred N (go w)) k l w cells h.used
+        enter_ends p h.packets L M link link_contents now e.first (base_of c.frames) true q ops (λ w. referred N (go w)) k l w memory h.used
         ((0, refl, refl, tt), ((0, refl, refl, tt), tt)) keeps
         (λ room.
         let used : c.used + length link_contents ≡ length (L ++ M) = omega (arith, h.used, length-append L M) in
@@ -350,29 +351,29 @@ module _ (bodies : List Body) (p : Program) where
 
     call_step : (pc q : ℕ) (L : Uses) (ks : List OperandKind) (m : Spot) (c : Position) (ops : List Operand) (e : Entry) (parameters : List OperandKind)
         (vs : List Kind) (args : List Passed) → slice_get p.lines pc ≡ Some (line_of (Call q) ks m) → slice_get p.bodies q ≡ Some e
-        → e.layout ≡ layouts.Own parameters vs → TakeAll p parameters L args → (cells : Cells)
-        → step p (at c pc (pushed_passed p args ops)) cells
-        ≡ Spends (enters (at c pc (pushed_passed p args ops)) e.first (c.used + 2) false q ops (frame_contents (map passed_operand args) vs) cells)
-    call_step pc q L ks m c ops e parameters vs args has is own takes cells =
+        → e.layout ≡ layouts.Own parameters vs → TakeAll p parameters L args → (memory : Mem)
+        → step p (at c pc (pushed_passed p args ops)) memory
+        ≡ Spends (enters (at c pc (pushed_passed p args ops)) e.first (c.used + 2) false q ops (frame_contents (map passed_operand args) vs) memory)
+    call_step pc q L ks m c ops e parameters vs args has is own takes memory =
         let now = at c pc (pushed_passed p args ops) in
-        here p pc (Call q) ks m has c (pushed_passed p args ops) cells ∙ ap (λ o. call_move now q o cells) is ∙ ap (λ x. calls_to now q e.first x cells) own
+        here p pc (Call q) ks m has c (pushed_passed p args ops) memory ∙ ap (λ o. call_move now q o memory) is ∙ ap (λ x. calls_to now q e.first x memory) own
         ∙ all_taken p L parameters (length parameters) args ops
-        (λ args ops. Spends (enters now e.first (c.used + 2) false q ops (frame_contents args vs) cells)) refl takes
+        (λ args ops. Spends (enters now e.first (c.used + 2) false q ops (frame_contents args vs) memory)) refl takes
 
     refer_step : (pc q : ℕ) (ks : List OperandKind) (m : Spot) (c : Position) (ops : List Operand) (e : Entry)
-        → slice_get p.lines pc ≡ Some (line_of (Refer q) ks m) → slice_get p.bodies q ≡ Some e → (cells : Cells)
-        → step p (at c pc ops) cells ≡ Spends (enters (at c pc ops) e.first (base_of c.frames) true q ops link_contents cells)
-    refer_step pc q ks m c ops e has is cells = here p pc (Refer q) ks m has c ops cells ∙ ap (λ o. refer_move (at c pc ops) q o cells) is
+        → slice_get p.lines pc ≡ Some (line_of (Refer q) ks m) → slice_get p.bodies q ≡ Some e → (memory : Mem)
+        → step p (at c pc ops) memory ≡ Spends (enters (at c pc ops) e.first (base_of c.frames) true q ops link_contents memory)
+    refer_step pc q ks m c ops e has is memory = here p pc (Refer q) ks m has c ops memory ∙ ap (λ o. refer_move (at c pc ops) q o memory) is
 
     -- so calls are carried, however many marks there are
     pub level_carries : (n : ℕ) → CallsCarry p (level bodies n) n
     level_carries zero = record {
       call = λ L b pc q ks m c ops e parameters vs args le h has is own takes.
           out_carries p b (at c pc (pushed_passed p args ops))
-          (λ cells. enters (at c pc (pushed_passed p args ops)) e.first (c.used + 2) false q ops (frame_contents (map passed_operand args) vs) cells)
+          (λ memory. enters (at c pc (pushed_passed p args ops)) e.first (c.used + 2) false q ops (frame_contents (map passed_operand args) vs) memory)
           (λ v. at c (pc + 1) (result_ops v ++ ops)) le (call_step pc q L ks m c ops e parameters vs args has is own takes);
       refer = λ L b pc q ks m c ops e le h has is refined owned.
-          out_carries p b (at c pc ops) (λ cells. enters (at c pc ops) e.first (base_of c.frames) true q ops link_contents cells)
+          out_carries p b (at c pc ops) (λ memory. enters (at c pc ops) e.first (base_of c.frames) true q ops link_contents memory)
           (λ v. at c (pc + 1) (result_ops v ++ ops)) le (refer_step pc q ks m c ops e has is);
     }
     level_carries (suc n) = record {
@@ -383,27 +384,27 @@ module _ (bodies : List Body) (p : Program) where
           let own' : e.layout ≡ layouts.Own parameters us = own ∙ ap (layouts.Own parameters) (sym vs_are) in
           let held = bytes_on ops (bytes_of c.frames) in
           let now = at c pc (pushed_passed p args ops) in
-          spend_carries p b now (λ cells. enters now e.first (c.used + 2) false q ops (frame_contents (map passed_operand args) us) cells)
+          spend_carries p b now (λ memory. enters now e.first (c.used + 2) false q ops (frame_contents (map passed_operand args) us) memory)
           (run_called (level bodies n) n (slice_get bodies q) (all_slots args) held) (λ v. at c (pc + 1) (result_ops v ++ ops))
           (call_step pc q L ks m c ops e parameters us args has is own' takes) (λ b' lt. record {
-            by = λ k l hk hl w lw cells keeps.
-                subst (λ o. After p (after_stage (enters now e.first (c.used + 2) false q ops (frame_contents (map passed_operand args) us) cells)
+            by = λ k l hk hl w lw memory keeps.
+                subst (λ o. After p (after_stage (enters now e.first (c.used + 2) false q ops (frame_contents (map passed_operand args) us) memory)
                 (free now)
-                (scene_of w cells)) (finish (run_called (level bodies n) n o (all_slots args) held w) k l)) (sym x.is)
+                (scene_of w memory)) (finish (run_called (level bodies n) n o (all_slots args) held w) k l)) (sym x.is)
                 (call_ends n b' pc q L m c ops e parameters us args x.body.content (level_carries n) (omega (arith, le, lt)) h is own' takes x.carry k l hk w lw
-                cells keeps);
+                memory keeps);
           });
       refer = λ L b pc q ks m c ops e le h has is refined owned.
           let x = made q e is in
           let held = bytes_on ops (bytes_of c.frames) in
           let now = at c pc ops in
-          spend_carries p b now (λ cells. enters now e.first (base_of c.frames) true q ops link_contents cells)
+          spend_carries p b now (λ memory. enters now e.first (base_of c.frames) true q ops link_contents memory)
           (run_referred (level bodies n) n (slice_get bodies q) (base_of c.frames) held) (λ v. at c (pc + 1) (result_ops v ++ ops))
           (refer_step pc q ks m c ops e has is) (λ b' lt. record {
-            by = λ k l hk hl w lw cells keeps.
-                subst (λ o. After p (after_stage (enters now e.first (base_of c.frames) true q ops link_contents cells) (free now) (scene_of w cells))
+            by = λ k l hk hl w lw memory keeps.
+                subst (λ o. After p (after_stage (enters now e.first (base_of c.frames) true q ops link_contents memory) (free now) (scene_of w memory))
                 (finish (run_referred (level bodies n) n o (base_of c.frames) held w) k l)) (sym x.is)
-                (refer_ends n b' pc q L m c ops e x.body.content (level_carries n) (omega (arith, le, lt)) h is refined owned x.carry k l hk hl w lw cells
+                (refer_ends n b' pc q L m c ops e x.body.content (level_carries n) (omega (arith, le, lt)) h is refined owned x.carry k l hk hl w lw memory
                 keeps);
           });
     }

@@ -12,7 +12,8 @@ use Rattle.eu_base.specs.declared.address.Area.{Area}
 use Rattle.eu_base.specs.Cells.{Free, Cells, held_of, area_cell}
 use Rattle.eu_base.proofs.Results.{fits_in_range}
 use Rattle.code_form.specs.Program.{Program}
-use Rattle.code_form.specs.Machine.{Control, Rest, start}
+use Rattle.code_form.specs.Machine.{Mem, Control, Rest, start}
+use Rattle.eu_base.specs.DataSpaces.{Spaces}
 use Rattle.code_form.specs.Runs.{Rests, Stands}
 use Rattle.elan_types.specs.declared.core_phrase.Core.{Core}
 use Rattle.elan_types.specs.Eval.{Slot, Holds}
@@ -25,6 +26,7 @@ blank_is kinds.Int = fits_in_range _ refl
 blank_is kinds.Truth = tt
 blank_is kinds.Text = omega arith
 blank_is kinds.Task = omega arith
+blank_is kinds.Space = omega arith
 
 blank_each : (us : List Kind) (x : ℕ) (k : Kind) → slice_get us x ≡ Some k
     → (v : Value) × (slice_get (blanks us) x ≡ Some (Holds v)) × IsOf k v
@@ -54,13 +56,13 @@ has_blank area kinds cells blank beyond =
 
 -- where a command comes to rest that was run in pieces, it shows what evaluation gives with the marks that were spent and those that
 -- it has from there, and with the replies that were given
-pub plays : (core : Core) (p : Program) (packets : List Slot) (cells now : Cells) (spent left : ℕ) (replies : List Reply) (c : Control) (last : Rest)
-    → Behaves core p → HasAll p (at_start core packets (spent + left) replies) cells → Stands p (start p) cells spent replies c now
-    → Rests p c (record { cells = now; marks = left; replies = [] }) last → Shows p (evaluate core packets (spent + left) replies) last
-plays core p packets cells now spent left replies c last b has k h =
+pub plays : (core : Core) (p : Program) (packets : List Slot) (spaces : Spaces) (was now : Mem) (spent left : ℕ) (replies : List Reply) (c : Control) (last : Rest)
+    → Behaves core p → HasAll p (at_start core packets spaces (spent + left) replies) was → Stands p (start p) was spent replies c now
+    → Rests p c (record { mem = now; marks = left; replies = [] }) last → Shows p (evaluate core packets spaces (spent + left) replies) last
+plays core p packets spaces was now spent left replies c last b has k h =
     let r = k.goes left [] last h in
-    let r' = subst (λ rs. Rests p (start p) (record { cells = cells; marks = spent + left; replies = rs }) last) (append-[] replies) r in
-    b.only (at_start core packets (spent + left) replies) cells r'.0 last has r'.1
+    let r' = subst (λ rs. Rests p (start p) (record { mem = was; marks = spent + left; replies = rs }) last) (append-[] replies) r in
+    b.only (at_start core packets spaces (spent + left) replies) was r'.0 last has r'.1
   where
     append-[] : (l : List Reply) → l ++ [] ≡ l
     append-[] [] = refl

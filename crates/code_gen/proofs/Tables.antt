@@ -1,14 +1,14 @@
 -- The tables of a whole program agree.
 use Rattle.std.proofs.Common.{◌≡◌, ℕ, zero, suc, ◌+◌, List, [], ◌∷◌, map, length, Some, None, refl, sym, ap, ◌∙◌, subst, arith, length-append}
 use Rattle.std.specs.Prelude.{slice_get, Option}
-use Rattle.code_form.specs.declared.instr.Instr.TheVariants.{Call, End}
+use Rattle.code_form.specs.declared.instr.Instr.TheVariants.{End}
 use Rattle.code_form.specs.declared.code.Start.{Start}
 use Rattle.code_form.specs.declared.code.Line.{Line}
 use Rattle.code_form.specs.declared.code.Entry.{Entry}
 use Rattle.code_form.specs.declared.code.Layout.{Layout}
 use Rattle.code_form.specs.declared.code.Layout.TheVariants as layouts
-use Rattle.code_form.specs.Program.{Program, line_of, spot_at, at_level, in_body}
-use Rattle.code_form.specs.Valid.{Next, IsFine, IsCalled, IsOwned, IsStarted, StartsSo, IsValid}
+use Rattle.code_form.specs.Program.{Program, spot_at, at_level, in_body}
+use Rattle.code_form.specs.Valid.{Next, IsFine, IsCalled, IsOwned, StartsSo, IsValid}
 use Rattle.elan_types.specs.declared.core_phrase.Scope.{Scope}
 use Rattle.elan_types.specs.declared.core_phrase.Scope.TheVariants as scopes
 use Rattle.elan_types.specs.declared.core_phrase.Body.{Body}

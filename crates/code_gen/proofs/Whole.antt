@@ -8,22 +8,25 @@ use Rattle.eu_base.specs.declared.address.TheConstants.{CELLS}
 use Rattle.eu_base.specs.declared.stop.Stop.TheVariants.{CellRoom}
 use Rattle.eu_base.specs.declared.value.Kind.{Kind}
 use Rattle.eu_base.specs.declared.value.Kind.TheVariants as kinds
-use Rattle.eu_base.specs.declared.value.Value.TheVariants.{Int, Truth, Text, Task}
+use Rattle.eu_base.specs.declared.value.Value.TheVariants.{Int, Truth, Text, Task, Space}
 use Rattle.eu_base.specs.Values.{IsOf}
 use Rattle.eu_base.specs.declared.shape.Shape.{Shape}
 use Rattle.eu_base.specs.declared.value.Value.{Value}
 use Rattle.eu_base.specs.Room.{cells_fit}
 use Rattle.eu_base.specs.declared.address.Area.{Area}
 use Rattle.eu_base.specs.declared.address.Area.TheVariants.{Run, Packets}
+use Rattle.eu_base.specs.declared.address.Area.TheVariants as areas
+use Rattle.eu_base.specs.DataSpaces.{Spaces, heads_of}
+use Rattle.eu_base.specs.SpacePlaces.{kinds_of, values_of}
+use Rattle.std.proofs.lemmas.Bool.Decides.{nat_tests}
 use Rattle.eu_base.specs.Cells.{Cell, Free, Word, Letters, Cells, held_of, area_cell, run_cell}
 use Rattle.code_form.specs.declared.halt.Halt.TheVariants as halts
 use Rattle.code_form.specs.declared.waits.Waits.TheVariants.{Nothing, Refused}
 use Rattle.code_form.specs.declared.instr.Instr.TheVariants.{End}
 use Rattle.code_form.specs.declared.code.Entry.{Entry}
-use Rattle.code_form.specs.declared.code.Start.{Start}
 use Rattle.code_form.specs.Program as tables
 use Rattle.code_form.specs.Program.{Program, kinds_at, start_kinds, at_level, in_body}
-use Rattle.code_form.specs.Machine.{Frame, Position, free, at, start_frames, start}
+use Rattle.code_form.specs.Machine.{Mem, Frame, Position, free, at, start_frames, start}
 use Rattle.code_form.proofs.Resume.{one_rest}
 use Rattle.elan_types.specs.declared.core_phrase.Body.{Body}
 use Rattle.elan_types.specs.declared.core_phrase.Core.{Core}
@@ -31,19 +34,19 @@ use Rattle.elan_types.specs.declared.core_phrase.Exit.{Exit}
 use Rattle.elan_types.specs.declared.core_phrase.Exit.TheVariants as exits
 use Rattle.elan_types.specs.declared.core_phrase.Scope.TheVariants as scopes
 use Rattle.elan_types.specs.declared.core_phrase.Content.TheVariants.{Units}
-use Rattle.elan_types.specs.Typing.{outside_of, all_packet_kinds, result_of_content, IsStart, StartsSo, IsWellTyped}
+use Rattle.elan_types.specs.Typing.{outside_of, result_of_content, IsStart, StartsSo, IsWellTyped}
 use Rattle.elan_types.specs.Eval.{Slot, Holds, Taken, slot_at, World, Outcome, Gives, Left, Stopped, OutOfMarks, Asks, bind, branch, slot_blocks, cut, called, content, all, act, level}
 use Rattle.elan_types.specs.Command as endings
 use Rattle.elan_types.specs.Command.{Ending, ending, from_level, first_kinds, run_started, run_from, evaluate_from}
 use Rattle.place_gen.specs.Stretch.{Stretch, keeps, all_code, action_code, content_code}
-use Rattle.place_gen.specs.Correct.{StandsFor, HasVariables, HasSlots, HasAll, Shows, Comes, scene_of}
+use Rattle.place_gen.specs.Correct.{StandsFor, HasVariables, HasSpaces, HasAll, Shows, Comes, scene_of}
 use Rattle.place_gen.proofs.Lines.{HasAt, has_front, has_rest}
 use Rattle.place_gen.proofs.Homes.{Delivers, LeftBy}
-use Rattle.place_gen.proofs.Cells.{Use, OfValue, OfNothing, Uses, Kept, KeepsIn, Keeps}
+use Rattle.place_gen.proofs.Cells.{Use, OfValue, OfNothing, Uses, Kept, KeepsIn, KeepsSpaces, fit_at, Keeps}
 use Rattle.place_gen.proofs.Carry.{P, finish, Result, result_ops, Ends, Exits, Stands, Within, end_ends, here}
 use Rattle.place_gen.proofs.Forms.{IsAction}
 use Rattle.place_gen.proofs.Tree.{all_are}
-use Rattle.code_gen.specs.Program.{level_code, call_code, started_lines, started_at, size_from, lines_from, start_from, entry_of, program_of}
+use Rattle.code_gen.specs.Program.{call_code, started_lines, started_at, size_from, lines_from, start_from, entry_of, program_of}
 use Rattle.code_gen.specs.Correct.{Behaves}
 use Rattle.code_gen.proofs.Tables.{agrees, entry_at, entry_from, has_first, has_bodies}
 use Rattle.code_gen.proofs.Entered.{call_uses}
@@ -83,6 +86,17 @@ kept_slots area P kinds slots cells h room = record {
         subst (λ u. Kept P (level_uses kinds) x u (slot_at slots x) (cells (area_cell area x))) (some_is (OfValue k) u e)
         (v.0, slot, v.2, h.image (subst (λ n. cells_fit n ≡ true) (sym h.as_many) room) x (Holds v.0) v.1)
 
+-- and so it is with the data spaces
+kept_spaces : (P : List Kind) (spaces : Spaces) (m : Mem) → HasSpaces spaces m → KeepsSpaces P spaces m
+kept_spaces P spaces m h = record {
+  heads = h.heads;
+  sound = h.sound;
+  given = h.given;
+  each = λ s.
+      let fit = fit_at s (heads_of spaces) h.given in
+      kept_slots (areas.Space s) P (kinds_of s (heads_of spaces)) (map Holds (values_of s spaces)) m.cells (h.each s) (grind (arith, nat_tests, fit));
+}
+
 -- a PROC in whose call the command starts ends it, however it is left
 finish_started : (o : Outcome (Option (List Value)))
     → finish o (λ v w. endings.Ended (cut 0 w)) (λ x v w. endings.Ended (cut 0 w)) ≡ ending (bind (called 0 o) (λ _. Gives (tt {0})))
@@ -106,6 +120,7 @@ counts P L at s n g = by g.0 g.1 g.2 g.3
     by (Truth b) e f h = absurd f
     by (Text t) e f h = absurd f
     by (Task n) e f h = absurd f
+    by (Space s) e f h = absurd f
 
 -- what holds a value does so whatever other cells are for
 value_kept : (P : List Kind) (L M : Uses) (at : ℕ) (k : Option Kind) (u : Use) (s : Slot) (n : Cell) → option_map OfValue k ≡ Some u → Kept P L at u s n → Kept P M at u s n
@@ -169,8 +184,9 @@ module _ (core : Core) (typed : IsWellTyped core) where
   abbrev HasFirst : Option ℕ → Type 0
   HasFirst o = HasAt p.lines 0 (lines_from o core)
 
-  abbrev Has : Option ℕ → World → Cells → Type 0
-  Has o w cells = HasVariables Run (kinds_at p (start_from o core)) w.store cells × HasVariables Packets (P p) w.packets cells
+  abbrev Has : Option ℕ → World → Mem → Type 0
+  Has o w memory =
+      HasVariables Run (kinds_at p (start_from o core)) w.store memory.cells × HasVariables Packets (P p) w.packets memory.cells × HasSpaces w.spaces memory
 
   -- ---- the units of a level
 
@@ -190,20 +206,20 @@ module _ (core : Core) (typed : IsWellTyped core) where
     frame = λ x k e. let f : ⊥ = cc in absurd f;
   }
 
-  runs_level : HasFirst None → (w : World) (cells : Cells) → length p.variables ≤ CELLS → length (P p) ≤ CELLS → Keeps (P p) (level_uses p.variables) w cells
-      → Comes p (free (top None)) (scene_of w cells) (ending (all (map act core.units) (from_level core w.marks) w))
-  runs_level has w cells room few keeps =
+  runs_level : HasFirst None → (w : World) (memory : Mem) → length p.variables ≤ CELLS → length (P p) ≤ CELLS → Keeps (P p) (level_uses p.variables) w memory
+      → Comes p (free (top None)) (scene_of w memory) (ending (all (map act core.units) (from_level core w.marks) w))
+  runs_level has w memory room few keeps =
       let l = λ (e : Exit) (v : Option (List Value)) (w : World). endings.Ended w in
       let q = 0 + units.size in
       let within : Within p (level core.bodies w.marks) w.marks w.marks (level_uses p.variables) at_level (top None) =
       record { turns = omega arith; stands = stands room few; carry = level_carries core.bodies p made w.marks } in
       let h = has_rest p.lines 0 units.size (units.lines [] at_level 0) _ (level_is.sized [] at_level 0) has in
-      subst (Comes p (free (top None)) (scene_of w cells)) (finish_ending (all (map act core.units) (from_level core w.marks) w))
+      subst (Comes p (free (top None)) (scene_of w memory)) (finish_ending (all (map act core.units) (from_level core w.marks) w))
       ((level_is.goes (level core.bodies w.marks) w.marks w.marks 0 (level_uses p.variables) [] at_level (top None) [] refl within
       (has_front p.lines 0 (units.lines [] at_level 0) _ has)).by
       (λ _ w. endings.Ended w) l
-      (λ _ w' _ le. end_ends p (level_uses p.variables) (at (top None) q []) w' (λ cells. here p q End (units.leaves []) at_level h.0 (top None) [] cells))
-      (no_exits w.marks l) w (omega arith) cells keeps)
+      (λ _ w' _ le. end_ends p (level_uses p.variables) (at (top None) q []) w' (λ memory. here p q End (units.leaves []) at_level h.0 (top None) [] memory))
+      (no_exits w.marks l) w (omega arith) memory keeps)
 
   -- ---- a start procedure
 
@@ -260,11 +276,11 @@ module _ (core : Core) (typed : IsWellTyped core) where
         let h =
         subst (λ n. HasAt p.lines n ((call_code q).lines [] at_level f.size)) n
         (has_rest p.lines 0 f.size (f.lines [] (in_body q) 0) _ (sized q b is.body (in_body q) 0) has) in
-        end_ends p [] (at outer (f.size + 1) []) w (λ cells. here p (f.size + 1) End [] at_level h.1.0 outer [] cells)
+        end_ends p [] (at outer (f.size + 1) []) w (λ memory. here p (f.size + 1) End [] at_level h.1.0 outer [] memory)
 
-    runs_call : HasAt p.lines 0 (started_lines q (Some b)) → (w : World) (cells : Cells) → length call_cells ≤ CELLS → length (P p) ≤ CELLS → Keeps (P p) uses w cells
-        → Comes p (free inner) (scene_of w cells) (ending (run_started core w.marks (Some b) w))
-    runs_call has w cells room few keeps =
+    runs_call : HasAt p.lines 0 (started_lines q (Some b)) → (w : World) (memory : Mem) → length call_cells ≤ CELLS → length (P p) ≤ CELLS → Keeps (P p) uses w memory
+        → Comes p (free inner) (scene_of w memory) (ending (run_started core w.marks (Some b) w))
+    runs_call has w memory room few keeps =
         let n = w.marks in
         let k = λ (v : Option (List Value)) (w : World). endings.Ended w in
         let l = λ (x : Exit) (v : Option (List Value)) (w : World). endings.Ended (cut 0 w) in
@@ -277,9 +293,9 @@ module _ (core : Core) (typed : IsWellTyped core) where
         let exits' =
         call_exits core.bodies p [] q 0 n entry.0 [] is.variables frame [] k entry.1 (ap (λ (e : Entry). e.layout) entry.2) refl refl refl refl
         (λ v w r le. returns has n v w (subst (λ d. Result d v) (ap (λ (e : Entry). e.delivers) entry.2) r) le) in
-        subst (Comes p (free inner) (scene_of w cells))
+        subst (Comes p (free inner) (scene_of w memory))
         (finish_started (content b.content (record { calls = level core.bodies n; turns = n; base = 2; held = 0 }) w))
-        (carry.ends (level core.bodies n) n n uses inner within l exits' w (omega arith) cells keeps)
+        (carry.ends (level core.bodies n) n n uses inner within l exits' w (omega arith) memory keeps)
 
     abbrev vs : List Kind
     vs = is.variables
@@ -290,23 +306,24 @@ module _ (core : Core) (typed : IsWellTyped core) where
 
     abbrev RunsFrom : Option Body → Type 0
     RunsFrom o =
-        HasAt p.lines 0 (started_lines q o) → (w : World) (cells : Cells) → HasVariables Run (kinds_at p (started_at q o)) w.store cells
-        → HasVariables Packets (P p) w.packets cells → cells_fit (length (kinds_at p (started_at q o))) ≡ true → cells_fit (length (P p)) ≡ true
-        → Comes p (free (record { pc = 0; ops = []; used = length (kinds_at p (started_at q o)); frames = start_frames (started_at q o) })) (scene_of w cells)
+        HasAt p.lines 0 (started_lines q o) → (w : World) (memory : Mem) → HasVariables Run (kinds_at p (started_at q o)) w.store memory.cells
+        → HasVariables Packets (P p) w.packets memory.cells → HasSpaces w.spaces memory → cells_fit (length (kinds_at p (started_at q o))) ≡ true → cells_fit (length (P p)) ≡ true
+        → Comes p (free (record { pc = 0; ops = []; used = length (kinds_at p (started_at q o)); frames = start_frames (started_at q o) })) (scene_of w memory)
         (ending (run_started core w.marks o w))
 
     runs_some : RunsFrom (Some b)
-    runs_some has w cells h g e f =
+    runs_some has w memory h g spaces e f =
         by (kinds_at p (started_at q (Some b))) (sym kinds_are) h e
       where
-        by : (ks : List Kind) → call_cells ≡ ks → HasVariables Run ks w.store cells → cells_fit (length ks) ≡ true
-            → Comes p (free (record { pc = 0; ops = []; used = length ks; frames = frame ∷ [] })) (scene_of w cells) (ending (run_started core w.marks (Some b) w))
+        by : (ks : List Kind) → call_cells ≡ ks → HasVariables Run ks w.store memory.cells → cells_fit (length ks) ≡ true
+            → Comes p (free (record { pc = 0; ops = []; used = length ks; frames = frame ∷ [] })) (scene_of w memory) (ending (run_started core w.marks (Some b) w))
         by ks is =
-            subst (λ ks. HasVariables Run ks w.store cells → cells_fit (length ks) ≡ true
-            → Comes p (free (record { pc = 0; ops = []; used = length ks; frames = frame ∷ [] })) (scene_of w cells) (ending (run_started core w.marks (Some b) w))) is
-            (λ h e. runs_call has w cells (leb-true (length call_cells) CELLS e) (leb-true (length (P p)) CELLS f) (record {
-              command = call_kept (P p) vs w.store cells h e;
-              packets = kept_slots Packets (P p) (P p) w.packets cells g f;
+            subst (λ ks. HasVariables Run ks w.store memory.cells → cells_fit (length ks) ≡ true
+            → Comes p (free (record { pc = 0; ops = []; used = length ks; frames = frame ∷ [] })) (scene_of w memory) (ending (run_started core w.marks (Some b) w))) is
+            (λ h e. runs_call has w memory (leb-true (length call_cells) CELLS e) (leb-true (length (P p)) CELLS f) (record {
+              command = call_kept (P p) vs w.store memory.cells h e;
+              packets = kept_slots Packets (P p) (P p) w.packets memory.cells g f;
+              spaces = kept_spaces (P p) w.spaces memory spaces;
             }))
 
     runs_started : RunsFrom (slice_get core.bodies q)
@@ -318,32 +335,33 @@ module _ (core : Core) (typed : IsWellTyped core) where
 
   -- ---- the command
 
-  runs : (o : Option ℕ) → StartsSo core o → HasFirst o → (w : World) (cells : Cells) → Has o w cells → cells_fit (length (kinds_at p (start_from o core))) ≡ true
-      → cells_fit (length (P p)) ≡ true → Comes p (free (top o)) (scene_of w cells) (ending (run_from o core w.marks w))
-  runs None so has w cells h e f =
-      runs_level has w cells (leb-true (length p.variables) CELLS e) (leb-true (length (P p)) CELLS f) (record {
-        command = kept_slots Run (P p) p.variables w.store cells h.0 e;
-        packets = kept_slots Packets (P p) (P p) w.packets cells h.1 f;
+  runs : (o : Option ℕ) → StartsSo core o → HasFirst o → (w : World) (memory : Mem) → Has o w memory → cells_fit (length (kinds_at p (start_from o core))) ≡ true
+      → cells_fit (length (P p)) ≡ true → Comes p (free (top o)) (scene_of w memory) (ending (run_from o core w.marks w))
+  runs None so has w memory h e f =
+      runs_level has w memory (leb-true (length p.variables) CELLS e) (leb-true (length (P p)) CELLS f) (record {
+        command = kept_slots Run (P p) p.variables w.store memory.cells h.0 e;
+        packets = kept_slots Packets (P p) (P p) w.packets memory.cells h.1 f;
+        spaces = kept_spaces (P p) w.spaces memory h.2;
       })
-  runs (Some q) so has w cells h e f = runs_started q so has w cells h.0 h.1 e f
+  runs (Some q) so has w memory h e f = runs_started q so has w memory h.0 h.1 h.2 e f
 
   -- where some cells have no room
-  refused_start : (o : Option ℕ) (w : World) (cells : Cells) → Has o w cells
-      → Comes p (record { position = top o; waits = Refused CellRoom }) (scene_of w cells) (endings.Stopped CellRoom w)
-  refused_start o w cells h = record {
+  refused_start : (o : Option ℕ) (w : World) (memory : Mem) → Has o w memory
+      → Comes p (record { position = top o; waits = Refused CellRoom }) (scene_of w memory) (endings.Stopped CellRoom w)
+  refused_start o w memory h = record {
     steps = 1;
-    rest = record { how = halts.Stopped CellRoom; control = record { position = top o; waits = Refused CellRoom }; scene = scene_of w cells };
+    rest = record { how = halts.Stopped CellRoom; control = record { position = top o; waits = Refused CellRoom }; scene = scene_of w memory };
     comes = refl;
-    shows = record { how = refl; marks = refl; replies = refl; command = h.0.image; packets = h.1 };
+    shows = record { how = refl; marks = refl; replies = refl; command = h.0.image; packets = h.1; spaces = h.2 };
   }
 
-  by_room : (o : Option ℕ) → StartsSo core o → HasFirst o → (w : World) (cells : Cells) → Has o w cells → (s t : Bool)
+  by_room : (o : Option ℕ) → StartsSo core o → HasFirst o → (w : World) (memory : Mem) → Has o w memory → (s t : Bool)
       → cells_fit (length (kinds_at p (start_from o core))) ≡ s → cells_fit (length (P p)) ≡ t
-      → Comes p (record { position = top o; waits = cond (s && t) Nothing (Refused CellRoom) }) (scene_of w cells)
+      → Comes p (record { position = top o; waits = cond (s && t) Nothing (Refused CellRoom) }) (scene_of w memory)
       (ending (branch (s && t) (run_from o core w.marks) (Stopped CellRoom) w))
-  by_room o so has w cells h true true e f = runs o so has w cells h e f
-  by_room o so has w cells h true false e f = refused_start o w cells h
-  by_room o so has w cells h false t e f = refused_start o w cells h
+  by_room o so has w memory h true true e f = runs o so has w memory h e f
+  by_room o so has w memory h true false e f = refused_start o w memory h
+  by_room o so has w memory h false t e f = refused_start o w memory h
 
   first_is : (o : Option ℕ) → StartsSo core o → kinds_at p (start_from o core) ≡ first_kinds o core
   first_is None so = refl
@@ -352,12 +370,12 @@ module _ (core : Core) (typed : IsWellTyped core) where
   pub first : start_kinds p ≡ endings.start_kinds core
   first = first_is core.start typed.starts
 
-  pub ends : (w : World) (cells : Cells) → HasAll p w cells → Comes p (start p) (scene_of w cells) (evaluate_from core w)
-  ends w cells h =
+  pub ends : (w : World) (memory : Mem) → HasAll p w memory → Comes p (start p) (scene_of w memory) (evaluate_from core w)
+  ends w memory h =
       let fits = cells_fit (length (P p)) in
-      subst (λ (ks : List Kind). Comes p (start p) (scene_of w cells)
+      subst (λ (ks : List Kind). Comes p (start p) (scene_of w memory)
       (ending (branch (cells_fit (length ks) && fits) (run_from core.start core w.marks) (Stopped CellRoom) w))) first
-      (by_room core.start typed.starts (has_first core typed) w cells (h.command, h.packets) (cells_fit (length (start_kinds p))) fits refl refl)
+      (by_room core.start typed.starts (has_first core typed) w memory (h.command, h.packets, h.spaces) (cells_fit (length (start_kinds p))) fits refl refl)
 
   pub behaves : Behaves core p
   behaves = record {
@@ -365,7 +383,7 @@ module _ (core : Core) (typed : IsWellTyped core) where
     inserted = refl;
     first = first;
     ends = ends;
-    only = λ w cells n r h e.
-        let a = ends w cells h in
-        subst (Shows p (evaluate_from core w)) (one_rest p (start p) (scene_of w cells) a.rest r (a.steps, a.comes) (n, e)) a.shows;
+    only = λ w memory n r h e.
+        let a = ends w memory h in
+        subst (Shows p (evaluate_from core w)) (one_rest p (start p) (scene_of w memory) a.rest r (a.steps, a.comes) (n, e)) a.shows;
   }

@@ -9,6 +9,7 @@ use Rattle.eu_base.specs.declared.shape.Shape.{Shape}
 use Rattle.eu_base.specs.Values.{same_kind}
 use Rattle.eu_base.specs.Shapes.{cell_kinds, joined}
 use Rattle.eu_base.specs.Operations.{operand_kinds, change_kind}
+use Rattle.eu_base.specs.SpaceOperations.{space_operand_kinds}
 use Rattle.elan_types.specs.declared.core_phrase.Access.TheVariants.{Const, Var}
 use Rattle.elan_types.specs.declared.core_phrase.Exit.{Exit}
 use Rattle.elan_types.specs.declared.core_phrase.Exit.TheVariants as exits
@@ -300,6 +301,7 @@ module _ (few many : Outside) (packets : Before few.packets many.packets) (varia
   place_here (t.Parameter x) = by_more (λ l. place_held (slice_get l x)) (held_more x) _ frame_before
   place_here (t.Item p a items) = if_before _ (has_holds _ a.1) (by_more (item_kinds items.count items.cells) (items_more items.count items.cells) _ p.1)
   place_here (t.Field p before) = by_more (drop before) (drop_more before) _ p.1
+  place_here (t.Content p s) = if_before _ (both_hold (starts_hold (kinds.Space ∷ []) _ p.1) (λ e. e)) ([], sym (append-nil (cell_kinds s)))
 
   value_here : (y : Below ValuePhrase-F)
       → Stays (value_layer few bodies home (map-ValuePhrase _ _ _ _ _ _ _ _ _ _ _ _ fst fst fst fst fst fst y))
@@ -319,6 +321,7 @@ module _ (few many : Outside) (packets : Before few.packets many.packets) (varia
   value_here (t.Pick a i items s) = only_if_stays (both_hold (has_holds _ a.1) (both_hold (has_holds _ i.1) (λ e. e))) (λ x e. e)
   value_here (t.Take a part s) = only_if_stays (test_holds (has_part part (cell_kinds s)) a.1 refl) (λ x e. e)
   value_here (t.ValuePhrase::Ask name as') = only_if_stays (take_hold _ _ (request_formals name) as') (λ x e. e)
+  value_here (t.Consult op as') = only_if_stays (have_hold _ _ (space_operand_kinds op) as') (λ x e. e)
 
   actual_here : (y : Below Actual-F)
       → Stays (actual_layer few bodies home (map-Actual _ _ _ _ _ _ _ _ _ _ _ _ fst fst fst fst fst fst y))
@@ -363,6 +366,9 @@ module _ (few many : Outside) (packets : Before few.packets many.packets) (varia
   action_here (t.Action::Refer p) = refer_holds p is_none
   action_here (t.Leave x) = test_holds leaves_without (left_stays x) refl
   action_here (t.LeaveWith x s a) = both_hold (has_holds _ a.1) (test_holds (leaves_with s) (left_stays x) refl)
+  action_here (t.Perform op as') = both_hold (have_hold _ _ (space_operand_kinds op) as') (λ e. e)
+  action_here (t.Copy p a) = both_hold (starts_hold (kinds.Space ∷ []) _ p.1) (has_holds _ a.1)
+  action_here (t.Bind p s a) = both_hold (starts_hold (kinds.Space ∷ []) _ p.1) (has_holds _ a.1)
 
   action_stays : (a : Action) → Q a
   action_stays = ind-Action Q N W P R S

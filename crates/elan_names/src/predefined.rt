@@ -386,7 +386,7 @@ fn operands(operation: Operation) -> &'static [Operand]
     ensures { map seen.operand result.now ≡ values_of (operand_kinds operation) }
 {
     match operation {
-        Operation::Largest | Operation::NoTask => &[],
+        Operation::Largest | Operation::NoTask | Operation::NilSpace => &[],
         Operation::Plus | Operation::Negate | Operation::Absolute => &[INT],
         Operation::Not => &[BOOL],
         Operation::Same | Operation::Different | Operation::And | Operation::Or => &[BOOL, BOOL],

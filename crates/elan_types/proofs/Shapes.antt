@@ -38,24 +38,34 @@ kind_is kinds.Int kinds.Int e = refl
 kind_is kinds.Int kinds.Truth e = absurd cc
 kind_is kinds.Int kinds.Text e = absurd cc
 kind_is kinds.Int kinds.Task e = absurd cc
+kind_is kinds.Int kinds.Space e = absurd cc
 kind_is kinds.Truth kinds.Int e = absurd cc
 kind_is kinds.Truth kinds.Truth e = refl
 kind_is kinds.Truth kinds.Text e = absurd cc
 kind_is kinds.Truth kinds.Task e = absurd cc
+kind_is kinds.Truth kinds.Space e = absurd cc
 kind_is kinds.Text kinds.Int e = absurd cc
 kind_is kinds.Text kinds.Truth e = absurd cc
 kind_is kinds.Text kinds.Text e = refl
 kind_is kinds.Text kinds.Task e = absurd cc
+kind_is kinds.Text kinds.Space e = absurd cc
 kind_is kinds.Task kinds.Int e = absurd cc
 kind_is kinds.Task kinds.Truth e = absurd cc
 kind_is kinds.Task kinds.Text e = absurd cc
 kind_is kinds.Task kinds.Task e = refl
+kind_is kinds.Task kinds.Space e = absurd cc
+kind_is kinds.Space kinds.Int e = absurd cc
+kind_is kinds.Space kinds.Truth e = absurd cc
+kind_is kinds.Space kinds.Text e = absurd cc
+kind_is kinds.Space kinds.Task e = absurd cc
+kind_is kinds.Space kinds.Space e = refl
 
 pub same_kind_self : (k : Kind) → same_kind k k ≡ true
 same_kind_self kinds.Int = refl
 same_kind_self kinds.Truth = refl
 same_kind_self kinds.Text = refl
 same_kind_self kinds.Task = refl
+same_kind_self kinds.Space = refl
 
 -- ---- a shape is the same as itself
 

@@ -7,7 +7,7 @@ use Rattle.eu_base.specs.declared.value.Kind.{Kind}
 use Rattle.eu_base.specs.declared.value.Kind.TheVariants as kinds
 use Rattle.elan_types.specs.declared.elan_type.ElanType.{ElanType, out-ElanType, roll-ElanType}
 use Rattle.elan_types.specs.declared.elan_type.ElanType.TheVariants as types
-use Rattle.elan_types.specs.declared.elan_type.ElanType.TheOpen.{ElanType-F, FieldType-F, Int, Bool as Truths, Text, Task, Row, Struct, Own, Open}
+use Rattle.elan_types.specs.declared.elan_type.ElanType.TheOpen.{ElanType-F, FieldType-F, Int, Bool as Truths, Text, Task, Dataspace, Row, Struct, Own, Open}
 use Rattle.elan_types.specs.declared.elan_type.ElanType.TheViews.{out-roll-ElanType, roll-out-ElanType}
 use Rattle.elan_types.specs.declared.elan_type.ElanType.TheFolds.{ind-ElanType, map-ElanType, map-FieldType, fold-roll-ElanType, fold-roll-FieldType}
 use Rattle.elan_types.specs.declared.elan_type.FieldType.{FieldType, roll-FieldType}
@@ -28,6 +28,7 @@ type_shape kinds.Int = ap shape_in (sym types.rolls-Int) ∙ fold-roll-ElanType 
 type_shape kinds.Truth = ap shape_in (sym types.rolls-Bool) ∙ fold-roll-ElanType _ _ _ _ Truths
 type_shape kinds.Text = ap shape_in (sym types.rolls-Text) ∙ fold-roll-ElanType _ _ _ _ Text
 type_shape kinds.Task = ap shape_in (sym types.rolls-Task) ∙ fold-roll-ElanType _ _ _ _ Task
+type_shape kinds.Space = ap shape_in (sym types.rolls-Dataspace) ∙ fold-roll-ElanType _ _ _ _ Dataspace
 
 pub open_shape : shape_in types.Open ≡ shape.Cell kinds.Int
 open_shape = ap shape_in (sym types.rolls-Open) ∙ fold-roll-ElanType _ _ _ _ Open
@@ -44,11 +45,15 @@ text_closed = ap is_open (sym types.rolls-Text) ∙ ap open_here (out-roll-ElanT
 pub task_closed : is_open types.Task ≡ false
 task_closed = ap is_open (sym types.rolls-Task) ∙ ap open_here (out-roll-ElanType Task)
 
+pub dataspace_closed : is_open types.Dataspace ≡ false
+dataspace_closed = ap is_open (sym types.rolls-Dataspace) ∙ ap open_here (out-roll-ElanType Dataspace)
+
 pub type_closed : (k : Kind) → is_open (type_in k) ≡ false
 type_closed kinds.Int = int_closed
 type_closed kinds.Truth = bool_closed
 type_closed kinds.Text = text_closed
 type_closed kinds.Task = task_closed
+type_closed kinds.Space = dataspace_closed
 
 pub open_open : is_open types.Open ≡ true
 open_open = ap is_open (sym types.rolls-Open) ∙ ap open_here (out-roll-ElanType Open)
@@ -100,6 +105,7 @@ self_here Int = refl
 self_here Truths = refl
 self_here Text = refl
 self_here Task = refl
+self_here Dataspace = refl
 self_here (Row n of) = ap (λ (b : Bool). b && same_type of.0 of.0) (eq-eqb n n refl) ∙ of.1
 self_here (Struct fs) = fields_self fs
 self_here (Own n of) = ap (λ (b : Bool). b && same_type of.0 of.0) (eq-eqb n n refl) ∙ of.1
@@ -145,6 +151,7 @@ is_here Int Int e = refl
 is_here Truths Truths e = refl
 is_here Text Text e = refl
 is_here Task Task e = refl
+is_here Dataspace Dataspace e = refl
 is_here (Row n of) (Row m t) e =
     let b = both _ _ e in ap (λ (i : ℕ). Row i of.0) (eqb-true n m b.0) ∙ ap (λ (u : ElanType). Row m u) (of.1 t b.1)
 is_here (Struct fs) (Struct gs) e = ap (λ (hs : List FieldType). Struct hs) (fields_are fs gs e)
@@ -206,6 +213,7 @@ counted_here Int = ap length (cell_is kinds.Int)
 counted_here Truths = ap length (cell_is kinds.Truth)
 counted_here Text = ap length (cell_is kinds.Text)
 counted_here Task = ap length (cell_is kinds.Task)
+counted_here Dataspace = ap length (cell_is kinds.Space)
 counted_here (Row n of) =
     ap length (row_kinds n (shape_in of.0)) ∙ joined_row n (cell_kinds (shape_in of.0)) ∙ ap (λ (m : ℕ). n * m) of.1
 counted_here (Struct fs) = ap length (struct_kinds (map field_shape (map (λ e. e.0) fs))) ∙ fields_counted fs

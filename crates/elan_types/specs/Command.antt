@@ -8,6 +8,7 @@ use Rattle.eu_base.specs.declared.value.Kind.{Kind}
 use Rattle.eu_base.specs.declared.value.Kind.TheVariants as kinds
 use Rattle.eu_base.specs.Values.{blank_of}
 use Rattle.eu_base.specs.Room.{cells_fit}
+use Rattle.eu_base.specs.DataSpaces.{Spaces}
 use Rattle.elan_types.specs.declared.core_phrase.Body.{Body}
 use Rattle.elan_types.specs.declared.core_phrase.Core.{Core}
 use Rattle.elan_types.specs.Typing.{all_packet_kinds}
@@ -45,11 +46,12 @@ first_kinds (Some p) core = call_kinds (slice_get core.bodies p)
 abbrev pub start_kinds : Core → List Kind
 start_kinds core = first_kinds core.start core
 
--- a command starts with the variables of the packets of its task. Its own are made, those of a packet that is inserted behind them
-abbrev pub at_start : Core → List Slot → ℕ → List Reply → World
-at_start core packets marks replies = record {
+-- a command starts with the variables of the packets of its task and with its data spaces. Its own variables are made, those of a packet that is inserted behind them
+abbrev pub at_start : Core → List Slot → Spaces → ℕ → List Reply → World
+at_start core packets spaces marks replies = record {
   store = blanks (start_kinds core);
   packets = packets ++ blanks core.inserted;
+  spaces = spaces;
   marks = marks;
   replies = replies;
 }
@@ -77,6 +79,6 @@ run_from (Some p) core marks w = run_started core marks (slice_get core.bodies p
 abbrev pub evaluate_from : Core → World → Ending
 evaluate_from core w = ending (branch (start_fits core) (run_from core.start core w.marks) (outcomes.Stopped CellRoom) w)
 
--- a command with these variables of packets, with so many marks and with these replies
-abbrev pub evaluate : Core → List Slot → ℕ → List Reply → Ending
-evaluate core packets marks replies = evaluate_from core (at_start core packets marks replies)
+-- a command with these variables of packets and these data spaces, with so many marks and with these replies
+abbrev pub evaluate : Core → List Slot → Spaces → ℕ → List Reply → Ending
+evaluate core packets spaces marks replies = evaluate_from core (at_start core packets spaces marks replies)

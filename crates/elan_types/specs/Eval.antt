@@ -8,10 +8,12 @@ use Rattle.std.specs.Ordering.{int_eq}
 use Rattle.eu_base.specs.declared.address.Area.{Area}
 use Rattle.eu_base.specs.declared.address.Area.TheVariants as areas
 use Rattle.eu_base.specs.declared.value.Kind.{Kind}
+use Rattle.eu_base.specs.declared.value.Kind.TheVariants as kinds
+use Rattle.eu_base.specs.declared.shape.Shape.{Shape}
 use Rattle.eu_base.specs.declared.value.Value.{Value}
-use Rattle.eu_base.specs.declared.value.Value.TheVariants.{Int, Truth, Text}
+use Rattle.eu_base.specs.declared.value.Value.TheVariants.{Int, Truth, Text, Space}
 use Rattle.eu_base.specs.declared.stop.Stop.{Stop}
-use Rattle.eu_base.specs.declared.stop.Stop.TheVariants.{Index, CellRoom, OperandRoom, TextRoom, Own}
+use Rattle.eu_base.specs.declared.stop.Stop.TheVariants.{Index, CellRoom, OperandRoom, TextRoom, NoSpace, Own}
 use Rattle.eu_base.specs.declared.request.Request.{Request}
 use Rattle.eu_base.specs.declared.request.RequestName.{RequestName}
 use Rattle.eu_base.specs.declared.request.Reply.{Reply}
@@ -19,11 +21,14 @@ use Rattle.eu_base.specs.declared.request.Reply.TheVariants as replies
 use Rattle.eu_base.specs.declared.operation.Change.{Change}
 use Rattle.eu_base.specs.declared.operation.Change.TheVariants.{Increase}
 use Rattle.eu_base.specs.declared.operation.Way.{Way}
-use Rattle.eu_base.specs.Values.{number_of, truth_of, text_of, blank_of}
+use Rattle.eu_base.specs.Values.{SpaceNo, number_of, truth_of, text_of, space_of, kind_of, blank_of}
+use Rattle.eu_base.specs.DataSpaces.{Spaces, heads_of, SpaceChange, spaces_after}
+use Rattle.eu_base.specs.SpaceOperations.{Plan, planned, copy_plan, bind_plan, forgetting}
+use Rattle.eu_base.specs.SpacePlaces.{is_in, values_of, with_values}
 use Rattle.eu_base.specs.Cells.{same_area}
 use Rattle.eu_base.specs.Shapes.{cell_kinds}
 use Rattle.eu_base.specs.Room.{values_bytes, value_blocks, values_blocks, place_bytes, cells_fit, bytes_fit, texts_fit}
-use Rattle.eu_base.specs.Operations.{Given, result_of, changed, is_past, has_reached, next_number, in_row}
+use Rattle.eu_base.specs.Operations.{Given, result_of, change_kind, changed, is_past, has_reached, next_number, in_row}
 use Rattle.eu_base.specs.Requests.{request_kinds, request_of, read_as, answer_of}
 use Rattle.elan_types.specs.declared.core_phrase.Exit.{Exit}
 use Rattle.elan_types.specs.declared.core_phrase.Exit.TheVariants as exits
@@ -52,10 +57,12 @@ pub data Slot : Type 0 where
   -- a cell that only counts: a call and a refinement have two, a FOR with a limit has one
   Taken : Slot
 
--- the variables of the command and of its live calls, those of the packets, the marks that are left, and the replies that are left
+-- the variables of the command and of its live calls, those of the packets, the data spaces of the task, the marks that are left, and the
+-- replies that are left
 pub record World : Type 0 where
   pub store : List Slot
   pub packets : List Slot
+  pub spaces : Spaces
   pub marks : ℕ
   pub replies : List Reply
 
@@ -128,10 +135,15 @@ abbrev pub place_of : Slot → Place
 place_of (Refers x) = x
 place_of _ = record { area = areas.Run; variable = 0 }
 
--- the slots of an area
+-- the slots of an area; a data space that is gone has none
 abbrev pub slots_in : Area → World → List Slot
 slots_in areas.Run w = w.store
 slots_in areas.Packets w = w.packets
+slots_in (areas.Space s) w = map Holds (values_of s w.spaces)
+
+-- whether cells of these kinds stand at a place. A data space is looked at in each access: it may be gone
+abbrev pub is_there : List Kind → Place → World → Bool
+is_there ks x w = is_in ks x.area x.variable (heads_of w.spaces)
 
 abbrev pub fetch : Place → World → Value
 fetch x w = value_of (slot_at (slots_in x.area w) x.variable)
@@ -158,8 +170,22 @@ stored_from x (v ∷ vs) store = stored_from (x + 1) vs (slice_set store x (Hold
 abbrev pub stored_in : Area → Place → List Value → List Slot → List Slot
 stored_in area x vs slots = cond (same_area x.area area) (stored_from x.variable vs slots) slots
 
+-- values with others in the place of some from one on, and data spaces with such values
+abbrev pub values_from : ℕ → List Value → List Value → List Value
+values_from x [] us = us
+values_from x (v ∷ vs) us = values_from (x + 1) vs (slice_set us x v)
+
+abbrev pub stored_in_space : Area → ℕ → List Value → Spaces → Spaces
+stored_in_space areas.Run x vs spaces = spaces
+stored_in_space areas.Packets x vs spaces = spaces
+stored_in_space (areas.Space s) x vs spaces = with_values s (values_from x vs (values_of s spaces)) spaces
+
 abbrev pub assign : Place → List Value → World → World
-assign x vs w = record w { store = stored_in areas.Run x vs w.store; packets = stored_in areas.Packets x vs w.packets }
+assign x vs w = record w {
+  store = stored_in areas.Run x vs w.store;
+  packets = stored_in areas.Packets x vs w.packets;
+  spaces = stored_in_space x.area x.variable vs w.spaces;
+}
 
 -- the blocks that the texts of slots take. A pending text stands in none, and takes none
 abbrev pub slot_blocks : Slot → ℕ
@@ -170,17 +196,22 @@ abbrev pub store_blocks : List Slot → ℕ
 store_blocks [] = 0
 store_blocks (s ∷ store) = slot_blocks s + store_blocks store
 
+-- goes on where cells of these kinds stand at a place
+abbrev pub if_there : {A : Type 0} → List Kind → Place → (World → Outcome A) → World → Outcome A
+if_there ks x go w = branch (is_there ks x w) go (Stopped NoSpace) w
+
 -- goes on with what stands at a place, and after a value was stored there in place of another, where its texts then have room; where they
 -- have none, nothing is stored. Reads and stores are outcomes, as all steps that a program can stop at
-abbrev pub load : {A : Type 0} → Place → (Value → World → Outcome A) → World → Outcome A
-load x go w = go (fetch x w) w
+abbrev pub load : {A : Type 0} → Kind → Place → (Value → World → Outcome A) → World → Outcome A
+load k x go = if_there (k ∷ []) x (λ w. go (fetch x w) w)
 
 abbrev pub load_all : {A : Type 0} → List Kind → Place → (List Value → World → Outcome A) → World → Outcome A
-load_all ks x go w = go (fetch_all ks x w) w
+load_all ks x go = if_there ks x (λ w. go (fetch_all ks x w) w)
 
 abbrev pub save : {A : Type 0} → Place → List Value → (World → Outcome A) → World → Outcome A
-save x vs go w =
-    branch (texts_fit (values_blocks vs) (store_blocks (slots_in x.area (assign x vs w)))) (λ w. go (assign x vs w)) (Stopped TextRoom) w
+save x vs go =
+    if_there (map kind_of vs) x (λ w.
+    branch (texts_fit (values_blocks vs) (store_blocks (slots_in x.area (assign x vs w)))) (λ w. go (assign x vs w)) (Stopped TextRoom) w)
 
 -- what calls of bodies do: of a PROC with what its parameters hold, and of a refinement from a body whose variables begin at a
 -- number in the store; each with so many bytes of operands pending. They deliver a value or nothing
@@ -324,7 +355,7 @@ request_value name as' n = ask (request_of name (map value_given as')) (λ r. or
 
 -- INCR, DECR and CAT
 abbrev pub modify : {A : Type 0} → Change → Place → Value → A → World → Outcome A
-modify change x v a = load x (λ y. or_stop (changed change y v) (λ z. save x (z ∷ []) (Gives a)))
+modify change x v a = load (change_kind change) x (λ y. or_stop (changed change y v) (λ z. save x (z ∷ []) (Gives a)))
 
 -- the step of a counter without limit: it delivers the place and the number 1
 abbrev pub step : Run Place → Run Bool
@@ -336,13 +367,13 @@ step_from x way limit z = branch (has_reached way limit z) (Gives false) (save x
 
 -- it delivers the place
 abbrev pub step_to : Run Place → Way → ℤ → Run Bool
-step_to p way limit n w = bind (p n w) (λ x. load x (λ v. step_from x way limit (number_of v)))
+step_to p way limit n w = bind (p n w) (λ x. load kinds.Int x (λ v. step_from x way limit (number_of v)))
 
 -- the turns under a limit, which has a cell meanwhile; x is the place at which the counter is tested first
 abbrev pub limited : Place → Way → ℤ → Run Bool → Run (Unit {0})
 limited x way limit turn' n =
     with_room (Taken ∷ []) (λ w.
-    bind (load x (λ v. branch (is_past way limit (number_of v)) (Gives tt) (turns n.turns (turn' n))) w) (λ _ w. Gives tt (cut (length w.store - 1) w)))
+    bind (load kinds.Int x (λ v. branch (is_past way limit (number_of v)) (Gives tt) (turns n.turns (turn' n))) w) (λ _ w. Gives tt (cut (length w.store - 1) w)))
 
 -- the turns of a counted loop, whose counter has its first value. The limit is evaluated once
 abbrev pub counted : Run Place → Way → Option (Run (List Value)) → (Run Bool → Run Bool) → Run (Unit {0})
@@ -357,6 +388,52 @@ forever n = turns n.turns (go_on n)
 -- a value is stored at a place, which is evaluated first
 abbrev pub stored : Run Place → Run (List Value) → Run (Unit {0})
 stored p a n w = bind (p n w) (λ x w. bind (a (holding_place n) w) (λ vs. save x vs (Gives tt)))
+
+-- ---- data spaces
+
+-- the data spaces change so
+abbrev pub changed_by : List SpaceChange → World → World
+changed_by changes w = record w { spaces = spaces_after changes w.spaces }
+
+-- goes on with what is planned, after its changes, or stops
+abbrev pub or_refused : {A B : Type 0} → Plan A → (A → World → Outcome B) → World → Outcome B
+or_refused (Ok plan) go w = go plan.0 (changed_by plan.1 w)
+or_refused (Err s) go w = Stopped s w
+
+-- the value of a procedure. One that delivers none has no cells; no well typed phrase asks for it
+abbrev pub answer : Option Value → List Value
+answer None = []
+answer (Some v) = v ∷ []
+
+-- it is delivered, and the data spaces change where it has room
+abbrev pub consult : Plan (Option Value) → Run (List Value)
+consult (Ok plan) n w = bind (deliver (answer plan.0) n w) (λ vs w. Gives vs (changed_by plan.1 w))
+consult (Err s) n w = Stopped s w
+
+-- the content of the data space that a BOUND variable is bound to begins here. The nil space has none; the number 0, which no data space has,
+-- stands for it
+abbrev pub content_of : Option SpaceNo → Place
+content_of (Some s) = record { area = areas.Space s; variable = 0 }
+content_of None = record { area = areas.Space (record { 0 = 0 }); variable = 0 }
+
+-- the data space that a variable held is forgotten
+abbrev pub without_held : Option SpaceNo → World → World
+without_held held w = changed_by (forgetting held (heads_of w.spaces)) w
+
+-- a DATASPACE variable gets a copy, and then what it held is forgotten
+abbrev pub copy_into : Place → Value → World → Outcome (Unit {0})
+copy_into x v =
+    load kinds.Space x (λ held w.
+    or_refused (copy_plan None (space_of v) (heads_of w.spaces))
+    (λ s w. Gives tt (without_held (space_of held) (assign x (Space (Some s) ∷ []) w))) w)
+
+-- a BOUND variable is bound to a data space, whose content has this shape then
+abbrev pub bind_to : Place → Shape → Value → World → Outcome (Unit {0})
+bind_to x shape v =
+    if_there (kinds.Space ∷ []) x
+    (branch (cells_fit (length (cell_kinds shape)))
+    (λ w. or_refused (bind_plan shape (space_of v) (heads_of w.spaces)) (λ s w. Gives tt (assign x (Space (Some s) ∷ []) w)) w)
+    (Stopped CellRoom))
 
 -- the value that a body delivers. Where it delivers none it has no cells; no well typed phrase asks for it
 abbrev pub delivered : Option (List Value) → List Value
@@ -380,6 +457,7 @@ place_step (t.Item p a items) n w =
     bind (p n w) (λ x w. bind (a (holding_place n) w) (λ vs.
     or_outside (in_row items.count (number_of (the vs))) (λ k. deliver_place (beyond x (k * items.cells)) n)))
 place_step (t.Field p before) n w = bind (p n w) (λ x. deliver_place (beyond x before) n)
+place_step (t.Content p s) n w = bind (p n w) (λ x. load kinds.Space x (λ v. deliver_place (content_of (space_of v)) n))
 
 abbrev pub value_step : Layer ValuePhrase-F → Run (List Value)
 value_step (t.Number z) n w = deliver (Int z ∷ []) n w
@@ -400,6 +478,7 @@ value_step (t.Pick a i items s) n w =
     or_outside (in_row items.count (number_of (the us))) (λ k. deliver (part_of (k * items.cells) items.cells vs) n)))
 value_step (t.Take a part s) n w = bind (a n w) (λ vs. deliver (part_of part.before part.cells vs) n)
 value_step (t.ValuePhrase::Ask name as') n w = bind (actuals as' n w) (λ xs. request_value name xs n)
+value_step (t.Consult op as') n w = bind (values as' n w) (λ vs w. consult (planned op vs (heads_of w.spaces)) n w)
 
 abbrev pub actual_step : Layer Actual-F → Run Passed
 actual_step (t.Value a) n w = bind (a n w) (λ vs. Gives (AsValue vs))
@@ -423,6 +502,9 @@ action_step (t.Action::Call p as') n w = bind (actuals as' n w) (λ xs w. bind (
 action_step (t.Action::Refer p) n w = bind (n.calls.refer p n.base n.held w) (λ _. Gives tt)
 action_step (t.Leave e) n w = Left e None w
 action_step (t.LeaveWith e s a) n w = bind (a n w) (λ vs. Left e (Some vs))
+action_step (t.Perform op as') n w = bind (values as' n w) (λ vs w. or_refused (planned op vs (heads_of w.spaces)) (λ _. Gives tt) w)
+action_step (t.Copy p a) n w = bind (p n w) (λ x w. bind (a (holding_place n) w) (λ vs. copy_into x (the vs)))
+action_step (t.Bind p s a) n w = bind (p n w) (λ x w. bind (a (holding_place n) w) (λ vs. bind_to x s (the vs)))
 
 abbrev pub arm_step : Layer Arm-F → Labelled (Run (Unit {0}))
 arm_step arm = record { labels = arm.labels; part = all arm.units }

@@ -8,7 +8,7 @@ use Rattle.eu_base.specs.declared.request.RequestName.{RequestName}
 use Rattle.eu_base.specs.Requests.{request_kinds, request_places}
 use Rattle.elan_types.specs.declared.elan_type.ElanType.{ElanType}
 use Rattle.elan_types.specs.declared.elan_type.ElanType.TheVariants as types
-use Rattle.elan_types.specs.declared.elan_type.ElanType.TheOpen.{ElanType-F, FieldType-F, Int, Bool as Truths, Text, Task, Row, Struct, Own, Open}
+use Rattle.elan_types.specs.declared.elan_type.ElanType.TheOpen.{ElanType-F, FieldType-F, Int, Bool as Truths, Text, Task, Dataspace, Row, Struct, Own, Open}
 use Rattle.elan_types.specs.declared.elan_type.ElanType.TheViews.{out-ElanType}
 use Rattle.elan_types.specs.declared.elan_type.ElanType.TheFolds.{fold-ElanType, fold-FieldType}
 use Rattle.elan_types.specs.declared.elan_type.FieldType.{FieldType}
@@ -33,6 +33,7 @@ same_here Int Int = true
 same_here Truths Truths = true
 same_here Text Text = true
 same_here Task Task = true
+same_here Dataspace Dataspace = true
 same_here (Row n f) (Row m t) = n == m && f t
 same_here (Struct fs) (Struct ts) = are_same fs ts
 same_here (Own n f) (Own m t) = n == m && f t
@@ -167,6 +168,7 @@ shape_step Int = shape.Cell kinds.Int
 shape_step Truths = shape.Cell kinds.Truth
 shape_step Text = shape.Cell kinds.Text
 shape_step Task = shape.Cell kinds.Task
+shape_step Dataspace = shape.Cell kinds.Space
 shape_step (Row n s) = shape.Row n s
 shape_step (Struct ss) = shape.Struct ss
 shape_step (Own n s) = s
@@ -187,6 +189,7 @@ type_in kinds.Int = types.Int
 type_in kinds.Truth = types.Bool
 type_in kinds.Text = types.Text
 type_in kinds.Task = types.Task
+type_in kinds.Space = types.Dataspace
 
 -- what a core knows of a parameter
 abbrev pub formal_of : Parameter → Formal

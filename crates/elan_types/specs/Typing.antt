@@ -10,6 +10,8 @@ use Rattle.eu_base.specs.Values.{same_kind}
 use Rattle.eu_base.specs.Shapes.{cell_kinds, joined, same_shape}
 use Rattle.cell_kinds.specs.Kinds.{packet_kinds}
 use Rattle.eu_base.specs.Operations.{operand_kinds, result_kind, change_kind, in_range}
+use Rattle.eu_base.specs.SpaceOperations.{space_operand_kinds, space_result_kind}
+use Rattle.eu_base.specs.Room.{cells_fit}
 use Rattle.eu_base.specs.declared.request.RequestName.{RequestName}
 use Rattle.eu_base.specs.Requests.{request_kinds, request_places, request_result}
 use Rattle.elan_types.specs.declared.core_phrase.PlacePhrase.{PlacePhrase}
@@ -272,6 +274,7 @@ module _ (outside : Outside) (bodies : List Body) (home : Home) where
   place_kinds_step (t.Parameter n) = place_held (slice_get frame_here n)
   place_kinds_step (t.Item p a items) = if_true (has kinds.Int a) (item_kinds items.count items.cells p)
   place_kinds_step (t.Field p before) = drop before p
+  place_kinds_step (t.Content p s) = if_true (starts (kinds.Space ∷ []) p && cells_fit (length (cell_kinds s))) (cell_kinds s)
 
   -- the shape of a phrase's value from those of its parts
   abbrev pub value_kind_step : Layer ValuePhrase-F → Typed
@@ -293,6 +296,7 @@ module _ (outside : Outside) (bodies : List Body) (home : Home) where
       only_if (has_shape (Row items.count s) a && (has kinds.Int i && length (cell_kinds s) == items.cells)) (Some s)
   value_kind_step (t.Take a part s) = only_if (has_part part (cell_kinds s) a) (Some s)
   value_kind_step (t.ValuePhrase::Ask name as') = only_if (take_all (request_formals name) as') (request_type name)
+  value_kind_step (t.Consult op as') = only_if (have (space_operand_kinds op) as') (option_map Cell (space_result_kind op))
 
   abbrev pub actual_kind_step : Layer Actual-F → Taken
   actual_kind_step (t.Value a) = given_as Const a
@@ -318,6 +322,9 @@ module _ (outside : Outside) (bodies : List Body) (home : Home) where
   action_typed_step (t.Action::Refer p) = refines (owner bodies home) (scope_of (slice_get bodies p)) && is_none (delivered_by (slice_get bodies p))
   action_typed_step (t.Leave e) = leaves_without (left_from bodies e home)
   action_typed_step (t.LeaveWith e s a) = has_shape s a && leaves_with s (left_from bodies e home)
+  action_typed_step (t.Perform op as') = have (space_operand_kinds op) as' && is_none (option_map Cell (space_result_kind op))
+  action_typed_step (t.Copy p a) = starts (kinds.Space ∷ []) p && has kinds.Space a
+  action_typed_step (t.Bind p s a) = starts (kinds.Space ∷ []) p && has kinds.Space a
 
   abbrev pub arm_typed_step : Layer Arm-F → Bool
   arm_typed_step arm = all_true arm.units

@@ -2,7 +2,9 @@
 //! shape of its value, so evaluation and the making of code go by structure alone. Of types a core knows nothing else.
 
 use cell_kinds::{CellKinds, Packet};
-use eu_base::{Boxed, Bytes, Change, List, Operation, RequestName, Shape, Shared, Way};
+use eu_base::{
+    Boxed, Bytes, Change, List, Operation, RequestName, Shape, Shared, SpaceOperation, Way,
+};
 use std::mem;
 
 /// The meaning of a command.
@@ -135,6 +137,8 @@ pub enum ValuePhrase {
     Take(Boxed<ValuePhrase>, Part, Shape),
     /// What a request delivers, its actuals from left to right.
     Ask(RequestName, List<Actual>),
+    /// What a call on data spaces delivers, its operands from left to right.
+    Consult(SpaceOperation, List<ValuePhrase>),
 }
 
 /// What a parameter is given.
@@ -173,6 +177,8 @@ pub enum PlacePhrase {
     Item(Boxed<PlacePhrase>, Boxed<ValuePhrase>, Items),
     /// A field of a structure: the structure, and how many of its cells stand before the field.
     Field(Boxed<PlacePhrase>, u16),
+    /// The content of a data space, which has this shape: the BOUND variable that is bound to the space.
+    Content(Boxed<PlacePhrase>, Shape),
 }
 
 /// A phrase that delivers nothing.
@@ -217,6 +223,12 @@ pub enum Action {
     Leave(Exit),
     /// A LEAVE WITH, and the value that is delivered.
     LeaveWith(Exit, Shape, ValuePhrase),
+    /// A call on data spaces that delivers nothing, its operands from left to right.
+    Perform(SpaceOperation, List<ValuePhrase>),
+    /// A DATASPACE variable gets a copy of a data space.
+    Copy(PlacePhrase, ValuePhrase),
+    /// A BOUND variable is bound to a data space, whose content has this shape then.
+    Bind(PlacePhrase, Shape, ValuePhrase),
 }
 
 /// Labels, and what they choose.

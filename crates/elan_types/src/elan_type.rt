@@ -22,6 +22,8 @@ pub enum ElanType {
     Text,
     /// `TASK`, the number of a task.
     Task,
+    /// `DATASPACE`, the number of a data space, or the nil space.
+    Dataspace,
     /// `ROW size of`, so many items of one type.
     Row(u16, Shared<ElanType>),
     /// `STRUCT (fields)`, its fields in order.
@@ -61,6 +63,7 @@ impl ElanType {
             | (ElanType::Bool, ElanType::Bool)
             | (ElanType::Text, ElanType::Text)
             | (ElanType::Task, ElanType::Task)
+            | (ElanType::Dataspace, ElanType::Dataspace)
             | (ElanType::Open, ElanType::Open) => true,
             (ElanType::Row(size, of), ElanType::Row(other, behind)) => {
                 *size == *other && of.get().is_same(behind.get())
@@ -144,6 +147,7 @@ impl ElanType {
             Kind::Truth => ElanType::Bool,
             Kind::Text => ElanType::Text,
             Kind::Task => ElanType::Task,
+            Kind::Space => ElanType::Dataspace,
         }
     }
 
@@ -157,6 +161,7 @@ impl ElanType {
             ElanType::Bool => Ok(Shape::Cell(Kind::Truth)),
             ElanType::Text => Ok(Shape::Cell(Kind::Text)),
             ElanType::Task => Ok(Shape::Cell(Kind::Task)),
+            ElanType::Dataspace => Ok(Shape::Cell(Kind::Space)),
             ElanType::Row(size, of) => {
                 let of = of.get().shape(alloc)?;
                 Ok(Shape::Row(*size, Boxed::new(alloc, of)?))
@@ -180,8 +185,12 @@ impl ElanType {
             ElanType::Row(size, of) => size.checked_mul(of.get().cells()?),
             ElanType::Struct(fields) => field_cells(fields.get().as_slice()),
             ElanType::Own(_, concrete) => concrete.get().cells(),
-            ElanType::Int | ElanType::Bool | ElanType::Text | ElanType::Task | ElanType::Open =>
-                Some(1),
+            ElanType::Int
+            | ElanType::Bool
+            | ElanType::Text
+            | ElanType::Task
+            | ElanType::Dataspace
+            | ElanType::Open => Some(1),
         }
     }
 
@@ -194,8 +203,12 @@ impl ElanType {
             ElanType::Row(_, of) => of.get().nodes()?.checked_add(1),
             ElanType::Struct(fields) => field_nodes(fields.get().as_slice())?.checked_add(1),
             ElanType::Own(_, concrete) => concrete.get().nodes(),
-            ElanType::Int | ElanType::Bool | ElanType::Text | ElanType::Task | ElanType::Open =>
-                Some(1),
+            ElanType::Int
+            | ElanType::Bool
+            | ElanType::Text
+            | ElanType::Task
+            | ElanType::Dataspace
+            | ElanType::Open => Some(1),
         }
     }
 
@@ -218,8 +231,12 @@ impl ElanType {
             ElanType::Row(_, of) => of.get().has_own(),
             ElanType::Struct(fields) => any_has_own(fields.get().as_slice()),
             ElanType::Own(_, _) => true,
-            ElanType::Int | ElanType::Bool | ElanType::Text | ElanType::Task | ElanType::Open =>
-                false,
+            ElanType::Int
+            | ElanType::Bool
+            | ElanType::Text
+            | ElanType::Task
+            | ElanType::Dataspace
+            | ElanType::Open => false,
         }
     }
 
@@ -233,6 +250,7 @@ impl ElanType {
             ElanType::Bool => Ok(ElanType::Bool),
             ElanType::Text => Ok(ElanType::Text),
             ElanType::Task => Ok(ElanType::Task),
+            ElanType::Dataspace => Ok(ElanType::Dataspace),
             ElanType::Row(size, of) => Ok(ElanType::Row(*size, of.share()?)),
             ElanType::Struct(fields) => Ok(ElanType::Struct(fields.share()?)),
             ElanType::Own(number, concrete) => Ok(ElanType::Own(*number, concrete.share()?)),

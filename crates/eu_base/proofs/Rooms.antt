@@ -3,7 +3,7 @@ use Rattle.std.proofs.Common.{◌≡◌, ℕ, zero, suc, ◌+◌, ◌*◌, ◌<�
 use Rattle.std.specs.Prelude.{get_or}
 use Rattle.std.proofs.lemmas.List.{take_more}
 use Rattle.eu_base.specs.declared.value.Value.{Value}
-use Rattle.eu_base.specs.declared.value.Value.TheVariants.{Int, Truth, Text, Task}
+use Rattle.eu_base.specs.declared.value.Value.TheVariants.{Int, Truth, Text, Task, Space}
 use Rattle.eu_base.specs.Room.{value_bytes, values_bytes, value_blocks, values_blocks}
 use Rattle.eu_base.specs.Cells.{held_of, cell_blocks}
 use Rattle.std.proofs.Common.{refl}
@@ -37,6 +37,7 @@ least_one (Int z) = omega arith
 least_one (Truth b) = omega arith
 least_one (Text t) = omega arith
 least_one (Task n) = omega arith
+least_one (Space s) = omega arith
 
 pub least_all : (vs : List Value) → 8 * length vs ≤ values_bytes vs
 least_all [] = omega arith
@@ -48,6 +49,7 @@ held_blocks (Int z) = refl
 held_blocks (Truth b) = refl
 held_blocks (Text t) = refl
 held_blocks (Task n) = refl
+held_blocks (Space s) = refl
 
 -- the texts among values take fewer blocks than the values bytes
 small_one : (v : Value) → value_blocks v ≤ value_bytes v
@@ -55,6 +57,7 @@ small_one (Int z) = omega arith
 small_one (Truth b) = omega arith
 small_one (Text t) = omega arith
 small_one (Task n) = omega arith
+small_one (Space s) = omega arith
 
 pub blocks_small : (vs : List Value) → values_blocks vs ≤ values_bytes vs
 blocks_small [] = omega arith

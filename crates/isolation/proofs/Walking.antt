@@ -319,10 +319,10 @@ module _ (u : TaskNo) (R : Moment → Moment → Type 0) (keeps : Keeps u R) whe
         → over_told c.unit.shown stop m.system.shared.library ≡ over_told c.unit.shown stop n.system.shared.library → R m n
         → R (monitor.over read u c stop w m) (monitor.over read u c stop w n)
     ends c stop w m n same h =
-        ends_as c.unit.shown stop c (on_system (does u (Idle (store_in c w))) m) (on_system (does u (Idle (store_in c w))) n)
-        (ap (over_told c.unit.shown stop) (library_changed u (with_doing (Idle (store_in c w))) m.system)
-        ∙ (same ∙ sym (ap (over_told c.unit.shown stop) (library_changed u (with_doing (Idle (store_in c w))) n.system))))
-        (does_so (Idle (store_in c w)) m n h)
+        ends_as c.unit.shown stop c (on_system (does u (Idle (store_in w))) m) (on_system (does u (Idle (store_in w))) n)
+        (ap (over_told c.unit.shown stop) (library_changed u (with_doing (Idle (store_in w))) m.system)
+        ∙ (same ∙ sym (ap (over_told c.unit.shown stop) (library_changed u (with_doing (Idle (store_in w))) n.system))))
+        (does_so (Idle (store_in w)) m n h)
 
     -- ---- a slice
 

@@ -1,24 +1,27 @@
--- What is known of the cells of a command at its start: its variables hold their first values, and of other cells nothing is known.
-use Rattle.std.proofs.Common.{◌≡◌, ℕ, zero, suc, ◌+◌, ◌<◌, ◌≤◌, Bool, true, false, cond, List, [], ◌∷◌, ◌++◌, map, length, Some, refl, sym, ap, ◌∙◌, subst, arith}
-use Rattle.std.specs.Prelude.{slice_get}
+-- What is known of the cells of a command at its start: its variables hold their first values, of other cells nothing is known, and there are no data spaces.
+use Rattle.std.proofs.Common.{◌≡◌, ℕ, zero, suc, ◌+◌, ◌<◌, ◌≤◌, Bool, true, false, cond, List, [], ◌∷◌, ◌++◌, map, length, None, Some, refl, sym, ap, ◌∙◌, subst, arith}
+use Rattle.std.specs.Prelude.{slice_get, ◌&&◌, ◌==◌}
 use Rattle.std.proofs.lemmas.Bool.{eq-eqb}
 use Rattle.std.proofs.lemmas.List.{length-map}
 use Rattle.eu_base.specs.declared.address.Area.{Area}
-use Rattle.eu_base.specs.declared.address.Area.TheVariants.{Run, Packets}
+use Rattle.eu_base.specs.declared.address.Area.TheVariants.{Run, Packets, Space}
 use Rattle.eu_base.specs.declared.value.Kind.{Kind}
 use Rattle.eu_base.specs.Room.{cells_fit}
-use Rattle.eu_base.specs.Values.{blank_of}
-use Rattle.eu_base.specs.Cells.{Cell, Free, Cells, held_of, area_cell, run_cell, packet_cell, written}
+use Rattle.eu_base.specs.Values.{SpaceNo, blank_of}
+use Rattle.eu_base.specs.Cells.{Cell, Free, Cells, held_of, area_cell, run_cell, packet_cell, same_area, written}
+use Rattle.eu_base.specs.DataSpaces.{heads_of, no_spaces}
 use Rattle.eu_base.proofs.Places.{same_there}
 use Rattle.cell_kinds.specs.declared.packet.Packet.{Packet}
 use Rattle.cell_kinds.specs.Kinds.{packet_kinds}
 use Rattle.code_form.specs.Program.{Program, start_kinds}
-use Rattle.code_form.specs.Machine.{written_in, made_in, made, CanBeMade}
+use Rattle.code_form.specs.Machine.{Mem, written_in, made_in, made, CanBeMade}
 use Rattle.elan_types.specs.declared.core_phrase.Core.{Core}
 use Rattle.elan_types.specs.Eval.{Slot}
 use Rattle.elan_types.specs.Command as command
 use Rattle.elan_types.specs.Command.{blanks}
-use Rattle.place_gen.specs.Correct.{StandsFor, HasVariables, HasSlots}
+use Rattle.place_gen.specs.Correct.{StandsFor, HasVariables, HasSpaces, HasSlots}
+use Rattle.page_table.proofs.Framing.{nil_agree, stands_of}
+use Rattle.space_memory.specs.Memories.{StandsWhole, roots, new_memory}
 use Rattle.zero_calls.proofs.Written.{at_other, behind}
 use Rattle.code_gen.specs.Correct.{Behaves}
 use Rattle.code_gen.proofs.Plays.{has_blank}
@@ -84,14 +87,37 @@ beside_command : (ns : List Cell) (at x : ℕ) (cells : Cells) → written_in Ru
 beside_command [] at x cells = refl
 beside_command (n ∷ ns) at x cells = beside_command ns (suc at) x (written cells (run_cell at) n)
 
+beside_spaces : (area : Area) (s : SpaceNo) → same_area (Space s) area ≡ false → (ns : List Cell) (at x : ℕ) (cells : Cells)
+    → written_in area at ns cells (area_cell (Space s) x) ≡ cells (area_cell (Space s) x)
+beside_spaces area s other [] at x cells = refl
+beside_spaces area s other (n ∷ ns) at x cells =
+    beside_spaces area s other ns (suc at) x (written cells (area_cell area at) n) ∙ ap (λ (b : Bool). cond (b && x == at) n (cells (area_cell (Space s) x))) other
+
 -- nothing is known
 abbrev none : Cells
 none = λ _. Free
 
-abbrev pub begun : Program → Cells
-begun p = made p none
+abbrev cells_begun : Program → Cells
+cells_begun p = made p none
 
-has_made : (p : Program) → p.packets ≡ [] → HasSlots p (blanks (start_kinds p)) (blanks p.inserted) (begun p)
+-- and there are no data spaces
+abbrev pub begun : Program → Mem
+begun p = record { cells = cells_begun p; heads = heads_of no_spaces }
+
+has_no_spaces : (m : Mem) → m.heads ≡ heads_of no_spaces → ((s : SpaceNo) (x : ℕ) → m.cells (area_cell (Space s) x) ≡ Free) → HasSpaces no_spaces m
+has_no_spaces m none_there free = record {
+  heads = none_there;
+  sound = record { each = tt; given = omega arith; named = tt };
+  given = record { rise = omega arith; fit = tt };
+  each = λ s. record {
+    as_many = refl;
+    each = λ x k is. absurd (cc is);
+    image = λ room x slot is. absurd (cc is);
+    beyond = λ x past. free s x;
+  };
+}
+
+has_made : (p : Program) → p.packets ≡ [] → HasSlots p (blanks (start_kinds p)) (blanks p.inserted) no_spaces (begun p)
 has_made p alone = record {
   command =
       same_variables Run (start_kinds p) (blanks (start_kinds p)) own (made_in Packets (length (packet_kinds p.packets)) p.inserted own)
@@ -100,6 +126,9 @@ has_made p alone = record {
       subst (λ (ps : List Packet). HasVariables Packets (packet_kinds ps ++ p.inserted) (blanks p.inserted)
       (made_in Packets (length (packet_kinds ps)) p.inserted own)) (sym alone)
       (area_begun Packets p.inserted own (λ x. unmade (cells_fit (0 + length (start_kinds p))) x));
+  spaces =
+      has_no_spaces (begun p) refl
+      (λ s x. beside (cells_fit (length (packet_kinds p.packets) + length p.inserted)) s x ∙ gone (cells_fit (0 + length (start_kinds p))) s x);
 }
   where
     own : Cells
@@ -114,14 +143,32 @@ has_made p alone = record {
     unmade true x = beside_command (map (λ k. held_of (blank_of k)) (start_kinds p)) 0 x none
     unmade false x = refl
 
+    beside : (t : Bool) (s : SpaceNo) (x : ℕ)
+        → cond t (written_in Packets (length (packet_kinds p.packets)) (map (λ k. held_of (blank_of k)) p.inserted) own) own (area_cell (Space s) x)
+        ≡ own (area_cell (Space s) x)
+    beside true s x = beside_spaces Packets s refl (map (λ k. held_of (blank_of k)) p.inserted) (length (packet_kinds p.packets)) x own
+    beside false s x = refl
+
+    gone : (t : Bool) (s : SpaceNo) (x : ℕ)
+        → cond t (written_in Run 0 (map (λ k. held_of (blank_of k)) (start_kinds p)) none) none (area_cell (Space s) x) ≡ Free
+    gone true s x = beside_spaces Run s refl (map (λ k. held_of (blank_of k)) (start_kinds p)) 0 x none
+    gone false s x = refl
+
 -- so has the code of a command without packets
 pub has_begun : (core : Core) (p : Program) → Behaves core p → core.packets ≡ []
-    → HasSlots p (blanks (command.start_kinds core)) (blanks core.inserted) (begun p)
+    → HasSlots p (blanks (command.start_kinds core)) (blanks core.inserted) no_spaces (begun p)
 has_begun core p b alone =
-    subst (λ ks. HasSlots p (blanks ks) (blanks core.inserted) (begun p)) b.first
-    (subst (λ ks. HasSlots p (blanks (start_kinds p)) (blanks ks) (begun p)) b.inserted (has_made p (b.packets ∙ alone)))
+    subst (λ ks. HasSlots p (blanks ks) (blanks core.inserted) no_spaces (begun p)) b.first
+    (subst (λ ks. HasSlots p (blanks (start_kinds p)) (blanks ks) no_spaces (begun p)) b.inserted (has_made p (b.packets ∙ alone)))
 
 -- memory holds it when the variables were made
 pub holds_begun : (p : Program) (before after : Cells → Type 0) → before none → ((cells : Cells) → before cells → CanBeMade p cells → after (made p cells))
-    → after (begun p)
+    → after (begun p).cells
 holds_begun p before after nothing put = put none nothing ((λ k le lt. refl), (λ k le lt. refl))
+
+-- a pool without pages has room for all spaces of a new memory
+pub new_whole : StandsWhole [] (roots new_memory)
+new_whole = record {
+  few = omega arith;
+  stands = stands_of [] (None ∷ None ∷ []) [] 16 (omega arith) ∣ nil_agree (None ∷ None ∷ []) (λ p. omega arith) (omega arith) ∣₁;
+}

@@ -6,12 +6,12 @@ use Rattle.eu_base.specs.declared.stop.Stop.TheVariants.{CellRoom}
 use Rattle.eu_base.specs.declared.request.Request.{Request}
 use Rattle.eu_base.specs.declared.request.Reply.{Reply}
 use Rattle.eu_base.specs.declared.request.Reply.TheVariants as replies
-use Rattle.eu_base.specs.Cells.{Cells}
+use Rattle.eu_base.specs.DataSpaces.{no_spaces}
 use Rattle.code_form.specs.declared.halt.Halt.TheVariants as halts
 use Rattle.code_form.specs.declared.waits.Waits.{Waits}
 use Rattle.code_form.specs.declared.waits.Waits.TheVariants.{Nothing, Asked, Given, Refused}
 use Rattle.code_form.specs.Program.{Program, instr_of}
-use Rattle.code_form.specs.Machine.{Position, Control, After, To, Stops, Unsaid, Move, Goes, Spends, Halts, Refuses, Ends, Unknown, Stuck, Scene, Rest, step}
+use Rattle.code_form.specs.Machine.{Position, Control, After, To, Stops, Unsaid, Move, Goes, Spends, Halts, Refuses, Ends, Unknown, Stuck, Mem, Scene, Rest, step}
 use Rattle.code_form.specs.Machine.{free, given, answered, takes_reply, Stage, On, Over, Lost}
 use Rattle.code_form.specs.Machine.{after_stage, mark_stage, move_stage, reply_stage, stage_at, advance, carry_on, exec, have_room, start}
 use Rattle.code_form.specs.Machine as machine
@@ -44,13 +44,13 @@ Pays n k (Over r) = (q : Request) → r.how ≡ halts.Asks q → k + 1 ≤ n
 Pays n k Lost = Unit {0}
 
 after_pays : (n : ℕ) (a : After) (d : Control) (s : Scene) → Pays (suc n) (length s.replies) (after_stage a d (record s { marks = n }))
-after_pays n (To c' cells) d s = omega arith
-after_pays n (machine.Asks c' q cells) d s = omega arith
+after_pays n (To c' m) d s = omega arith
+after_pays n (machine.Asks c' q m) d s = omega arith
 after_pays n (Stops stop) d s = λ q is. absurd (cc is)
 after_pays n Unsaid d s = tt
 
 move_pays : (m : Move) (d : Control) (s : Scene) → Pays (s.marks + 0) (length s.replies) (move_stage m d s)
-move_pays (Goes c' cells) d s = omega arith
+move_pays (Goes c' m) d s = omega arith
 move_pays (Spends a) d s = by s.marks
   where
     by : (n : ℕ) → Pays (n + 0) (length s.replies) (mark_stage n a d s)
@@ -73,8 +73,8 @@ answered_owes q (replies.Truth b) c = refl
 answered_owes q (replies.Stopped stop) c = refl
 
 stage_pays : (p : Program) (w : Waits) (c : Position) (s : Scene) → Pays (s.marks + owed w) (length s.replies) (stage_at w p c s)
-stage_pays p Nothing c s = move_pays (step p c s.cells) (free c) s
-stage_pays p (Given r) c s = move_pays (takes_reply (instr_of (slice_get p.lines c.pc)) r c s.cells) (given c r) s
+stage_pays p Nothing c s = move_pays (step p c s.mem) (free c) s
+stage_pays p (Given r) c s = move_pays (takes_reply (instr_of (slice_get p.lines c.pc)) r c s.mem) (given c r) s
 stage_pays p (Asked q) c s = by s.replies
   where
     by : (rs : List Reply) → Pays (s.marks + 1) (length rs) (reply_stage rs q c s)
@@ -102,15 +102,15 @@ start_owes p = by (have_room p)
     by false = refl
 
 module _ (core : Core) (typed : IsWellTyped core) (alone : core.packets ≡ []) (marks : ℕ) where
-  abbrev first : Cells
+  abbrev first : Mem
   first = begun (program_of core)
 
   -- where its evaluation stands at a request, it has spent more marks than it got replies
-  fewer_replies : (replies : List Reply) → AsksOnly (evaluate core [] marks replies) (λ _. length replies + 1 ≤ marks)
-  fewer_replies replies = by (evaluate core [] marks replies) comes.shows
+  fewer_replies : (replies : List Reply) → AsksOnly (evaluate core [] no_spaces marks replies) (λ _. length replies + 1 ≤ marks)
+  fewer_replies replies = by (evaluate core [] no_spaces marks replies) comes.shows
     where
-      comes : Comes (program_of core) (start (program_of core)) (scene_of (at_start core [] marks replies) first) (evaluate core [] marks replies)
-      comes = (behaves core typed).ends (at_start core [] marks replies) first (has_begun core (program_of core) (behaves core typed) alone)
+      comes : Comes (program_of core) (start (program_of core)) (scene_of (at_start core [] no_spaces marks replies) first) (evaluate core [] no_spaces marks replies)
+      comes = (behaves core typed).ends (at_start core [] no_spaces marks replies) first (has_begun core (program_of core) (behaves core typed) alone)
 
       by : (e : Ending) → Shows (program_of core) e comes.rest → AsksOnly e (λ _. length replies + 1 ≤ marks)
       by (Ended w) h = tt
@@ -118,12 +118,12 @@ module _ (core : Core) (typed : IsWellTyped core) (alone : core.packets ≡ []) 
       by (OutOfMarks w) h = tt
       by (Asks q w) h =
           let p = program_of core in
-          let paid = asks_pay p comes.steps (start p) (scene_of (at_start core [] marks replies) first) comes.rest q comes.comes h.how in
+          let paid = asks_pay p comes.steps (start p) (scene_of (at_start core [] no_spaces marks replies) first) comes.rest q comes.comes h.how in
           omega (arith, paid, start_owes p)
 
   suffices : (n : ℕ) (replies : List Reply) → marks + 1 ≤ n + length replies → length replies ≤ marks → Suffices n core marks replies
   suffices zero replies all few = absurd (omega (arith, all, few))
-  suffices (suc n) replies all few = by (evaluate core [] marks replies) (fewer_replies replies)
+  suffices (suc n) replies all few = by (evaluate core [] no_spaces marks replies) (fewer_replies replies)
       (λ r more few. suffices n (replies ++ r ∷ []) more few)
     where
       by : (e : Ending) → AsksOnly e (λ _. length replies + 1 ≤ marks)

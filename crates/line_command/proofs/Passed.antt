@@ -23,8 +23,8 @@ Longer more Lost c s st = Unit {0}
 module _ (p : Program) (more : List Reply) where
   paid_longer : (m : ℕ) (a : After) (d : Control) (s : Scene)
       → Longer more (after_stage a d (record s { marks = m })) d s (after_stage a d (longer more (record s { marks = m })))
-  paid_longer m (To c' cells) d s = refl
-  paid_longer m (Asks c' q cells) d s = refl
+  paid_longer m (To c' m') d s = refl
+  paid_longer m (Asks c' q m') d s = refl
   paid_longer m (Stops stop) d s = λ paused. absurd paused
   paid_longer m Unsaid d s = tt
 
@@ -33,7 +33,7 @@ module _ (p : Program) (more : List Reply) where
   mark_longer (suc m) a d s = paid_longer m a d s
 
   move_longer : (m : Move) (d : Control) (s : Scene) → Longer more (move_stage m d s) d s (move_stage m d (longer more s))
-  move_longer (Goes c' cells) d s = refl
+  move_longer (Goes c' m') d s = refl
   move_longer (Spends a) d s = mark_longer s.marks a d s
   move_longer (Halts stop) d s = λ paused. absurd paused
   move_longer (Refuses stop c') d s = refl
@@ -43,8 +43,8 @@ module _ (p : Program) (more : List Reply) where
 
   stage_longer : (w : Waits) (c : Position) (s : Scene)
       → Longer more (stage_at w p c s) (record { position = c; waits = w }) s (stage_at w p c (longer more s))
-  stage_longer Nothing c s = move_longer (step p c s.cells) (free c) s
-  stage_longer (Given r) c s = move_longer (takes_reply (instr_of (slice_get p.lines c.pc)) r c s.cells) (given c r) s
+  stage_longer Nothing c s = move_longer (step p c s.mem) (free c) s
+  stage_longer (Given r) c s = move_longer (takes_reply (instr_of (slice_get p.lines c.pc)) r c s.mem) (given c r) s
   stage_longer (Asked q) c s = by s.replies
     where
       by : (rs : List Reply) → Longer more (reply_stage rs q c s) (asking c q) s (reply_stage (rs ++ more) q c (longer more s))

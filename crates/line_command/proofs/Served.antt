@@ -1,9 +1,8 @@
 -- The invariant of a program that is served.
 use Rattle.std.specs.Prelude.{◌≡◌, ℕ, ◌+◌, ◌-◌, ◌≤◌, List, ◌++◌, length}
 use Rattle.eu_base.specs.declared.request.Reply.{Reply}
-use Rattle.eu_base.specs.Cells.{Cells}
 use Rattle.code_form.specs.Program.{Program}
-use Rattle.code_form.specs.Machine.{Control, Rest, start}
+use Rattle.code_form.specs.Machine.{Mem, Control, Rest, start}
 use Rattle.code_form.specs.Runs.{Rests}
 use Rattle.elan_types.specs.declared.core_phrase.Core.{Core}
 use Rattle.line_command.specs.Screen.{Screen, Written, blank, put_all}
@@ -13,15 +12,15 @@ use Rattle.line_command.specs.Program.{line_marks, Output, output_in, output_of}
 abbrev pub behind : List Written → Output → Output
 behind ws more = record { written = ws ++ more.written; stop = more.stop }
 
--- the run began over these first cells and has come to this control over these; its requests so far were answered, each for a mark, and
+-- the run began over this first memory and has come to this control over this; its requests so far were answered, each for a mark, and
 -- their output is on the screen
-pub record IsServed (core : Core) (p : Program) (first : Cells) (control : Control) (cells : Cells) (marks : ℕ) (s : Screen) : Type 0 where
+pub record IsServed (core : Core) (p : Program) (first : Mem) (control : Control) (now : Mem) (marks : ℕ) (s : Screen) : Type 0 where
   pub replies : List Reply
   pub written : List Written
   -- with more replies it comes from here to the rest to which it comes from its start
   pub on : (more : List Reply) (last : Rest)
-      → Rests p (start p) (record { cells = first; marks = line_marks; replies = replies ++ more }) last
-      → Rests p control (record { cells = cells; marks = marks; replies = more }) last
+      → Rests p (start p) (record { mem = first; marks = line_marks; replies = replies ++ more }) last
+      → Rests p control (record { mem = now; marks = marks; replies = more }) last
   pub shown : s ≡ put_all blank written
   pub paid : marks + length replies ≤ line_marks
   -- what the program writes, it has written, or writes in the evaluations that are left

@@ -7,17 +7,18 @@ use Rattle.eu_base.specs.declared.request.Request.{Request}
 use Rattle.eu_base.specs.declared.request.Reply.{Reply}
 use Rattle.eu_base.specs.declared.request.Reply.TheVariants as replies
 use Rattle.eu_base.specs.Cells.{Cells}
+use Rattle.eu_base.specs.DataSpaces.{Heads, no_spaces}
 use Rattle.code_form.specs.declared.halt.Halt.{Halt}
 use Rattle.code_form.specs.declared.halt.Halt.TheVariants as halts
 use Rattle.code_form.specs.Program.{Program}
-use Rattle.code_form.specs.Machine.{Position, Control, asking, Rest, have_room, start, answered}
+use Rattle.code_form.specs.Machine.{Mem, Position, Control, asking, Rest, have_room, start, answered}
 use Rattle.code_form.specs.declared.waits.Waits.{Waits}
 use Rattle.code_form.specs.declared.waits.Waits.TheVariants.{Nothing, Asked, Refused}
 use Rattle.code_form.specs.Runs.{Rests, IsPaused, asked}
 use Rattle.place_gen.specs.Correct.{HasSlots, Shows, Comes}
 use Rattle.place_gen.specs.Correct as place
 use Rattle.code_gen.specs.Correct.{Behaves}
-use Rattle.zero_state.specs.Stepping.{scene_of}
+use Rattle.zero_state.specs.Stepping.{mem_of, scene_of}
 use Rattle.zero_machine.specs.Running.{RestsSo}
 use Rattle.elan_types.specs.declared.core_phrase.Core.{Core}
 use Rattle.elan_types.specs.Eval.{World}
@@ -76,50 +77,51 @@ answered_free q (replies.Truth b) c = refl
 answered_free q (replies.Stopped stop) c = refl
 
 -- at the start nothing was answered
-pub served_first : (core : Core) (p : Program) (first : Cells) (control : Control) → control ≡ start p
+pub served_first : (core : Core) (p : Program) (first : Mem) (control : Control) → control ≡ start p
     → IsServed core p first control first line_marks blank
 served_first core p first control is = record {
   replies = [];
   written = [];
-  on = λ more last h. subst (λ (c : Control). Rests p c (record { cells = first; marks = line_marks; replies = more }) last) (sym is) h;
+  on = λ more last h. subst (λ (c : Control). Rests p c (record { mem = first; marks = line_marks; replies = more }) last) (sym is) h;
   shown = refl;
   paid = omega arith;
   so_far = refl;
 }
 
 -- the reply that is given is taken
-took : (p : Program) (w : Waits) (c : Position) (q : Request) (r : Reply) (cells : Cells) (marks : ℕ) (more : List Reply) (last : Rest) → w ≡ Asked q
-    → Rests p (record { position = c; waits = w }) (record { cells = cells; marks = marks; replies = r ∷ more }) last
-    → Rests p (answered q r c) (record { cells = cells; marks = marks; replies = more }) last
-took p w c q r cells marks more last is h =
-    by (subst (λ (w : Waits). Rests p (record { position = c; waits = w }) (record { cells = cells; marks = marks; replies = r ∷ more }) last) is h)
+took : (p : Program) (w : Waits) (c : Position) (q : Request) (r : Reply) (mem : Mem) (marks : ℕ) (more : List Reply) (last : Rest) → w ≡ Asked q
+    → Rests p (record { position = c; waits = w }) (record { mem = mem; marks = marks; replies = r ∷ more }) last
+    → Rests p (answered q r c) (record { mem = mem; marks = marks; replies = more }) last
+took p w c q r mem marks more last is h =
+    by (subst (λ (w : Waits). Rests p (record { position = c; waits = w }) (record { mem = mem; marks = marks; replies = r ∷ more }) last) is h)
   where
-    by : Rests p (asking c q) (record { cells = cells; marks = marks; replies = r ∷ more }) last
-        → Rests p (answered q r c) (record { cells = cells; marks = marks; replies = more }) last
+    by : Rests p (asking c q) (record { mem = mem; marks = marks; replies = r ∷ more }) last
+        → Rests p (answered q r c) (record { mem = mem; marks = marks; replies = more }) last
     by (zero, e) = absurd (cc e)
     by (suc n, e) = (n, e)
 
-module _ (core : Core) (p : Program) (first : Cells) (control : Control) (cells : Cells) (marks : ℕ) (s : Screen)
-    (served : IsServed core p first control cells marks s) (b : Behaves core p) (has : HasSlots p (blanks (start_kinds core)) (blanks core.inserted) first) where
+module _ (core : Core) (p : Program) (first : Mem) (control : Control) (now : Mem) (marks : ℕ) (s : Screen)
+    (served : IsServed core p first control now marks s) (b : Behaves core p)
+    (has : HasSlots p (blanks (start_kinds core)) (blanks core.inserted) no_spaces first) where
   -- the evaluation with the replies so far, and the rest to which the run comes next
-  pub comes : Comes p (start p) (place.scene_of (at_start core [] line_marks served.replies) first) (evaluate core [] line_marks served.replies)
-  comes = b.ends (at_start core [] line_marks served.replies) first has
+  pub comes : Comes p (start p) (place.scene_of (at_start core [] no_spaces line_marks served.replies) first) (evaluate core [] no_spaces line_marks served.replies)
+  comes = b.ends (at_start core [] no_spaces line_marks served.replies) first has
 
   abbrev pub next : Rest
   next = comes.rest
 
-  pub rests : Rests p control (scene_of cells marks) next
+  pub rests : Rests p control (scene_of now marks) next
   rests =
       served.on [] next
-      (subst (λ rs. Rests p (start p) (record { cells = first; marks = line_marks; replies = rs }) next) (sym (append-nil served.replies))
+      (subst (λ rs. Rests p (start p) (record { mem = first; marks = line_marks; replies = rs }) next) (sym (append-nil served.replies))
       (comes.steps, comes.comes))
 
-  module _ (holds : Cells → Type 0) (h : Halt) (control' : Control) (marks' : ℕ) (so : RestsSo holds h control' marks' next) where
+  module _ (holds : Cells → Type 0) (heads : Heads) (h : Halt) (control' : Control) (marks' : ℕ) (so : RestsSo holds heads h control' marks' next) where
     how : next.how ≡ h
     how = ap (λ (r : Rest). r.how) so.1
 
     -- what is left to write where the evaluation stands so; an evaluation is always left
-    whole_output : (e : Ending) (stop : Option Stop) → evaluate core [] line_marks served.replies ≡ e
+    whole_output : (e : Ending) (stop : Option Stop) → evaluate core [] no_spaces line_marks served.replies ≡ e
         → ((more : Reply → Output) → output_at e more ≡ ends stop) → output_of core ≡ record { written = served.written; stop = stop }
     whole_output e stop is ended = by (line_marks + 1 - length served.replies) refl
       where
@@ -127,13 +129,13 @@ module _ (core : Core) (p : Program) (first : Cells) (control : Control) (cells 
         by zero all = absurd (omega (arith, all, served.paid))
         by (suc n) all =
             let more : Reply → Output = λ r. output_in n core line_marks (served.replies ++ r ∷ []) in
-            let left : output_at (evaluate core [] line_marks served.replies) more ≡ ends stop = ap (λ x. output_at x more) is ∙ ended more in
+            let left : output_at (evaluate core [] no_spaces line_marks served.replies) more ≡ ends stop = ap (λ x. output_at x more) is ∙ ended more in
             served.so_far ∙ ap (λ k. behind served.written (output_in k core line_marks served.replies)) all
             ∙ ap (behind served.written) left
             ∙ ap (λ ws. record { written = ws; stop = stop }) (append-nil served.written)
 
     -- a rest that ends the program
-    whole : (e : Ending) (stop : Option Stop) (out : List ℕ) → evaluate core [] line_marks served.replies ≡ e
+    whole : (e : Ending) (stop : Option Stop) (out : List ℕ) → evaluate core [] no_spaces line_marks served.replies ≡ e
         → ((more : Reply → Output) → output_at e more ≡ ends stop) → out ≡ final s stop → text.Shows core out
     whole e stop out is ended out_is =
         out_is ∙ ap (λ x. final x stop) served.shown
@@ -141,42 +143,40 @@ module _ (core : Core) (p : Program) (first : Cells) (control : Control) (cells 
 
     pub served_ended : h ≡ halts.Ended → (out : List ℕ) → out ≡ final s None → text.Shows core out
     served_ended is out out_is =
-        let e = shows_ended p (evaluate core [] line_marks served.replies) next comes.shows (how ∙ is) in
+        let e = shows_ended p (evaluate core [] no_spaces line_marks served.replies) next comes.shows (how ∙ is) in
         whole (Ended e.0) None out e.1 (λ more. refl) out_is
 
     pub served_stopped : (stop : Stop) → h ≡ halts.Stopped stop → (out : List ℕ) → out ≡ final s (Some stop) → text.Shows core out
     served_stopped stop is out out_is =
-        let e = shows_stopped p stop (evaluate core [] line_marks served.replies) next comes.shows (how ∙ is) in
+        let e = shows_stopped p stop (evaluate core [] no_spaces line_marks served.replies) next comes.shows (how ∙ is) in
         whole (Stopped stop e.0) (Some stop) out e.1 (λ more. refl) out_is
 
     pub served_marked : h ≡ halts.Marked → (out : List ℕ) → out ≡ final s (Some LineMarks) → text.Shows core out
     served_marked is out out_is =
-        let e = shows_marked p (evaluate core [] line_marks served.replies) next comes.shows (how ∙ is) in
+        let e = shows_marked p (evaluate core [] no_spaces line_marks served.replies) next comes.shows (how ∙ is) in
         whole (OutOfMarks e.0) (Some LineMarks) out e.1 (λ more. refl) out_is
 
     -- and one at a request, which is answered
     pub served_on : (q : Request) (s' : Screen) (control'' : Control) → h ≡ halts.Asks q → s' ≡ screen.with_request s q → control'.waits ≡ Asked q
-        → control'' ≡ answered q (reply_to q) control'.position → marks' < marks → IsServed core p first control'' next.scene.cells marks' s'
+        → control'' ≡ answered q (reply_to q) control'.position → marks' < marks → IsServed core p first control'' (mem_of heads next.scene.mem.cells) marks' s'
     served_on q s' control'' is put_is waits answer less =
         let longer_by : length (served.replies ++ reply ∷ []) ≡ length served.replies + 1 = length-append served.replies (reply ∷ []) in
         record {
           replies = served.replies ++ reply ∷ [];
           written = served.written ++ written_by q;
           on = λ more last h.
-              let whole : Rests p (start p) (record { cells = first; marks = line_marks; replies = served.replies ++ reply ∷ more }) last =
-              subst (λ rs. Rests p (start p) (record { cells = first; marks = line_marks; replies = rs }) last)
+              let whole : Rests p (start p) (record { mem = first; marks = line_marks; replies = served.replies ++ reply ∷ more }) last =
+              subst (λ rs. Rests p (start p) (record { mem = first; marks = line_marks; replies = rs }) last)
               (append_assoc served.replies (reply ∷ []) more) h in
               let there : Rests p next.control (longer (reply ∷ more) next.scene) last =
-              passed p (reply ∷ more) rests.0 control (scene_of cells marks) next last paused rests.1 (served.on (reply ∷ more) last whole) in
-              subst (λ (c : Control). Rests p c (record { cells = next.scene.cells; marks = marks'; replies = more }) last) (sym answer)
-              (took p control'.waits control'.position q reply next.scene.cells marks' more last waits
-              (subst (λ (r : Rest). Rests p r.control
-              (longer (reply ∷ more) (record { cells = next.scene.cells; marks = r.scene.marks; replies = r.scene.replies }))
-              last) so.1 there));
+              passed p (reply ∷ more) rests.0 control (scene_of now marks) next last paused rests.1 (served.on (reply ∷ more) last whole) in
+              subst (λ (c : Control). Rests p c (record { mem = mem_of heads next.scene.mem.cells; marks = marks'; replies = more }) last) (sym answer)
+              (took p control'.waits control'.position q reply (mem_of heads next.scene.mem.cells) marks' more last waits
+              (subst (λ (r : Rest). Rests p r.control (longer (reply ∷ more) r.scene) last) so.1 there));
           shown = put_is ∙ (ap (λ x. screen.put_all x (written_by q)) served.shown ∙ sym (put_all-append blank served.written (written_by q)));
           paid = omega (arith, longer_by, served.paid, less);
           so_far =
-              let e = shows_asks p q (evaluate core [] line_marks served.replies) next comes.shows (how ∙ is) in
+              let e = shows_asks p q (evaluate core [] no_spaces line_marks served.replies) next comes.shows (how ∙ is) in
               let n : ℕ = line_marks + 1 - length (served.replies ++ reply ∷ []) in
               let more : Reply → Output = λ r. output_in n core line_marks (served.replies ++ r ∷ []) in
               let one_more : line_marks + 1 - length served.replies ≡ suc n = omega (arith, longer_by, served.paid, less) in

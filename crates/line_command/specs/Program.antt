@@ -7,6 +7,7 @@ use Rattle.eu_base.specs.declared.request.Request.TheVariants.{Out}
 use Rattle.eu_base.specs.declared.request.Reply.{Reply}
 use Rattle.eu_base.specs.declared.request.Reply.TheVariants.{Done}
 use Rattle.eu_base.specs.declared.request.Reply.TheVariants as replies
+use Rattle.eu_base.specs.DataSpaces.{no_spaces}
 use Rattle.elan_types.specs.declared.core_phrase.Core.{Core}
 use Rattle.elan_types.specs.Command.{Ending, Ended, Stopped, OutOfMarks, Asks, evaluate}
 use Rattle.line_command.specs.Screen.{Written, written_by, blank, put_all, final}
@@ -44,7 +45,7 @@ output_at (Asks request w) answered = writes_before request (answered (reply_to 
 -- program is evaluated again, with one reply more. Where no evaluation is left it is as if its marks were spent.
 abbrev pub output_in : (evaluations : ℕ) → Core → (marks : ℕ) → List Reply → Output
 output_in zero core marks replies = ends (Some LineMarks)
-output_in (suc n) core marks replies = output_at (evaluate core [] marks replies) (λ reply. output_in n core marks (replies ++ reply ∷ []))
+output_in (suc n) core marks replies = output_at (evaluate core [] no_spaces marks replies) (λ reply. output_in n core marks (replies ++ reply ∷ []))
 
 -- a request is followed by more, and nothing else is
 abbrev pub AsksOnly : Ending → (later : Reply → Type 0) → Type 0
@@ -56,7 +57,7 @@ AsksOnly (Asks request w) later = later (reply_to request)
 -- so many evaluations are enough to tell all that a program writes: the last of them stands at no request
 abbrev pub Suffices : (evaluations : ℕ) → Core → (marks : ℕ) → List Reply → Type 0
 Suffices zero core marks replies = ⊥
-Suffices (suc n) core marks replies = AsksOnly (evaluate core [] marks replies) (λ reply. Suffices n core marks (replies ++ reply ∷ []))
+Suffices (suc n) core marks replies = AsksOnly (evaluate core [] no_spaces marks replies) (λ reply. Suffices n core marks (replies ++ reply ∷ []))
 
 -- what it writes from its start on, with the marks of a line. One evaluation more than there are marks is enough for each program
 -- that is accepted, since each request costs a mark

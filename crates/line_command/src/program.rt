@@ -1,8 +1,10 @@
 //! Programs that run.
 ghost use Rattle.std.specs.Prelude.{◌≡◌, [], IfOk};
 ghost use Rattle.eu_base.specs.Cells.{Free, Cells, HasFaultCause};
+ghost use Rattle.eu_base.specs.DataSpaces.{heads_of, no_spaces};
 ghost use Rattle.code_form.specs.Machine.{start};
 ghost use Rattle.code_form.specs.Valid.{Fits};
+ghost use Rattle.zero_state.specs.Stepping.{mem_of};
 ghost use Rattle.place_gen.specs.Correct.{HasSlots};
 ghost use Rattle.code_gen.specs.Correct.{Behaves};
 ghost use Rattle.elan_types.specs.declared.core_phrase.Core.{Core};
@@ -18,9 +20,10 @@ use task_run::TaskRun;
 /// How many marks a line may spend.
 const MARKS: u32 = 100_000;
 
-/// What a program shows with the marks of a line, run from its start, its variables in this memory, of which nothing need be known.
+/// What a program shows with the marks of a line, run from its start, its variables in this memory, of which nothing need be known, and which has no data spaces.
 pub(crate) fn run<M: Memory>(alloc: Global, code: &Code, memory: &mut M) -> Result<Bytes, MemFault>
     requires nothing { M.holds memory.old (λ _. Free) }
+    requires spaces { M.heads memory.old ≡ heads_of no_spaces }
     ensures shows { (core : Core) → core.packets ≡ [] → Behaves core code.now → IfOk result (Shows core) }
     ensures cause { HasFaultCause (M.faults memory.old) (M.faults memory.new) result }
 {
@@ -38,7 +41,7 @@ fn serve<M: Memory>(
     requires starts { command.old ≡ start code.now }
     requires fits { Fits code.now command.old }
     ensures shows { (core : Core) (first : Cells) → M.holds memory.old first → Behaves core code.now →
-        HasSlots code.now (blanks (start_kinds core)) (blanks core.inserted) first → IfOk result (Shows core) }
+        HasSlots code.now (blanks (start_kinds core)) (blanks core.inserted) no_spaces (mem_of (M.heads memory.old) first) → IfOk result (Shows core) }
     ensures cause { HasFaultCause (M.faults memory.old) (M.faults memory.new) result }
 {
     let mut marks = MARKS;

@@ -43,14 +43,14 @@ pub installs_so : (unit : Compiled) (lib grown : Library) (i : Interface) (owns 
     → unit.shown ≡ Some i → c.unit ≡ unit → AreNumbered lib → AreAllGiven lib.last owns → (live : Live) → StandOver (kinds_in lib) live owns k c w
     → slice_get owns k ≡ Some own → IsInstalled lib unit grown → (number : ℕ) → number ≡ lib.last + 1 → (new : Live)
     → ((later : List ℕ → List Kind) → AgreeBut (kinds_in lib) later owns k → later (own.packets ++ number ∷ []) ≡ kinds_in lib own.packets ++ c.unit.core.inserted
-    → Stand later new (with_own k (λ o. with_packet number (with_doing (Idle (store_in c w)) o)) owns))
-    → (grown ≡ installed unit i lib) × Stand (kinds_in grown) new (with_own k (λ o. with_packet (lib.last + 1) (with_doing (Idle (store_in c w)) o)) owns)
+    → Stand later new (with_own k (λ o. with_packet number (with_doing (Idle (store_in w)) o)) owns))
+    → (grown ≡ installed unit i lib) × Stand (kinds_in grown) new (with_own k (λ o. with_packet (lib.last + 1) (with_doing (Idle (store_in w)) o)) owns)
 installs_so unit lib grown i owns k own c w whole shows is numbered given live over has (j, showed, made) number next new stands =
     let same : grown ≡ installed unit i lib =
     made ∙ ap (λ (x : Interface). installed unit x lib) (same_Some j i (sym showed ∙ shows)) in (
       same,
-      subst (λ (l : Library). Stand (kinds_in l) new (with_own k (λ o. with_packet (lib.last + 1) (with_doing (Idle (store_in c w)) o)) owns)) (sym same)
-          (subst (λ (n : ℕ). Stand (kinds_in (installed unit i lib)) new (with_own k (λ o. with_packet n (with_doing (Idle (store_in c w)) o)) owns)) next
+      subst (λ (l : Library). Stand (kinds_in l) new (with_own k (λ o. with_packet (lib.last + 1) (with_doing (Idle (store_in w)) o)) owns)) (sym same)
+          (subst (λ (n : ℕ). Stand (kinds_in (installed unit i lib)) new (with_own k (λ o. with_packet n (with_doing (Idle (store_in w)) o)) owns)) next
           (stands (kinds_in (installed unit i lib)) (installed_agrees unit i lib owns k given)
           (ap (λ (n : ℕ). kinds_in (installed unit i lib) (own.packets ++ n ∷ [])) next
           ∙ installed_kinds unit i lib live owns k c w over own has is whole numbered))),

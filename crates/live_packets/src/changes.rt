@@ -65,7 +65,7 @@ pub fn install(
     ensures { OnOk result ((i : Interface) (owns : Lists Own) (own : Own) (c : Command) (w : World) → unit.shown ≡ Some i → c.unit ≡ unit
         → AreNumbered packets.old → AreAllGiven packets.old.last owns → StandOver (kinds_in packets.old) tasks.old owns place c w → slice_get owns place ≡ Some own
         → (packets.new ≡ installed unit i packets.old)
-        × Stand (kinds_in packets.new) tasks.new (with_own place (λ o. with_packet (packets.old.last + 1) (with_doing (Idle (store_in c w)) o)) owns)) }
+        × Stand (kinds_in packets.new) tasks.new (with_own place (λ o. with_packet (packets.old.last + 1) (with_doing (Idle (store_in w)) o)) owns)) }
 {
     let (unit, code) = unit.parts();
     let number = packets.install(alloc, Unit::of(unit, code))?;

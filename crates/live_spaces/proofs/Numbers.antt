@@ -1,5 +1,5 @@
 -- Numbers of live spaces, after spaces came and went.
-use Rattle.std.proofs.Common.{◌≡◌, ◌<◌, ◌≤◌, ◌+◌, ℕ, Bool, true, false, cond, List, [], ◌∷◌, ◌++◌, length, Option, None, Some, refl, ap, sym, ◌∙◌, arith, nat_eq, true≢false}
+use Rattle.std.proofs.Common.{◌≡◌, ◌<◌, ◌≤◌, ◌+◌, ℕ, Bool, true, false, cond, List, [], ◌∷◌, ◌++◌, length, Option, None, Some, refl, ap, sym, ◌∙◌, arith, nat_eq, eqb-true, true≢false}
 use Rattle.std.proofs.lemmas.List.{length-append}
 use Rattle.std.proofs.lemmas.Map.{length-set_value}
 use Rattle.std.proofs.lemmas.Option.{none-some}
@@ -89,3 +89,19 @@ with_is n w (e ∷ es) live = by (nat_eq n e.0) refl live (with_is n w es)
         → the_space n (cond b ((e.0, w) ∷ es) (e ∷ with_space n w es)) ≡ w
     by true same is rest = ap (λ (b : Bool). unwrap_or (cond b (Some w) (space_at n es)) no_space) same
     by false same is rest = ap (λ (b : Bool). unwrap_or (cond b (Some e.1) (space_at n (with_space n w es))) no_space) same ∙ rest is
+
+-- a number below all is free, and after the space under a number went, none lives under it
+below_free : (low : ℕ) (es : List (ℕ × SpaceData)) (last n : ℕ) → Rises low es last → n ≤ low → space_at n es ≡ None
+below_free low [] last n r down = refl
+below_free low (e ∷ es) last n r down =
+    let up = r.0 in
+    let other : nat_eq n e.0 ≡ false = grind (arith, up, down) in
+    ap (λ (b : Bool). cond b (Some e.1) (space_at n es)) other ∙ below_free e.0 es last n r.1 (omega (arith, up, down))
+
+pub gone_without : (low n : ℕ) (es : List (ℕ × SpaceData)) (last : ℕ) → Rises low es last → space_at n (without n es) ≡ None
+gone_without low n [] last r = refl
+gone_without low n (e ∷ es) last r = by (nat_eq n e.0) refl (gone_without e.0 n es last r.1)
+  where
+    by : (b : Bool) → nat_eq n e.0 ≡ b → space_at n (without n es) ≡ None → space_at n (cond b es (e ∷ without n es)) ≡ None
+    by true same rest = below_free e.0 es last n r.1 (let is : n ≡ e.0 = eqb-true n e.0 same in omega (arith, is))
+    by false other rest = ap (λ (b : Bool). cond b (Some e.1) (space_at n (without n es))) other ∙ rest

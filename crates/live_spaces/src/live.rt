@@ -26,8 +26,8 @@ pub const MOST_LIVE: u32 = 16;
 /// pool of the spaces.
 #[derive(Drop)]
 pub struct Spaces {
-    spaces: IndexMap<u32, DataSpace>,
-    last: u32,
+    pub(crate) spaces: IndexMap<u32, DataSpace>,
+    pub(crate) last: u32,
 }
 
 impl Model for Spaces {
@@ -140,6 +140,7 @@ impl Spaces {
     pub fn forget(&mut self, pool: &mut Pool, s: SpaceNo)
         requires agree { Stands pool.old (space_roots self.old.spaces) 0 }
         ensures others { self.new ≡ record self.old { spaces = without s.0 self.old.spaces } }
+        ensures gone { space_at s.0 self.new.spaces ≡ None }
         ensures frames { Frames pool.old pool.new (space_roots self.old.spaces) (space_roots self.new.spaces) }
         ensures keeps { KeepsBytes pool.old pool.new (space_roots self.new.spaces) }
         ensures frees { FreesOnly pool.old pool.new }

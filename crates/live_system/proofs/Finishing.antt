@@ -73,15 +73,15 @@ module _ (desk : Desk) (library : Library) (live : Live) (t : TaskNo) (c : Comma
 
   -- the task is idle
   abbrev idle : Moment
-  idle = on_system (does t (Idle (store_in c w))) m
+  idle = on_system (does t (Idle (store_in w))) m
 
   full_before : is_full library ≡ is_full m.system.shared.library
   full_before = ap (λ (n : Moment). is_full n.system.shared.library) h.is
 
-  full_after : is_full library ≡ is_full (on_system (does t (Idle (store_in c w))) m).system.shared.library
+  full_after : is_full library ≡ is_full (on_system (does t (Idle (store_in w))) m).system.shared.library
   full_after =
-      ap (λ (n : Moment). is_full n.system.shared.library) (changes desk library h.owns t h.k (with_doing (Idle (store_in c w))) (sym h.at))
-      ∙ ap (λ (n : Moment). is_full (on_system (does t (Idle (store_in c w))) n).system.shared.library) h.is
+      ap (λ (n : Moment). is_full n.system.shared.library) (changes desk library h.owns t h.k (with_doing (Idle (store_in w))) (sym h.at))
+      ∙ ap (λ (n : Moment). is_full (on_system (does t (Idle (store_in w))) n).system.shared.library) h.is
 
   fits_with : (f : Own → Own) → ((o : Own) → (f o).packets ≡ o.packets) → (later : Live)
       → IsMachine (machine desk library later) (with_own h.k f h.owns)
@@ -92,47 +92,47 @@ module _ (desk : Desk) (library : Library) (live : Live) (t : TaskNo) (c : Comma
   }
 
   -- a program
-  pub program : (stop : Option Stop) → c.unit.shown ≡ None → (later : Live) → Stand (kinds_in library) later (with_own h.k (with_doing (Idle (store_in c w))) h.owns)
+  pub program : (stop : Option Stop) → c.unit.shown ≡ None → (later : Live) → Stand (kinds_in library) later (with_own h.k (with_doing (Idle (store_in w))) h.owns)
       → (stop ≡ told_by c.unit.shown stop m) × StandsAt (machine desk library later) (finished stop t c w m)
   program stop shows later stand =
-      let stands : StandsAt (machine desk library later) (on_system (does t (Idle (store_in c w))) m) = record {
-        owns = with_own h.k (with_doing (Idle (store_in c w))) h.owns;
+      let stands : StandsAt (machine desk library later) (on_system (does t (Idle (store_in w))) m) = record {
+        owns = with_own h.k (with_doing (Idle (store_in w))) h.owns;
         is =
-            changes desk library h.owns t h.k (with_doing (Idle (store_in c w))) (sym h.at)
-            ∙ ap (λ (n : Moment). on_system (does t (Idle (store_in c w))) n) h.is;
-        machine = fits_with (with_doing (Idle (store_in c w))) (λ o. refl) later;
+            changes desk library h.owns t h.k (with_doing (Idle (store_in w))) (sym h.at)
+            ∙ ap (λ (n : Moment). on_system (does t (Idle (store_in w))) n) h.is;
+        machine = fits_with (with_doing (Idle (store_in w))) (λ o. refl) later;
         stand = stand;
       } in
       subst
-      (λ (s : Option Interface). (stop ≡ told_by s stop m) × StandsAt (machine desk library later) (leaves_by s stop t c (on_system (does t (Idle (store_in c w))) m)))
+      (λ (s : Option Interface). (stop ≡ told_by s stop m) × StandsAt (machine desk library later) (leaves_by s stop t c (on_system (does t (Idle (store_in w))) m)))
       (sym shows) (refl, stands)
 
   -- an insertion that stopped, or for which there is no room
   pub settled_so : (o : Own) → slice_get h.owns h.k ≡ Some o → (stop : Option Stop) (i : Interface) → c.unit.shown ≡ Some i → (told : Stop)
       → Some told ≡ insertion_told stop (is_full library) → (later : Live)
-      → Stand (kinds_in library) later (with_own h.k (with_doing (Idle (settled (own_variables c) (store_in c w)))) h.owns)
+      → Stand (kinds_in library) later (with_own h.k (with_doing (Idle (settled (own_variables c) (store_in w)))) h.owns)
       → (Some told ≡ told_by c.unit.shown stop m) × StandsAt (machine desk library later) (finished stop t c w m)
   settled_so o has stop i shows told is later stand =
-      let stands : StandsAt (machine desk library later) (on_system (settle t (own_variables c)) (on_system (does t (Idle (store_in c w))) m)) = record {
-        owns = with_own h.k (with_doing (Idle (settled (own_variables c) (store_in c w)))) h.owns;
+      let stands : StandsAt (machine desk library later) (on_system (settle t (own_variables c)) (on_system (does t (Idle (store_in w))) m)) = record {
+        owns = with_own h.k (with_doing (Idle (settled (own_variables c) (store_in w)))) h.owns;
         is =
-            settles desk library h.owns t h.k (sym h.at) o has (own_variables c) (store_in c w)
-            ∙ ap (λ (n : Moment). on_system (settle t (own_variables c)) (on_system (does t (Idle (store_in c w))) n)) h.is;
-        machine = fits_with (with_doing (Idle (settled (own_variables c) (store_in c w)))) (λ x. refl) later;
+            settles desk library h.owns t h.k (sym h.at) o has (own_variables c) (store_in w)
+            ∙ ap (λ (n : Moment). on_system (settle t (own_variables c)) (on_system (does t (Idle (store_in w))) n)) h.is;
+        machine = fits_with (with_doing (Idle (settled (own_variables c) (store_in w)))) (λ x. refl) later;
         stand = stand;
       } in
       subst
-      (λ (s : Option Interface). (Some told ≡ told_by s stop m) × StandsAt (machine desk library later) (leaves_by s stop t c (on_system (does t (Idle (store_in c w))) m)))
+      (λ (s : Option Interface). (Some told ≡ told_by s stop m) × StandsAt (machine desk library later) (leaves_by s stop t c (on_system (does t (Idle (store_in w))) m)))
       (sym shows) (
         is ∙ ap (λ (b : Bool). insertion_told stop b) full_before,
         subst (λ (n : Moment). StandsAt (machine desk library later) n)
-            (sym (by stop (is_full (on_system (does t (Idle (store_in c w))) m).system.shared.library) (is ∙ ap (λ (b : Bool). insertion_told stop b) full_after)))
+            (sym (by stop (is_full (on_system (does t (Idle (store_in w))) m).system.shared.library) (is ∙ ap (λ (b : Bool). insertion_told stop b) full_after)))
             stands,
       )
     where
       by : (stop' : Option Stop) (full : Bool) → Some told ≡ insertion_told stop' full
-          → insertion_leaves stop' full t c i (on_system (does t (Idle (store_in c w))) m)
-          ≡ on_system (settle t (own_variables c)) (on_system (does t (Idle (store_in c w))) m)
+          → insertion_leaves stop' full t c i (on_system (does t (Idle (store_in w))) m)
+          ≡ on_system (settle t (own_variables c)) (on_system (does t (Idle (store_in w))) m)
       by (Some s) full e = refl
       by None true e = refl
       by None false e = absurd (none-some told (sym e))
@@ -145,15 +145,15 @@ module _ (desk : Desk) (library : Library) (live : Live) (t : TaskNo) (c : Comma
 
   pub inserted_so : (stop : Option Stop) (i : Interface) → c.unit.shown ≡ Some i → None ≡ insertion_told stop (is_full library) → (grown : Library)
       → grown ≡ installed c.unit i library → (later : Live)
-      → Stand (kinds_in grown) later (with_own h.k (λ o. with_packet (library.last + 1) (with_doing (Idle (store_in c w)) o)) h.owns)
+      → Stand (kinds_in grown) later (with_own h.k (λ o. with_packet (library.last + 1) (with_doing (Idle (store_in w)) o)) h.owns)
       → (None ≡ told_by c.unit.shown stop m) × StandsAt (machine desk grown later) (finished stop t c w m)
   inserted_so stop i shows is grown new later stand =
-      let f : Own → Own = λ o. with_packet (library.last + 1) (with_doing (Idle (store_in c w)) o) in
-      let stands : StandsAt (machine desk (installed c.unit i library) later) (on_system (inserted t c.unit i) (on_system (does t (Idle (store_in c w))) m)) = record {
+      let f : Own → Own = λ o. with_packet (library.last + 1) (with_doing (Idle (store_in w)) o) in
+      let stands : StandsAt (machine desk (installed c.unit i library) later) (on_system (inserted t c.unit i) (on_system (does t (Idle (store_in w))) m)) = record {
         owns = with_own h.k f h.owns;
         is =
-            inserts_at c.unit i (store_in c w)
-            ∙ ap (λ (n : Moment). on_system (inserted t c.unit i) (on_system (does t (Idle (store_in c w))) n)) h.is;
+            inserts_at c.unit i (store_in w)
+            ∙ ap (λ (n : Moment). on_system (inserted t c.unit i) (on_system (does t (Idle (store_in w))) n)) h.is;
         machine = record {
           as_many = length_with h.k f h.owns ∙ h.machine.as_many;
           given =
@@ -164,18 +164,18 @@ module _ (desk : Desk) (library : Library) (live : Live) (t : TaskNo) (c : Comma
         stand = subst (λ (lib : Library). Stand (kinds_in lib) later (with_own h.k f h.owns)) new stand;
       } in
       subst
-      (λ (s : Option Interface). (None ≡ told_by s stop m) × StandsAt (machine desk grown later) (leaves_by s stop t c (on_system (does t (Idle (store_in c w))) m)))
+      (λ (s : Option Interface). (None ≡ told_by s stop m) × StandsAt (machine desk grown later) (leaves_by s stop t c (on_system (does t (Idle (store_in w))) m)))
       (sym shows) (
         is ∙ ap (λ (b : Bool). insertion_told stop b) full_before,
         subst (λ (lib : Library). StandsAt (machine desk lib later) (insertion_leaves stop (is_full idle.system.shared.library) t c i idle)) (sym new)
             (subst (λ (n : Moment). StandsAt (machine desk (installed c.unit i library) later) n)
-            (sym (by stop (is_full (on_system (does t (Idle (store_in c w))) m).system.shared.library) (is ∙ ap (λ (b : Bool). insertion_told stop b) full_after)))
+            (sym (by stop (is_full (on_system (does t (Idle (store_in w))) m).system.shared.library) (is ∙ ap (λ (b : Bool). insertion_told stop b) full_after)))
             stands),
       )
     where
       by : (stop' : Option Stop) (full : Bool) → None ≡ insertion_told stop' full
-          → insertion_leaves stop' full t c i (on_system (does t (Idle (store_in c w))) m)
-          ≡ on_system (inserted t c.unit i) (on_system (does t (Idle (store_in c w))) m)
+          → insertion_leaves stop' full t c i (on_system (does t (Idle (store_in w))) m)
+          ≡ on_system (inserted t c.unit i) (on_system (does t (Idle (store_in w))) m)
       by (Some s) full e = absurd (none-some s e)
       by None true e = absurd (none-some ManyPackets e)
       by None false e = refl
@@ -204,23 +204,23 @@ module _ (desk : Desk) (library : Library) (live : Live) (was : Machine) (is : m
   -- a program
   pub program_at : unit.shown ≡ None
       → ((kinds_of : List ℕ → List Kind) (owns : List Own) (own : Own) (c : Command) (w : World) → StandOver kinds_of live owns k c w → slice_get owns k ≡ Some own
-      → c.unit ≡ unit → Stand kinds_of live (with_own k (with_doing (Idle (store_in c w))) owns))
+      → c.unit ≡ unit → Stand kinds_of live (with_own k (with_doing (Idle (store_in w))) owns))
       → (stop ≡ told_by c.unit.shown stop m) × StandsAt was (finished stop t c w m)
   program_at shows finishes =
       let both = program desk library live t c w m h stop (sym (ap (λ (u : Compiled). u.shown) same_unit) ∙ shows) live
-      (subst (λ (n : ℕ). Stand (kinds_in library) live (with_own n (with_doing (Idle (store_in c w))) h.owns)) place_is
+      (subst (λ (n : ℕ). Stand (kinds_in library) live (with_own n (with_doing (Idle (store_in w))) h.owns)) place_is
       (finishes (kinds_in library) h.owns own_k.0 c w over_k own_k.1 (sym same_unit))) in
       (both.0, subst (λ (x : Machine). StandsAt x (finished stop t c w m)) is both.1)
 
   -- an insertion that stopped, or for which there is no room
   pub settled_at : (i : Interface) → unit.shown ≡ Some i → (told : Stop) → Some told ≡ insertion_told stop (is_full library) → (later : Live)
       → ((kinds_of : List ℕ → List Kind) (owns : List Own) (own : Own) (c : Command) (w : World) → StandOver kinds_of live owns k c w → slice_get owns k ≡ Some own
-      → c.unit ≡ unit → Stand kinds_of later (with_own k (with_doing (Idle (settled (own_variables c) (store_in c w)))) owns))
+      → c.unit ≡ unit → Stand kinds_of later (with_own k (with_doing (Idle (settled (own_variables c) (store_in w)))) owns))
       → (Some told ≡ told_by c.unit.shown stop m) × StandsAt (machine desk library later) (finished stop t c w m)
   settled_at i shows told told_is later settles_it =
       settled_so desk library live t c w m h own_k.0 (subst (λ (n : ℕ). slice_get h.owns n ≡ Some own_k.0) place_is own_k.1) stop i
       (sym (ap (λ (u : Compiled). u.shown) same_unit) ∙ shows) told told_is later
-      (subst (λ (n : ℕ). Stand (kinds_in library) later (with_own n (with_doing (Idle (settled (own_variables c) (store_in c w)))) h.owns)) place_is
+      (subst (λ (n : ℕ). Stand (kinds_in library) later (with_own n (with_doing (Idle (settled (own_variables c) (store_in w)))) h.owns)) place_is
       (settles_it (kinds_in library) h.owns own_k.0 c w over_k own_k.1 (sym same_unit)))
 
   -- a packet that is installed
@@ -228,13 +228,13 @@ module _ (desk : Desk) (library : Library) (live : Live) (was : Machine) (is : m
       → ((i : Interface) (owns : List Own) (own : Own) (c : Command) (w : World) → unit.shown ≡ Some i → c.unit ≡ unit → AreNumbered library
       → AreAllGiven library.last owns → StandOver (kinds_in library) live owns k c w → slice_get owns k ≡ Some own
       → (grown ≡ installed unit i library)
-      × Stand (kinds_in grown) later (with_own k (λ o. with_packet (library.last + 1) (with_doing (Idle (store_in c w)) o)) owns))
+      × Stand (kinds_in grown) later (with_own k (λ o. with_packet (library.last + 1) (with_doing (Idle (store_in w)) o)) owns))
       → (None ≡ told_by c.unit.shown stop m) × StandsAt (machine desk grown later) (finished stop t c w m)
   inserted_at i shows told_is grown later installs =
       let both = installs i h.owns own_k.0 c w shows (sym same_unit) h.machine.numbered h.machine.given over_k own_k.1 in
       inserted_so desk library live t c w m h stop i (sym (ap (λ (u : Compiled). u.shown) same_unit) ∙ shows) told_is grown
       (both.0 ∙ ap (λ (u : Compiled). installed u i library) same_unit) later
-      (subst (λ (n : ℕ). Stand (kinds_in grown) later (with_own n (λ o. with_packet (library.last + 1) (with_doing (Idle (store_in c w)) o)) h.owns)) place_is both.1)
+      (subst (λ (n : ℕ). Stand (kinds_in grown) later (with_own n (λ o. with_packet (library.last + 1) (with_doing (Idle (store_in w)) o)) h.owns)) place_is both.1)
 
 -- it has a place
 pub none_over : (desk : Desk) (library : Library) (live : Live) (was : Machine) → machine desk library live ≡ was → (t : TaskNo) → IsPlace desk live t None

@@ -21,7 +21,7 @@ leaves_by (Some i) stop t c m = insertion_leaves stop (is_full m.system.shared.l
 
 -- the task is idle, and an insertion has come to its end
 abbrev pub finished : Option Stop → TaskNo → Command → World → Moment → Moment
-finished stop t c w m = leaves_by c.unit.shown stop t c (on_system (does t (Idle (store_in c w))) m)
+finished stop t c w m = leaves_by c.unit.shown stop t c (on_system (does t (Idle (store_in w))) m)
 
 -- the stop that is told of a command
 abbrev pub told_by : Option Interface → Option Stop → Moment → Option Stop

@@ -20,14 +20,11 @@ ghost use Rattle.live_system.specs.Machines.{StandsAt};
 
 use crate::system::System;
 use crate::what::What;
-use eu_base::{Bytes, List, NoMemory, Request, Stop};
+use eu_base::{Bytes, List, NoMemory, Request, Stop, is_name};
 use live_packets::{TaskDesk, Tasks, place_of};
 use std::alloc::Global;
 use task_numbers::TaskNo;
 use task_walks::Entry;
-
-// A name has at most so many bytes.
-const LONGEST_NAME: usize = 60;
 
 impl System {
     /// The task at a channel.
@@ -270,9 +267,9 @@ fn is_input(request: Option<&Request>) -> bool
 fn new_refusal(name: &[u8]) -> Option<Stop>
     ensures { result ≡ entering_refusal name.now new_store }
 {
-    if name.is_empty() || name.len() > LONGEST_NAME {
-        Some(Stop::BadName)
-    } else {
+    if is_name(name) {
         None
+    } else {
+        Some(Stop::BadName)
     }
 }

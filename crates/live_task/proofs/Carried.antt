@@ -1,9 +1,10 @@
 -- A task stands for what it stood for where no byte of its spaces changed.
-use Rattle.std.proofs.Common.{◌≡◌, ℕ, ◌≤◌, List, [], ◌∷◌, Option, refl}
+use Rattle.std.proofs.Common.{◌≡◌, ℕ, ◌≤◌, true, List, [], ◌∷◌, Option}
 use Rattle.std.specs.Option.{ForSome}
 use Rattle.std.specs.List.{AllByRecursion}
 use Rattle.eu_base.specs.declared.value.Kind.{Kind}
-use Rattle.eu_base.specs.declared.address.Area.TheVariants.{Run, Packets}
+use Rattle.eu_base.specs.declared.address.Area.{Area}
+use Rattle.eu_base.specs.declared.address.Area.TheVariants.{Run, Packets, Space}
 use Rattle.eu_base.specs.Spaces.{IsKept}
 use Rattle.eu_base.specs.Cells.{Cells}
 use Rattle.page_pool.specs.Pool.{Pages}
@@ -11,18 +12,19 @@ use Rattle.page_table.specs.Entries.{Names}
 use Rattle.page_table.specs.Frames.{content_at}
 use Rattle.page_table.specs.Sharing.{occ}
 use Rattle.page_table.proofs.Framing.{named_first, named_later}
+use Rattle.text_heap.specs.Held.{HoldsCells}
 use Rattle.text_heap.proofs.Kept.{kept_held}
 use Rattle.live_spaces.specs.Kept.{KeepsBytes}
-use Rattle.live_spaces.specs.Live.{space_roots}
-use Rattle.space_memory.specs.Memories.{MemoryData, HoldsAll, roots}
-use Rattle.elan_types.specs.Eval.{Slot, World}
+use Rattle.live_spaces.specs.Live.{the_space}
+use Rattle.space_memory.specs.Memories.{MemoryData, HoldsAll, roots, is_there, bytes_in}
+use Rattle.space_memory.proofs.Areas.{root_among}
+use Rattle.elan_types.specs.Eval.{World}
 use Rattle.task_job.specs.Below.source_machine.specs.Stores.{Store}
 use Rattle.task_job.specs.Below.source_machine.specs.Tasks.{Command, Doing, Idle, Entering, Running, Own, store_in}
-use Rattle.task_job.specs.Standing.{KeepsSpaces, KeepsVariables, Keeps, Leaves, RunsFor}
+use Rattle.task_job.specs.Standing.{Keeps, Leaves, RunsFor}
 use Rattle.live_task.specs.Stands.{DoesAs, StandsFor, StandsOver}
 use Rattle.task_job.specs.declared.job.Job.{Job}
 use Rattle.live_task.specs.declared.task.Task.{Task}
-use Rattle.task_job.proofs.Keeping.{keeps_spaces}
 
 each_kept : (old new : Pages) (names : Names)
     → ((root : Option ℕ) → ForSome root (λ r. 1 ≤ occ r names) → IsKept (content_at old root) (content_at new root))
@@ -30,26 +32,26 @@ each_kept : (old new : Pages) (names : Names)
 each_kept old new [] kept = tt
 each_kept old new (o ∷ os) kept = (kept o (named_first o os), each_kept old new os (λ root among. kept root (named_later o root os among)))
 
+module _ (old new : Pages) (m : MemoryData) (bytes : KeepsBytes old new (roots m)) (cells : Cells) (h : HoldsAll old m cells) where
+  area_carried : (area : Area) → is_there area m ≡ true → HoldsCells area (bytes_in area new m) cells
+  area_carried Run is = kept_held Run (content_at old m.run.root) (content_at new m.run.root) cells bytes.each.0 (h.there Run is)
+  area_carried Packets is =
+      kept_held Packets (content_at old m.packets.root) (content_at new m.packets.root) cells bytes.each.1.0 (h.there Packets is)
+  area_carried (Space s) is =
+      kept_held (Space s) (content_at old (the_space s.0 m.spaces).root) (content_at new (the_space s.0 m.spaces).root) cells
+      (root_among (λ root. IsKept (content_at old root) (content_at new root)) s.0 m.spaces is bytes.each.1.1) (h.there (Space s) is)
+
+  cells_carried : HoldsAll new m cells
+  cells_carried = record { there = area_carried; gone = h.gone }
+
 module _ (old new : Pages) (m : MemoryData) (bytes : KeepsBytes old new (roots m)) where
-  cells_carried : (cells : Cells) → HoldsAll old m cells → HoldsAll new m cells
-  cells_carried cells h = record {
-    run = kept_held Run (content_at old m.run.root) (content_at new m.run.root) cells bytes.each.0 h.run;
-    packets = kept_held Packets (content_at old m.packets.root) (content_at new m.packets.root) cells bytes.each.1.0 h.packets;
-  }
-
-  spaces_carried : (store : Store) → KeepsSpaces old m store → KeepsSpaces new m store
-  spaces_carried store h = keeps_spaces old new m m store refl refl refl (record { each = bytes.each.1.1 }) h
-
   pub keeps_carried : (kinds : List Kind) (store : Store) → Keeps kinds old m store → Keeps kinds new m store
   keeps_carried kinds store h = record {
-    variables =
-        record {
-          cells = h.variables.cells;
-          holds = cells_carried h.variables.cells h.variables.holds;
-          packets = h.variables.packets;
-          command = h.variables.command;
-        };
-    spaces = spaces_carried store h.spaces;
+    cells = h.cells;
+    holds = cells_carried old new m bytes h.cells h.holds;
+    packets = h.packets;
+    spaces = h.spaces;
+    command = h.command;
   }
 
   pub leaves_carried : (kinds inserted : List Kind) (store : Store) → Leaves kinds inserted old m store → Leaves kinds inserted new m store
@@ -57,9 +59,9 @@ module _ (old new : Pages) (m : MemoryData) (bytes : KeepsBytes old new (roots m
     left =
         record {
           cells = h.left.cells;
-          holds = cells_carried h.left.cells h.left.holds;
+          holds = cells_carried old new m bytes h.left.cells h.left.holds;
           variables = h.left.variables;
-          spaces = spaces_carried store h.left.spaces;
+          spaces = h.left.spaces;
         };
     command = h.command;
   }
@@ -71,9 +73,8 @@ module _ (old new : Pages) (m : MemoryData) (bytes : KeepsBytes old new (roots m
           unit = h.reaches.unit;
           kinds_are = h.reaches.kinds_are;
           now = h.reaches.now;
-          holds = cells_carried h.reaches.now h.reaches.holds;
+          holds = cells_carried old new m bytes h.reaches.now h.reaches.holds;
           reaches = h.reaches.reaches;
-          spaces = spaces_carried c.before h.reaches.spaces;
         };
     still = h.still;
   }
@@ -98,6 +99,6 @@ module _ (kinds : List Kind) (old new : Pages) (task : Task) (own : Own) where
       own_are = h.own_are;
       kinds_are = h.kinds_are;
       leaves =
-          leaves_carried old new task.memory (record { each = each_kept old new (roots task.memory) kept }) kinds c.unit.core.inserted (store_in c w)
+          leaves_carried old new task.memory (record { each = each_kept old new (roots task.memory) kept }) kinds c.unit.core.inserted (store_in w)
           h.leaves;
     }

@@ -11,18 +11,18 @@ use Rattle.live_task.specs.declared.task.Task.{Task}
 use Rattle.task_job.proofs.Keeping.{inserted_keeps}
 
 module _ (kinds : List Kind) (pages : Pages) (task : Task) (own : Own) (c : Command) (w : World) (h : StandsOver kinds pages task own c w) where
-  kept : Keeps (kinds ++ c.unit.core.inserted) pages task.memory (store_in c w)
-  kept = inserted_keeps kinds c.unit.core.inserted pages task.memory (store_in c w) h.leaves
+  kept : Keeps (kinds ++ c.unit.core.inserted) pages task.memory (store_in w)
+  kept = inserted_keeps kinds c.unit.core.inserted pages task.memory (store_in w) h.leaves
 
   -- a program is over: it inserts nothing
-  pub program_over : c.unit.core.inserted ≡ [] → StandsFor kinds pages task (with_doing (Idle (store_in c w)) own)
+  pub program_over : c.unit.core.inserted ≡ [] → StandsFor kinds pages task (with_doing (Idle (store_in w)) own)
   program_over none =
       let same : kinds ++ c.unit.core.inserted ≡ kinds = ap (λ ks. kinds ++ ks) none ∙ append-nil kinds in
-      record { packets = h.packets; does = (h.idle, subst (λ ks. Keeps ks pages task.memory (store_in c w)) same kept) }
+      record { packets = h.packets; does = (h.idle, subst (λ ks. Keeps ks pages task.memory (store_in w)) same kept) }
 
   -- a packet that was inserted is one of the task's
   pub installs : (n : ℕ) (now : Task) → now ≡ record task { packets = task.packets ++ n ∷ [] }
-      → StandsFor (kinds ++ c.unit.core.inserted) pages now (with_packet n (with_doing (Idle (store_in c w)) own))
+      → StandsFor (kinds ++ c.unit.core.inserted) pages now (with_packet n (with_doing (Idle (store_in w)) own))
   installs n now is =
-      subst (λ (t : Task). StandsFor (kinds ++ c.unit.core.inserted) pages t (with_packet n (with_doing (Idle (store_in c w)) own))) (sym is)
+      subst (λ (t : Task). StandsFor (kinds ++ c.unit.core.inserted) pages t (with_packet n (with_doing (Idle (store_in w)) own))) (sym is)
       (record { packets = ap (λ (ns : List ℕ). ns ++ n ∷ []) h.packets; does = (h.idle, kept) })

@@ -1,5 +1,5 @@
 -- A task that stands for one of the source machine.
-use Rattle.std.proofs.Common.{◌≡◌, ℕ, List, [], length, Option, Some, None, Bor, Bool, true, false, refl, sym, ap, ◌∙◌, subst}
+use Rattle.std.proofs.Common.{◌≡◌, ℕ, List, [], length, Option, Some, None, Bor, Bool, true, false, refl, sym, ap, ◌∙◌, subst, arith}
 use Rattle.std.specs.Prelude.{Result, Ok, Err, OnOk, IsSome, is_some, not, option_copied}
 use Rattle.eu_base.specs.declared.value.Kind.{Kind}
 use Rattle.eu_base.specs.declared.stop.Stop.{Stop}
@@ -10,6 +10,7 @@ use Rattle.page_pool.specs.Pool.{Pages}
 use Rattle.cell_kinds.specs.Kinds.{packet_kinds}
 use Rattle.eu_base.specs.declared.address.Area.TheVariants.{Run, Packets}
 use Rattle.eu_base.specs.Cells.{Free}
+use Rattle.eu_base.specs.DataSpaces.{no_spaces}
 use Rattle.page_table.specs.Frames.{content_at}
 use Rattle.text_heap.specs.Held.{HoldsCells}
 use Rattle.live_spaces.specs.Kept.{KeepsBytes}
@@ -22,7 +23,7 @@ use Rattle.elan_types.specs.Eval.{World}
 use Rattle.elan_types.specs.Command.{Ending, Ended, Stopped, OutOfMarks, Asks}
 use Rattle.task_job.specs.Below.source_machine.specs.Stores.{Store, new_store}
 use Rattle.task_job.specs.Below.source_machine.specs.Tasks.{Command, Doing, Idle, Entering, Running, Own, ending, world_of, store_in, own_variables, request_of, with_reply, with_reply_to, replied, with_doing}
-use Rattle.task_job.specs.Standing.{HoldSpaces, none, Keeps, Left, Leaves, RunsFor, RestsFor, IsSoundJob}
+use Rattle.task_job.specs.Standing.{KeepsSpaces, Keeps, Left, Leaves, RunsFor, RestsFor, IsSoundJob}
 use Rattle.live_task.specs.Stands.{DoesAs, StandsFor, StandsOver, IsOver, EndsAs, WentAs, WentOn, HaltedAs, IsSoundDoing, IsSound, IsWhole}
 use Rattle.task_job.specs.declared.job.Job.{Job}
 use Rattle.live_task.specs.declared.task.Task.{Task}
@@ -31,7 +32,7 @@ use Rattle.live_task.specs.declared.task.Doing.TheVariants as does
 use Rattle.live_task.specs.declared.task.Went.{Went}
 use Rattle.live_task.specs.declared.task.Went.TheVariants as went
 use Rattle.task_job.proofs.Beginning.{no_variables}
-use Rattle.task_job.proofs.Keeping.{cleared}
+use Rattle.task_job.proofs.Keeping.{cleared, none_live}
 use Rattle.task_job.proofs.Standing.{many_own, asks_now, left_now}
 
 same_job : (a b : Job) → does.Running a ≡ does.Running b → a ≡ b
@@ -106,7 +107,7 @@ module _ (kinds : List Kind) (middle new : Pages) (was now : Task) (own : Own) (
     (unit : job.unit ≡ c.unit) (packets : was.packets ≡ own.packets) (many : own_variables c ≡ length kinds) (are : packet_kinds c.unit.core.packets ≡ kinds)
     (ends : (how ≡ went.Over job.unit job.code stop) × (now ≡ record was { memory = now.memory; doing = does.Idle })
     × ((kinds inserted : List Kind) (store : Store) → Left kinds inserted middle was.memory store → Leaves kinds inserted new now.memory store))
-    (left : Left kinds c.unit.core.inserted middle was.memory (store_in c w)) where
+    (left : Left kinds c.unit.core.inserted middle was.memory (store_in w)) where
   pub over_is : IsOver how c stop
   over_is = subst (λ (x : Went). IsOver x c stop) (sym ends.0) (unit, refl)
 
@@ -116,7 +117,7 @@ module _ (kinds : List Kind) (middle new : Pages) (was now : Task) (own : Own) (
     idle = ap (λ (t : Task). t.doing) ends.1;
     own_are = many;
     kinds_are = are;
-    leaves = ends.2 kinds c.unit.core.inserted (store_in c w) left;
+    leaves = ends.2 kinds c.unit.core.inserted (store_in w) left;
   }
 
 -- a task that went on: its job rests so, over a memory and pages
@@ -225,19 +226,12 @@ new_stands pages task packets memory idle holds = record {
   does = (
     idle,
     record {
-      variables =
-          record {
-            cells = λ _. Free;
-            holds = holds;
-            packets = no_variables Packets (λ _. Free) (λ x. refl);
-            command = λ x. refl;
-          };
+      cells = λ _. Free;
+      holds = holds;
+      packets = no_variables Packets (λ _. Free) (λ x. refl);
       spaces =
-          record {
-            spaces = subst (λ ms. HoldSpaces pages ms []) (sym (ap (λ (m : MemoryData). m.spaces) memory)) none;
-            last = ap (λ (m : MemoryData). m.last) memory;
-            names = ap (λ (m : MemoryData). m.names) memory;
-          };
+          subst (λ (m : MemoryData). KeepsSpaces m no_spaces (λ _. Free)) (sym memory) (none_live 0 (λ _. Free) (omega arith) (λ s x. refl));
+      command = λ x. refl;
     },
   );
 }

@@ -14,7 +14,7 @@ use Rattle.elan_types.specs.Command.{Ending, Ended, Stopped, OutOfMarks, Asks}
 use Rattle.task_job.specs.Below.packet_store.specs.Units.{IsUnit}
 use Rattle.source_texts.specs.declared.shape.TheConstants.{LONGEST_LINE}
 use Rattle.source_texts.specs.Sources.{most_lines}
-use Rattle.task_job.specs.Below.source_machine.specs.Stores.{Store, most_spaces, last_number}
+use Rattle.task_job.specs.Below.source_machine.specs.Stores.{Store, most_live, last_number}
 use Rattle.task_job.specs.Below.source_machine.specs.Tasks.{Command, Doing, Idle, Entering, Running, Own, ending, world_of, store_in, own_variables, spent, with_doing}
 use Rattle.task_job.specs.Standing.{Keeps, Left, Leaves, RunsFor, IsSoundJob}
 use Rattle.task_job.specs.declared.job.Job.{Job}
@@ -42,7 +42,7 @@ pub record StandsOver (kinds : List Kind) (pages : Pages) (task : Task) (own : O
   pub idle : task.doing ≡ does.Idle
   pub own_are : own_variables c ≡ length kinds
   pub kinds_are : packet_kinds c.unit.core.packets ≡ kinds
-  pub leaves : Leaves kinds c.unit.core.inserted pages task.memory (store_in c w)
+  pub leaves : Leaves kinds c.unit.core.inserted pages task.memory (store_in w)
 
 -- ---- a task is sound
 
@@ -50,7 +50,7 @@ pub record StandsOver (kinds : List Kind) (pages : Pages) (task : Task) (own : O
 pub record IsEntering (memory : MemoryData) (name : List ℕ) (lines : List (List ℕ)) : Type 0 where
   pub few : length lines ≤ most_lines
   pub short : All (λ line. length line ≤ LONGEST_LINE) lines
-  pub room : (directory.get name memory.names ≡ None) → length memory.spaces < most_spaces
+  pub room : (directory.get name memory.names ≡ None) → length memory.spaces < most_live
   pub number : memory.last < last_number
 
 -- and a command that runs fits its code

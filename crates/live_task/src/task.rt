@@ -7,7 +7,7 @@ ghost use Rattle.page_table.specs.Frames.{Frames, Stands};
 ghost use Rattle.code_form.specs.Runs.{asked};
 ghost use Rattle.code_gen.specs.Correct.{Behaves};
 ghost use Rattle.task_job.specs.Below.packet_store.specs.Units.{IsUnit};
-ghost use Rattle.space_memory.specs.Memories.{roots};
+ghost use Rattle.space_memory.specs.Memories.{roots, most_roots, StandsWhole, MemoryFrames};
 ghost use Rattle.task_job.specs.Below.source_machine.specs.Stores.{Store, new_store};
 ghost use Rattle.task_job.specs.Below.source_machine.specs.Tasks.{Command, Own, Idle as Idles, Running as Runs, starting, request_of, replied, store_in, with_doing};
 ghost use Rattle.task_job.specs.Below.source_machine.specs.Monitor.{with_packet};
@@ -126,30 +126,37 @@ impl Task {
         requires unit { IsUnit unit }
         requires behaves { Behaves unit.core code }
         requires sound { IsSound self.old }
-        requires agree { Stands pool.old (roots self.old.memory) 0 }
+        requires agree { StandsWhole pool.old (roots self.old.memory) }
         ensures starts { OnOk result ((own : Own) (store : Store) → own.doing ≡ Idles store →
             StandsFor (packet_kinds unit.core.packets) pool.old self.old own →
             StandsFor (packet_kinds unit.core.packets) pool.new self.new (with_doing (Runs (starting unit store)) own)) }
         ensures sound { IsSound self.new }
-        ensures as_many { length (roots self.new.memory) ≡ length (roots self.old.memory) }
-        ensures frames { Frames pool.old pool.new (roots self.old.memory) (roots self.new.memory) }
+        ensures few { length (roots self.new.memory) ≤ most_roots }
+        ensures frames { MemoryFrames pool.old pool.new (roots self.old.memory) (roots self.new.memory) }
     {
-        let job = Job::of(alloc, unit, code, &mut self.memory, pool)?;
-        mem::replace(&mut self.doing, Doing::Running(job)).let_go();
-        Ok(())
+        match Job::of(alloc, unit, code, &mut self.memory, pool) {
+            Ok(job) => {
+                mem::replace(&mut self.doing, Doing::Running(job)).let_go();
+                Ok(())
+            }
+            Err(NoMemory) => {
+                self.drop_job();
+                Err(NoMemory)
+            }
+        }
     }
 
     /// Goes on with so many marks, where it runs a command: until a mark is due and none is left, it asks something, or its command is over.
     pub fn go_on(&mut self, pool: &mut Pool, marks: &mut u32) -> Result<Went, NoMemory>
         requires sound { IsSound self.old }
-        requires agree { Stands pool.old (roots self.old.memory) 0 }
+        requires agree { StandsWhole pool.old (roots self.old.memory) }
         ensures went { IfOk result (λ went. (kinds : List Kind) (own : Own) → StandsFor kinds pool.old self.old own →
             WentOn kinds pool.new self.new marks.old marks.new went own own.doing) }
         ensures marks { OnOk result (marks.new ≤ marks.old) }
         ensures whole { IfOk result IsWhole }
         ensures sound { IsSound self.new }
-        ensures as_many { length (roots self.new.memory) ≡ length (roots self.old.memory) }
-        ensures frames { Frames pool.old pool.new (roots self.old.memory) (roots self.new.memory) }
+        ensures few { length (roots self.new.memory) ≤ most_roots }
+        ensures frames { MemoryFrames pool.old pool.new (roots self.old.memory) (roots self.new.memory) }
     {
         let Doing::Running(job) = &mut self.doing else {
             return Ok(Went::NotRunning);
@@ -169,12 +176,12 @@ impl Task {
     /// Gets a reply, where it asks something, and goes on to right before its next mark. Where it asks nothing, nothing changes.
     pub fn answer(&mut self, pool: &mut Pool, reply: Reply) -> Result<(), NoMemory>
         requires sound { IsSound self.old }
-        requires agree { Stands pool.old (roots self.old.memory) 0 }
+        requires agree { StandsWhole pool.old (roots self.old.memory) }
         ensures answered { OnOk result ((kinds : List Kind) (own : Own) → StandsFor kinds pool.old self.old own →
             StandsFor kinds pool.new self.new (with_doing (replied reply own.doing) own)) }
         ensures sound { IsSound self.new }
-        ensures as_many { length (roots self.new.memory) ≡ length (roots self.old.memory) }
-        ensures frames { Frames pool.old pool.new (roots self.old.memory) (roots self.new.memory) }
+        ensures few { length (roots self.new.memory) ≤ most_roots }
+        ensures frames { MemoryFrames pool.old pool.new (roots self.old.memory) (roots self.new.memory) }
     {
         if self.asked().is_none() {
             return Ok(());
@@ -208,7 +215,7 @@ impl Task {
     pub fn install(&mut self, number: u32) -> Result<(), NoMemory>
         ensures installed { OnOk result ((kinds : List Kind) (pages : Pages) (own : Own) (c : Command) (w : World) →
             StandsOver kinds pages self.old own c w →
-            StandsFor (kinds ++ c.unit.core.inserted) pages self.new (with_packet number (with_doing (Idles (store_in c w)) own))) }
+            StandsFor (kinds ++ c.unit.core.inserted) pages self.new (with_packet number (with_doing (Idles (store_in w)) own))) }
         ensures ok { OnOk result (self.new ≡ record self.old { packets = self.old.packets ++ number ∷ [] }) }
         ensures sound { IsSound self.old → IsSound self.new }
         ensures err { OnErr result (self.new ≡ self.old) }

@@ -1,5 +1,5 @@
 -- Owners of spaces over one pool, anything with roots: what a call on one of them leaves of the others.
-use Rattle.std.proofs.Common.{◌≡◌, ℕ, zero, suc, ◌+◌, ◌*◌, ◌<◌, ◌≤◌, List, [], ◌∷◌, ◌++◌, length, set, Option, None, Some, refl, sym, subst, arith, append-nil}
+use Rattle.std.proofs.Common.{◌≡◌, ℕ, zero, suc, ◌+◌, ◌-◌, ◌*◌, ◌<◌, ◌≤◌, List, [], ◌∷◌, ◌++◌, length, set, Option, None, Some, refl, sym, subst, arith}
 use Rattle.std.specs.Prelude.{slice_get}
 use Rattle.std.specs.List.{All, AllZip, flat_map, remove}
 use Rattle.std.specs.Option.{ForSome}
@@ -12,14 +12,29 @@ use Rattle.page_table.specs.Entries.{Names}
 use Rattle.page_table.specs.Frames.{content_at, Frames, Stands}
 use Rattle.page_table.specs.Sharing.{occ, Agree, most_spaces}
 use Rattle.page_table.proofs.Counting.{occ-append, names_same}
-use Rattle.page_table.proofs.Moving.{in_like}
-use Rattle.page_table.proofs.Framing.{Same, same_self, reorder, agree_same, agree_after, beside, stands_of}
-use Rattle.task_ends.specs.Refused.{Refused}
+use Rattle.page_table.proofs.Moving.{in_like, equal}
+use Rattle.page_table.proofs.Framing.{Same, same_self, reorder, agree_same, agree_after, stands_of}
+use Rattle.space_memory.specs.Memories.{most_roots, StandsWhole, MemoryFrames}
+use Rattle.task_ends.specs.Refused.{RoomFrames, Refused}
 use Rattle.live_tasks.proofs.Zips.{remove_set, found_set, zip_others}
 
 -- a space without bytes has no pages
 with_nil : (pages : Pages) (a : Names) → length (None ∷ a) ≤ most_spaces → Agree pages a → Agree pages (None ∷ a)
 with_nil pages a room g = record { few = room; agrees = in_like (names_same 2 a (None ∷ a) (λ p. omega arith)) g.agrees }
+
+-- where there is room for a whole memory besides
+pub room_frames : (old new : Pages) (before after : Names) → length after ≤ length before + most_roots → Frames old new before after
+    → RoomFrames old new before after most_roots
+room_frames old new before after few f = record {
+  homes = f.homes;
+  frame = λ rest agree room. f.frame rest agree (omega (arith, few, room, length-append before rest, length-append after rest));
+}
+
+pub room_memory : (old new : Pages) (before after : Names) → MemoryFrames old new before after → RoomFrames old new before after most_roots
+room_memory old new before after f = record {
+  homes = f.homes;
+  frame = λ rest agree room. f.frame rest agree (omega (arith, room, length-append before rest));
+}
 
 module _ {T : Type 0} (roots : T → Names) where
   abbrev pub all : List T → Names
@@ -126,37 +141,34 @@ module _ {T : Type 0} (roots : T → Names) where
 
   -- the owner at a place makes a call
   module _ (old : Pages) (ts : List T) (k : ℕ) (t : T) (at : slice_get ts k ≡ Some t) (agree : ∥ Agree old (all ts) ∥₁)
-      (room : length (all ts) + 2 ≤ most_spaces) where
+      (room : length (all ts) + most_roots ≤ most_spaces) where
     abbrev others : Names
     others = all (remove ts k)
 
     apart : ∥ Agree old (roots t ++ others) ∥₁
     apart = agree_same old _ _ (split ts k t at) agree
 
-    fits : length (roots t ++ others) + 2 ≤ most_spaces
+    fits : length (roots t ++ others) + most_roots ≤ most_spaces
     fits = omega (arith, room, (split ts k t at).long)
 
-    pub stands : (more : ℕ) → more ≤ 2 → Stands old (roots t) more
+    pub stands : (more : ℕ) → more ≤ most_roots → Stands old (roots t) more
     stands more few = stands_of old (roots t) others more (omega (arith, fits, few)) apart
 
-    stands_beside : Stands old (roots t ++ others) 2
-    stands_beside =
-        let same : roots t ++ others ≡ (roots t ++ others) ++ [] = sym (append-nil _) in
-        stands_of old (roots t ++ others) [] 2 (subst (λ (l : Names). length l + 2 ≤ most_spaces) same fits)
-        (subst (λ (l : Names). ∥ Agree old l ∥₁) same apart)
+    pub whole : length (roots t) ≤ most_roots → StandsWhole old (roots t)
+    whole few = record { few = few; stands = stands (most_roots - length (roots t)) (omega arith) }
 
-    module _ (new : Pages) (b : Names) (few : length b ≤ length (roots t) + 2) (frames : Frames old new (roots t) b) where
+    module _ (new : Pages) (b : Names) (framed : RoomFrames old new (roots t) b most_roots) where
       -- the pool agrees with what it has then, and the others
       pub agrees : ∥ Agree new (b ++ others) ∥₁
-      agrees = agree_after old new (roots t) b others (omega (arith, fits, few, length-append (roots t) others, length-append b others)) frames apart
+      agrees = ∥∥₁_map apart (λ a. (framed.frame others a fits).agrees)
 
       -- no byte of the others' spaces changed
       pub others_same : (root : Option ℕ) → ForSome root (λ r. 1 ≤ occ r others) → (n : ℕ) → content_at new root n ≡ content_at old root n
-      others_same = beside old new (roots t) b others 2 few frames stands_beside
+      others_same root among n = equal _ _ apart (λ a. (framed.frame others a fits).same root among n)
 
   -- a call that had a space without bytes in hand besides
   pub agrees_nil : (old new : Pages) (ts : List T) (k : ℕ) (t : T) → slice_get ts k ≡ Some t → ∥ Agree old (all ts) ∥₁
-      → length (all ts) + 2 ≤ most_spaces → (b : Names) → length b ≤ length (roots t) + 1 → Frames old new (None ∷ roots t) b
+      → length (all ts) + most_roots ≤ most_spaces → (b : Names) → length b ≤ length (roots t) + 1 → Frames old new (None ∷ roots t) b
       → ∥ Agree new (b ++ all (remove ts k)) ∥₁
   agrees_nil old new ts k t at agree room b few frames =
       let s = split ts k t at in
@@ -167,11 +179,11 @@ module _ {T : Type 0} (roots : T → Names) where
 
   -- it was refused
   pub agrees_refused : (old new : Pages) (ts : List T) (k : ℕ) (t : T) → slice_get ts k ≡ Some t → ∥ Agree old (all ts) ∥₁
-      → length (all ts) + 2 ≤ most_spaces → Refused old new (roots t) 2 → ∥ Agree new (all ts) ∥₁
+      → length (all ts) + most_roots ≤ most_spaces → Refused old new (roots t) most_roots → ∥ Agree new (all ts) ∥₁
   agrees_refused old new ts k t at agree room refused =
       let s = split ts k t at in
       let back : Same (roots t ++ all (remove ts k)) (all ts) = record { long = sym s.long; occs = λ p. sym (s.occs p) } in
-      ∥∥₁_map agree (λ a. reorder new _ _ back (refused.frame (all (remove ts k)) (reorder old _ _ s a) (omega (arith, room, s.long))).agrees)
+      agree_same new _ _ back (agrees old ts k t at agree room new (roots t) refused)
 
 -- What an owner stands for, over the pages of its spaces alone.
 module _ {T O : Type 0} (roots : T → Names) (For : Pages → T → O → Type 0)
@@ -190,7 +202,7 @@ module _ {T O : Type 0} (roots : T → Names) (For : Pages → T → O → Type 
 
   -- after a call of the owner at a place the others stand for what they stood for
   pub others_stand : (old new : Pages) (ts : List T) (k : ℕ) (t : T) → slice_get ts k ≡ Some t → ∥ Agree old (all roots ts) ∥₁
-      → length (all roots ts) + 2 ≤ most_spaces → (b : Names) → length b ≤ length (roots t) + 2 → Frames old new (roots t) b
+      → length (all roots ts) + most_roots ≤ most_spaces → (b : Names) → RoomFrames old new (roots t) b most_roots
       → (os : List O) → AllZip (For old) ts os → AllZip (For new) (remove ts k) (remove os k)
-  others_stand old new ts k t at agree room b few frames os h =
-      all_carried old new (remove ts k) (remove os k) (others_same roots old ts k t at agree room new b few frames) (zip_others (For old) ts os k h)
+  others_stand old new ts k t at agree room b framed os h =
+      all_carried old new (remove ts k) (remove os k) (others_same roots old ts k t at agree room new b framed) (zip_others (For old) ts os k h)

@@ -11,6 +11,8 @@ use Rattle.eu_base.specs.declared.value.Kind.{Kind}
 use Rattle.page_pool.specs.Pool.{Pages}
 use Rattle.page_table.specs.Entries.{Names}
 use Rattle.page_table.specs.Frames.{content_at, Frames, Stands}
+use Rattle.space_memory.specs.Memories.{most_roots, StandsWhole, MemoryFrames}
+use Rattle.space_memory.specs.Changes.{frames_before}
 use Rattle.page_table.specs.Sharing.{occ, Agree, most_spaces}
 use Rattle.page_table.proofs.Framing.{agree_same}
 use Rattle.task_texts.specs.Below.source_machine.specs.Tasks.{Own}
@@ -19,9 +21,9 @@ use Rattle.task_texts.specs.Below.source_machine.specs.Ends.{has_packet}
 use Rattle.task_texts.specs.Below.live_task.specs.declared.task.Task.{Task}
 use Rattle.task_texts.specs.Below.live_task.specs.Stands.{StandsFor, IsSound}
 use Rattle.task_texts.specs.Below.live_task.proofs.Carried.{stands_carried}
-use Rattle.task_ends.specs.Refused.{Refused}
-use Rattle.live_tasks.specs.Tasks.{Live, IsFit, StandIn, Stand, StandBut, task_roots, all_roots, most_tasks, most_roots}
-use Rattle.live_tasks.proofs.Owning.{joined, grown, not_many, split, stands, agrees, others_same, agrees_refused, all_carried, others_stand}
+use Rattle.task_ends.specs.Refused.{RoomFrames, Refused}
+use Rattle.live_tasks.specs.Tasks.{Live, IsFit, StandIn, Stand, StandBut, task_roots, all_roots, most_tasks}
+use Rattle.live_tasks.proofs.Owning.{room_frames, room_memory, joined, grown, not_many, split, stands, whole, agrees, others_same, agrees_refused, all_carried, others_stand}
 use Rattle.live_tasks.proofs.Zips.{remove_set, zip_at, zip_found, zip_any, zip_others, zip_set, zip_back, zip_each}
 
 -- a task that is read at a place
@@ -46,7 +48,7 @@ with_own_twice [] k f g = refl
 with_own_twice (o ∷ owns) zero f g = refl
 with_own_twice (o ∷ owns) (suc k) f g = ap (λ xs. o ∷ xs) (with_own_twice owns k f g)
 
-pub roots_fit : (pages : Pages) (tasks : List Task) → IsFit pages tasks → length (all_roots tasks) + 2 ≤ most_spaces
+pub roots_fit : (pages : Pages) (tasks : List Task) → IsFit pages tasks → length (all_roots tasks) + most_roots ≤ most_spaces
 roots_fit pages tasks fit = omega (arith, not_many task_roots most_tasks tasks fit.small fit.few)
 
 module _ (kinds_of : List ℕ → List Kind) where
@@ -87,16 +89,19 @@ module _ (old new : Pages) (tasks : List Task) (k : ℕ) (task : Task) (at : sli
   pub low : k < length tasks
   low = slice_get_within tasks k task at
 
-  pub call_stands : (more : ℕ) → more ≤ 2 → Stands old (task_roots task) more
+  pub call_stands : (more : ℕ) → more ≤ most_roots → Stands old (task_roots task) more
   call_stands more few = stands task_roots old tasks k task at fit.agree (roots_fit old tasks fit) more few
 
   pub call_sound : IsSound task
   call_sound = subst IsSound (get_or_from_slice_get tasks k task task at) (All-get_or IsSound tasks k task low fit.sound)
 
-  call_small : length (task_roots task) ≤ most_roots
+  pub call_small : length (task_roots task) ≤ most_roots
   call_small =
       subst (λ (t : Task). length (task_roots t) ≤ most_roots) (get_or_from_slice_get tasks k task task at)
       (All-get_or (λ t. length (task_roots t) ≤ most_roots) tasks k task low fit.small)
+
+  pub call_whole : StandsWhole old (task_roots task)
+  call_whole = whole task_roots old tasks k task at fit.agree (roots_fit old tasks fit) call_small
 
   pub fits_with : (later : Task) → ∥ Agree new (all_roots (set tasks k later)) ∥₁ → length (task_roots later) ≤ most_roots → IsSound later
       → IsFit new (set tasks k later)
@@ -107,37 +112,34 @@ module _ (old new : Pages) (tasks : List Task) (k : ℕ) (task : Task) (at : sli
     sound = All-set IsSound tasks k later sound fit.sound;
   }
 
-  -- it is another task then, which may have a few spaces more
-  module _ (later : Task) (grows : length (task_roots later) ≤ length (task_roots task) + 2)
-      (frames : Frames old new (task_roots task) (task_roots later)) where
-    more_agrees : ∥ Agree new (all_roots (set tasks k later)) ∥₁
-    more_agrees = agree_same new _ _ (joined task_roots tasks k later low)
-        (agrees task_roots old tasks k task at fit.agree (roots_fit old tasks fit) new (task_roots later) grows frames)
+  -- it has as many spaces then as it had
+  pub as_many_frames : (later : Task) → length (task_roots later) ≡ length (task_roots task) → Frames old new (task_roots task) (task_roots later)
+      → MemoryFrames old new (task_roots task) (task_roots later)
+  as_many_frames later many frames = frames_before old new (task_roots task) (task_roots later) (omega (arith, many, call_small)) frames
 
-    pub more_fits : length (task_roots later) ≤ most_roots → IsSound later → IsFit new (set tasks k later)
-    more_fits small sound = fits_with later more_agrees small sound
+  -- it is another task then
+  module _ (later : Task) (frames : MemoryFrames old new (task_roots task) (task_roots later)) where
+    framed : RoomFrames old new (task_roots task) (task_roots later) most_roots
+    framed = room_memory old new (task_roots task) (task_roots later) frames
+
+    call_agrees : ∥ Agree new (all_roots (set tasks k later)) ∥₁
+    call_agrees = agree_same new _ _ (joined task_roots tasks k later low)
+        (agrees task_roots old tasks k task at fit.agree (roots_fit old tasks fit) new (task_roots later) framed)
+
+    pub call_fits : length (task_roots later) ≤ most_roots → IsSound later → IsFit new (set tasks k later)
+    call_fits small sound = fits_with later call_agrees small sound
 
     module _ (kinds_of : List ℕ → List Kind) (owns : List Own) where
       rest_stands : StandIn kinds_of old (remove tasks k) (remove owns k) → StandIn kinds_of new (remove tasks k) (remove owns k)
       rest_stands h = all_carried task_roots (For kinds_of) (carried kinds_of) old new (remove tasks k) (remove owns k)
-          (others_same task_roots old tasks k task at fit.agree (roots_fit old tasks fit) new (task_roots later) grows frames) h
+          (others_same task_roots old tasks k task at fit.agree (roots_fit old tasks fit) new (task_roots later) framed) h
 
       -- where the others stand and it stands for this, all stand
-      pub more_puts : StandBut kinds_of (record { pages = old; tasks = tasks }) owns k → (own : Own) → slice_get owns k ≡ Some own → (f : Own → Own)
-          → StandsFor (kinds_of (f own).packets) new later (f own) → StandIn kinds_of new (set tasks k later) (with_own k f owns)
-      more_puts but own has f stands =
-          subst (λ (os : List Own). StandIn kinds_of new (set tasks k later) os) (sym (with_own_is owns k f own has))
-          (zip_set (For kinds_of new) tasks owns k later (f own) but.as_many (rest_stands but.others) stands)
-
-  -- it has as many
-  module _ (later : Task) (as_many : length (task_roots later) ≡ length (task_roots task)) (frames : Frames old new (task_roots task) (task_roots later)) where
-    pub call_fits : IsSound later → IsFit new (set tasks k later)
-    call_fits sound = more_fits later (omega (arith, as_many)) frames (omega (arith, as_many, call_small)) sound
-
-    module _ (kinds_of : List ℕ → List Kind) (owns : List Own) where
       pub call_puts : StandBut kinds_of (record { pages = old; tasks = tasks }) owns k → (own : Own) → slice_get owns k ≡ Some own → (f : Own → Own)
           → StandsFor (kinds_of (f own).packets) new later (f own) → StandIn kinds_of new (set tasks k later) (with_own k f owns)
-      call_puts but own has f stands = more_puts later (omega (arith, as_many)) frames kinds_of owns but own has f stands
+      call_puts but own has f stands =
+          subst (λ (os : List Own). StandIn kinds_of new (set tasks k later) os) (sym (with_own_is owns k f own has))
+          (zip_set (For kinds_of new) tasks owns k later (f own) but.as_many (rest_stands but.others) stands)
 
       module _ (h : StandIn kinds_of old tasks owns) where
         -- the others stand as they stood
@@ -146,7 +148,7 @@ module _ (old new : Pages) (tasks : List Task) (k : ℕ) (task : Task) (at : sli
           as_many = length-set tasks k later ∙ as_long kinds_of old tasks owns h;
           others =
               subst (λ (ts : List Task). StandIn kinds_of new ts (remove owns k)) (sym (remove_set tasks k later))
-              (rest_stands later (omega (arith, as_many)) frames kinds_of owns (zip_others (For kinds_of old) tasks owns k h));
+              (rest_stands (zip_others (For kinds_of old) tasks owns k h));
         }
 
         -- and it stands for this
@@ -169,9 +171,12 @@ module _ (old new : Pages) (tasks : List Task) (k : ℕ) (task : Task) (at : sli
 
   -- it is gone
   module _ (frames : Frames old new (task_roots task) []) where
+    gone : RoomFrames old new (task_roots task) [] most_roots
+    gone = room_frames old new (task_roots task) [] (omega arith) frames
+
     pub end_fits : IsFit new (remove tasks k)
     end_fits = record {
-      agree = agrees task_roots old tasks k task at fit.agree (roots_fit old tasks fit) new [] (omega arith) frames;
+      agree = agrees task_roots old tasks k task at fit.agree (roots_fit old tasks fit) new [] gone;
       few = omega (arith, fit.few, length-append (take k tasks) (drop (suc k) tasks), length-take k tasks, length-drop (suc k) tasks);
       small = All-append (λ t. length (task_roots t) ≤ most_roots) _ _ (All-take (λ t. length (task_roots t) ≤ most_roots) k tasks fit.small)
           (All-drop (λ t. length (task_roots t) ≤ most_roots) (suc k) tasks fit.small);
@@ -180,21 +185,18 @@ module _ (old new : Pages) (tasks : List Task) (k : ℕ) (task : Task) (at : sli
 
     pub end_stands : (kinds_of : List ℕ → List Kind) (owns : List Own) → StandIn kinds_of old tasks owns → StandIn kinds_of new (remove tasks k) (remove owns k)
     end_stands kinds_of owns h = others_stand task_roots (For kinds_of) (carried kinds_of) old new tasks k task at fit.agree (roots_fit old tasks fit)
-        [] (omega arith) frames owns h
+        [] gone owns h
 
   -- it was refused
-  pub refused_fits : Refused old new (task_roots task) 2 → IsFit new tasks
+  pub refused_fits : Refused old new (task_roots task) most_roots → IsFit new tasks
   refused_fits refused = record { agree = agrees_refused task_roots old new tasks k task at fit.agree (roots_fit old tasks fit) refused; few = fit.few; small = fit.small; sound = fit.sound }
 
   -- a task comes last
-  module _ (son : Task) (two : length (task_roots son) ≡ 2) (frames : Frames old new (task_roots task) (task_roots task ++ task_roots son)) where
-    grows : length (task_roots task ++ task_roots son) ≤ length (task_roots task) + 2
-    grows = omega (arith, two, length-append (task_roots task) (task_roots son))
-
+  module _ (son : Task) (two : length (task_roots son) ≡ 2) (framed : RoomFrames old new (task_roots task) (task_roots task ++ task_roots son) most_roots) where
     pub begin_fits : length tasks < most_tasks → IsSound son → IsFit new (tasks ++ son ∷ [])
     begin_fits few sound = record {
       agree = agree_same new _ _ (grown task_roots tasks k task son at)
-          (agrees task_roots old tasks k task at fit.agree (roots_fit old tasks fit) new (task_roots task ++ task_roots son) grows frames);
+          (agrees task_roots old tasks k task at fit.agree (roots_fit old tasks fit) new (task_roots task ++ task_roots son) framed);
       few = omega (arith, length_push tasks son, few);
       small = All-push (λ t. length (task_roots t) ≤ most_roots) tasks son fit.small (omega (arith, two));
       sound = All-push IsSound tasks son fit.sound sound;
@@ -207,7 +209,7 @@ module _ (old new : Pages) (tasks : List Task) (k : ℕ) (task : Task) (at : sli
         all_zipped_more (For kinds_of new) tasks owns son own'
         (zip_back (For kinds_of new) tasks owns k task own at has (as_long kinds_of old tasks owns h)
         (others_stand task_roots (For kinds_of) (carried kinds_of) old new tasks k task at fit.agree (roots_fit old tasks fit)
-        (task_roots task ++ task_roots son) grows frames owns h) father)
+        (task_roots task ++ task_roots son) framed owns h) father)
         stands
 
 -- some task has a packet

@@ -6,7 +6,7 @@ use Rattle.eu_base.specs.declared.stop.Stop.TheVariants.{Halted}
 use Rattle.page_pool.specs.Pool.{Pages}
 use Rattle.page_table.specs.Entries.{Names}
 use Rattle.page_table.specs.Sharing.{Agree}
-use Rattle.space_memory.specs.Memories.{roots}
+use Rattle.space_memory.specs.Memories.{roots, most_roots}
 use Rattle.elan_types.specs.Eval.{World}
 use Rattle.elan_types.specs.Command.{Ending, Ended, Stopped, OutOfMarks, Asks}
 use Rattle.task_texts.specs.Below.source_machine.specs.Tasks.{Command, Doing, Idle, Entering, Running, Own, ending, world_of, spent, with_doing}
@@ -32,10 +32,6 @@ all_roots tasks = flat_map task_roots tasks
 
 abbrev pub most_tasks : ℕ
 most_tasks = 16
-
--- the space of a command, that of the packets, and 16 data spaces
-abbrev pub most_roots : ℕ
-most_roots = 18
 
 -- The pool agrees with the spaces of the tasks and no others, and there are not too many of them; each task is sound.
 pub record IsFit (pages : Pages) (tasks : List Task) : Type 0 where

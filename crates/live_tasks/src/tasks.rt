@@ -155,7 +155,7 @@ impl Tasks {
         requires program { unit.now.shown ≡ None }
         ensures { (kinds_of : List ℕ → List Kind) (owns : List Own) (own : Own) (c : Command) (w : World) →
             StandOver kinds_of self.now owns k c w → slice_get owns k ≡ Some own → c.unit ≡ unit.now →
-            Stand kinds_of self.now (with_own k (with_doing (Idles (store_in c w))) owns) }
+            Stand kinds_of self.now (with_own k (with_doing (Idles (store_in w))) owns) }
     {}
 
     /// The command of a task is over and was no insertion that is kept: what it left behind the variables of the task's packets goes.
@@ -163,7 +163,7 @@ impl Tasks {
         requires task { k < length self.old.tasks }
         ensures { OnOk result ((kinds_of : List ℕ → List Kind) (owns : List Own) (own : Own) (c : Command) (w : World) →
             StandOver kinds_of self.old owns k c w → slice_get owns k ≡ Some own → c.unit ≡ unit.now →
-            Stand kinds_of self.new (with_own k (with_doing (Idles (settled (own_variables c) (store_in c w)))) owns)) }
+            Stand kinds_of self.new (with_own k (with_doing (Idles (settled (own_variables c) (store_in w)))) owns)) }
     {
         let task = &mut self.tasks[k];
         task_ends::settle(task, alloc, &mut self.pool, unit)
@@ -175,7 +175,7 @@ impl Tasks {
         ensures { OnOk result ((kinds_of later : List ℕ → List Kind) (owns : List Own) (own : Own) (c : Command) (w : World) →
             StandOver kinds_of self.old owns k c w → slice_get owns k ≡ Some own → AgreeBut kinds_of later owns k →
             later (own.packets ++ number ∷ []) ≡ kinds_of own.packets ++ c.unit.core.inserted →
-            Stand later self.new (with_own k (λ o. with_packet number (with_doing (Idles (store_in c w)) o)) owns)) }
+            Stand later self.new (with_own k (λ o. with_packet number (with_doing (Idles (store_in w)) o)) owns)) }
     {
         let task = &mut self.tasks[k];
         task.install(number)

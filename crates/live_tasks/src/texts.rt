@@ -1,14 +1,14 @@
 //! Texts of one of the tasks.
 ghost use Rattle.std.specs.Prelude.{◌≡◌, ◌<◌, ◌≤◌, ◌++◌, ℕ, List as Lists, [], ◌∷◌, length, nat_le, false, Some, None, OnOk, slice_get};
 ghost use Rattle.eu_base.specs.declared.value.Kind.{Kind};
-ghost use Rattle.space_memory.specs.Memories.{roots};
+ghost use Rattle.space_memory.specs.Memories.{roots, most_roots};
 ghost use Rattle.source_texts.specs.declared.shape.TheConstants.{LONGEST_LINE};
 ghost use Rattle.source_texts.specs.Sources.{most_lines, source_space};
 ghost use Rattle.task_texts.specs.Below.source_machine.specs.Stores.{Store, entering_refusal, with_named};
 ghost use Rattle.task_texts.specs.Below.source_machine.specs.Tasks.{Own, Idle as Idles, Entering as Enters, with_doing};
 ghost use Rattle.task_texts.specs.Below.source_machine.specs.Systems.{with_own};
 ghost use Rattle.task_texts.specs.Doings.{is_entering};
-ghost use Rattle.live_tasks.specs.Tasks.{Stand, most_roots};
+ghost use Rattle.live_tasks.specs.Tasks.{Stand};
 
 use crate::tasks::Tasks;
 use eu_base::{Bytes, NoMemory};

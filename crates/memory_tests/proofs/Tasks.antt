@@ -6,7 +6,7 @@ use Rattle.page_pool.specs.Pool.{Pages}
 use Rattle.page_table.specs.Entries.{Names}
 use Rattle.page_table.specs.Frames.{Frames, Stands}
 use Rattle.page_table.specs.Sharing.{Agree}
-use Rattle.space_memory.specs.Memories.{MemoryData, roots, forgotten, with_new, new_memory, heir}
+use Rattle.space_memory.specs.Memories.{MemoryData, MemoryFrames, roots, forgotten, with_new, new_memory, heir}
 use Rattle.space_memory.proofs.Framed.{roots_long, taken_same, given_same}
 use Rattle.space_memory.proofs.Led.{without_long}
 use Rattle.live_spaces.proofs.Roots.{flip}
@@ -66,6 +66,11 @@ module _ (old : Pages) (m o : MemoryData) (also : length o.spaces ≤ 16) (some 
         length-append (roots m) (roots son),
         length-append both (roots o),
       ))).agrees))
+
+-- a program ran over the one memory
+pub memory_went : (old new : Pages) (m n o : MemoryData) → length o.spaces ≤ 16 → ∥ Agree old (roots m ++ roots o) ∥₁
+    → MemoryFrames old new (roots m) (roots n) → ∥ Agree new (roots n ++ roots o) ∥₁
+memory_went old new m n o also some f = ∥∥₁_map some (λ g. (f.frame (roots o) g (omega (arith, also, roots_long o.spaces))).agrees)
 
 -- a space is in hand, and comes back, or is let go
 module _ (b : Names) where

@@ -1,9 +1,11 @@
 //! Steps over the cells of a memory.
-ghost use Rattle.std.specs.Prelude.{◌<◌};
+ghost use Rattle.std.specs.Prelude.{◌≡◌, ◌<◌};
+ghost use Rattle.eu_base.specs.SpaceCells.{IsThere};
 
 use crate::out::tell;
 use eu_base::{Addr, Area, Bytes, Memory, Set};
 use std::alloc::Global;
+use task_numbers::SpaceNo;
 
 fn number(digits: &[u8]) -> u64 {
     let mut number = 0u64;
@@ -27,16 +29,27 @@ fn text(alloc: Global, told: &[u8]) -> Bytes {
     bytes
 }
 
-// `p` is the area of the packets, and `z` the last cell.
-fn address(area: u8, cell: u8) -> Addr
-    ensures { result.cell < 16384 }
+// `p` is the area of the packets, and a digit that of a data space, where it lives.
+fn area_of<M: Memory>(memory: &M, area: u8) -> Area
+    ensures { IsThere (M.heads memory.now) result }
+{
+    let s = SpaceNo(u32::from(area.wrapping_sub(b'0')));
+    if area == b'p' {
+        Area::Packets
+    } else if memory.live(s) {
+        Area::Space(s)
+    } else {
+        Area::Run
+    }
+}
+
+// `z` is the last cell.
+fn address(area: Area, cell: u8) -> Addr
+    ensures low { result.cell < 16384 }
+    ensures area { result.area ≡ area }
 {
     Addr {
-        area: if area == b'p' {
-            Area::Packets
-        } else {
-            Area::Run
-        },
+        area,
         cell: if cell == b'z' {
             16_383
         } else {
@@ -46,7 +59,8 @@ fn address(area: u8, cell: u8) -> Addr
 }
 
 fn has<M: Memory>(alloc: Global, memory: &mut M, at: Addr, told: &[u8]) -> bool
-    requires { at.cell < 16384 }
+    requires low { at.cell < 16384 }
+    requires there { IsThere (M.heads memory.old) at.area }
     ensures { M.follows memory.old memory.new }
 {
     match memory.text(at) {
@@ -55,8 +69,8 @@ fn has<M: Memory>(alloc: Global, memory: &mut M, at: Addr, told: &[u8]) -> bool
     }
 }
 
-/// Does a step, and tells whether it went as it says. It begins with `r` for the cells of the command or `p` for those of the packets, and the
-/// cell. Behind that `=5` puts 5, and `?5` finds it there; `<a3` puts the text that begins with `a` and has 3 bytes, `>a3` finds it
+/// Does a step, and tells whether it went as it says. It begins with `r` for the cells of the command, `p` for those of the packets or the number
+/// of a data space, and the cell. Behind that `=5` puts 5, and `?5` finds it there; `<a3` puts the text that begins with `a` and has 3 bytes, `>a3` finds it
 /// there, and `/a3` finds no room for it; and `#5` finds 5 blocks free.
 pub fn go<M: Memory>(alloc: Global, out: &mut Bytes, memory: &mut M, step: &[u8])
     ensures { M.follows memory.old memory.new }
@@ -64,7 +78,7 @@ pub fn go<M: Memory>(alloc: Global, out: &mut Bytes, memory: &mut M, step: &[u8]
     let [area, cell, what, told @ ..] = step else {
         return
     };
-    let at = address(*area, *cell);
+    let at = address(area_of(memory, *area), *cell);
     let right = match *what {
         b'=' => memory.set_cell(at, number(told)).is_ok(),
         b'?' => memory.cell(at).unwrap_or(u64::MAX) == number(told),

@@ -14,6 +14,8 @@ mod out;
 #[cfg(test)]
 mod sources;
 #[cfg(test)]
+mod space_steps;
+#[cfg(test)]
 mod task;
 #[cfg(test)]
 mod tests;

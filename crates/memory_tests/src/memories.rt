@@ -10,8 +10,8 @@ use task_numbers::SpaceNo;
 /// kinds of their cells; how many live, and the last number; `r` and `p` where the command and the packets have pages; and how many
 /// pages are left at the end. `m` makes a space. The steps on one space end with its number: `y` makes a copy, `k` sets the type, `b` fills
 /// it, `f` forgets it, `t` takes it and gives it a new number, and `n` with a letter behind it names it so. `ua` takes the name `a` out, `c`
-/// clears the command's cells, `i` lets a son inherit, and `x` goes over to the other of the two. What begins with `r` or `p` is a step
-/// over cells.
+/// clears the command's cells, `i` lets a son inherit, and `x` goes over to the other of the two. What begins with `r`, `p` or the
+/// number of a data space is a step over cells, and what begins with `l` one of those on spaces, through the memory as it is lent.
 pub const STEPS: &str = "\
 m m na1 nb2 nc1 f1 => 12 b2 : 2 1 of 2 left 0
 m na1 ua => 1 : 1 1 of 1 left 0
@@ -29,6 +29,10 @@ m i x m => 1+2 : 2 1 of 2 left 0
 r7=65535 rz<a3 rz>a3 rz<b100 rz>b100 rz<_0 rz>_0 rz?0 r7?65535 => +++++++++ : 0 of 0 r left 0
 r0<c114660 r0>c114660 r1/e29 r1<d28 r1>d28 r0#0 r2/x1 r0>c114660 r0<_0 r0>_0 r2<e29 r2>e29 => ++++++++++++ : 0 of 0 r left 0
 r0<c114660 r5=1 p5=2 p0<p29 p0#4094 r0#1 p0>p29 r5?1 p5?2 r0>c114660 => ++++++++++ : 0 of 0 r p left 0
+lm lb1 10=1 ly1 20?1 10=0 20?1 10?0 lna2 lf1 => 1++2+++++ a2 : 2bbbb 1 of 2 left 0
+lm lk1 lna1 lnb1 lua ly1 lnc2 lnc1 lb1 lb1 => 1+++2+-+- b1 c2 : 1kbbbb 2k 2 of 2 left 0
+ly1 lk1 lb1 lf1 lua lna1 => ---- : 0 of 0 left 0
+lm lk1 lK1 lC1 r9?2 lB1 r8?1 lS1 lS2 lF2 => 1+++++++-+ : 1kbbbb 1 of 2 r left 0
 ";
 
 // A row of four structs of one truth value; another shape where memory is refused.
@@ -66,6 +70,7 @@ fn go(alloc: Global, out: &mut Bytes, task: &mut Task, step: &[u8]) {
         [b'c'] => task.clear_run(),
         [b'i'] => tell(out, task.inherit()),
         [b'x'] => task.turn(),
+        [b'l', step @ ..] => task.go_over(alloc, out, &shape(alloc), step),
         _ => task.go(alloc, out, step),
     }
 }

@@ -3,7 +3,7 @@ ghost use Rattle.std.specs.Prelude.{◌≡◌, ◌++◌};
 ghost use Rattle.page_table.specs.Sharing.{Agree};
 ghost use Rattle.space_memory.specs.Memories.{roots};
 
-use crate::cells;
+use crate::{cells, space_steps};
 use cell_layout::cells as cell_count;
 use eu_base::{Bytes, CELLS, Shape};
 use live_spaces::MOST_LIVE;
@@ -117,8 +117,18 @@ impl Task {
 
     /// Does a step over cells.
     pub fn go(&mut self, alloc: Global, out: &mut Bytes, step: &[u8]) {
+        prove!(self.memory.count() <= MOST_LIVE);
+        prove!(self.other.count() <= MOST_LIVE);
         let mut lent = self.memory.over(&mut self.pool);
         cells::go(alloc, out, &mut lent, step);
+    }
+
+    /// Does a step over data spaces, through the memory as it is lent.
+    pub fn go_over(&mut self, alloc: Global, out: &mut Bytes, shape: &Shape, step: &[u8]) {
+        prove!(self.memory.count() <= MOST_LIVE);
+        prove!(self.other.count() <= MOST_LIVE);
+        let mut lent = self.memory.over(&mut self.pool);
+        space_steps::go(alloc, out, &mut lent, shape, step);
     }
 
     pub fn clear_run(&mut self) {

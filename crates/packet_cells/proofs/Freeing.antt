@@ -4,14 +4,14 @@ use Rattle.std.specs.Prelude.{slice_get, get_or, nat_le, nat_lt, ◌&&◌, Resul
 use Rattle.std.proofs.lemmas.Bool.{leb-true, leb-false, ltb-true, ltb-false, eq-eqb}
 use Rattle.std.proofs.lemmas.List.{length-append}
 use Rattle.eu_base.specs.declared.address.Area.{Area}
-use Rattle.eu_base.specs.declared.address.Area.TheVariants.{Run, Packets}
+use Rattle.eu_base.specs.declared.address.Area.TheVariants.{Run, Packets, Space as AreaSpace}
 use Rattle.eu_base.specs.declared.address.Addr.{Addr}
 use Rattle.eu_base.specs.declared.set.Set.{Set}
 use Rattle.eu_base.specs.declared.set.Set.TheVariants.{Done, HeapFull}
 use Rattle.eu_base.specs.declared.value.Kind.{Kind}
 use Rattle.eu_base.specs.declared.value.Kind.TheVariants as kinds
 use Rattle.eu_base.specs.declared.value.Value.{Value}
-use Rattle.eu_base.specs.declared.value.Value.TheVariants.{Int, Truth, Text, Task}
+use Rattle.eu_base.specs.declared.value.Value.TheVariants.{Int, Truth, Text, Task, Space}
 use Rattle.eu_base.specs.declared.shape.Shape.{Shape}
 use Rattle.eu_base.specs.Shapes.{cell_kinds}
 use Rattle.eu_base.specs.Values.{IsOf}
@@ -62,6 +62,7 @@ is_packets a e = by a.area a.cell e
     by : (x : Area) (k : ℕ) → same_area x Packets ≡ true → area_cell x k ≡ packet_cell k
     by Packets k e = refl
     by Run k e = absurd (cc e)
+    by (AreaSpace s) k e = absurd (cc e)
 
 in_packets : (from until : ℕ) (a : Addr) → is_between from until a ≡ true → same_area a.area Packets ≡ true
 in_packets from until a e = first (same_area a.area Packets) (lies from until a.cell) e
@@ -184,9 +185,11 @@ text_is kind x is h = by kind h.value is h.of_kind h.held
     by kinds.Text (Int z) is o e = absurd o
     by kinds.Text (Truth b) is o e = absurd o
     by kinds.Text (Task n) is o e = absurd o
+    by kinds.Text (Space s) is o e = absurd o
     by kinds.Int v is o e = absurd (cc is)
     by kinds.Truth v is o e = absurd (cc is)
     by kinds.Task v is o e = absurd (cc is)
+    by kinds.Space v is o e = absurd (cc is)
 
 bare_is : (kind : Kind) (x : Cell) → is_text kind ≡ false → HoldsOf kind x → cell_blocks x ≡ 0
 bare_is kind x not h = by kind h.value not h.of_kind h.held
@@ -195,10 +198,12 @@ bare_is kind x not h = by kind h.value not h.of_kind h.held
     by kind (Int z) not o e = ap cell_blocks e
     by kind (Truth b) not o e = ap cell_blocks e
     by kind (Task n) not o e = ap cell_blocks e
+    by kind (Space s) not o e = ap cell_blocks e
     by kinds.Text (Text t) not o e = absurd (cc not)
     by kinds.Int (Text t) not o e = absurd o
     by kinds.Truth (Text t) not o e = absurd o
     by kinds.Task (Text t) not o e = absurd o
+    by kinds.Space (Text t) not o e = absurd o
 
 pub text_cell : {T E : Type 0} (result : Result T E) (before after : Cells → Type 0) (kind : Kind) (k : ℕ) → is_text kind ≡ true
     → OnOk result ((from : ℕ) (cells : Cells) → from ≤ k → before (freed from k cells) → HasText (cells (packet_cell k)) → after (freed from (k + 1) cells))

@@ -14,6 +14,7 @@ is_text kinds.Int = false
 is_text kinds.Truth = false
 is_text kinds.Text = true
 is_text kinds.Task = false
+is_text kinds.Space = false
 
 -- a cell holds a value of a kind
 pub record HoldsOf (kind : Kind) (cell : Cell) : Type 0 where

@@ -12,6 +12,7 @@ pub(crate) fn free_cells<M: Memory>(m: &mut M, at: usize, kinds: &[Kind]) -> Res
     requires { at + length kinds.now ≤ CELLS }
     ensures freed { OnOk result ((from : ℕ) (cells : Cells) → from ≤ at → M.holds m.old (freed from at cells) → HoldEach at kinds.now cells →
         M.holds m.new (freed from (at + length kinds.now) cells)) }
+    ensures heads { M.heads m.new ≡ M.heads m.old }
     ensures cause { HasFaultCause (M.faults m.old) (M.faults m.new) result }
     ensures follows { M.follows m.old m.new }
 {
@@ -25,6 +26,7 @@ fn free_cell<M: Memory>(m: &mut M, cell: usize, kind: Kind) -> Result<(), MemFau
     requires { cell < CELLS }
     ensures freed { OnOk result ((from : ℕ) (cells : Cells) → from ≤ cell → M.holds m.old (freed from cell cells) → HoldsOf kind (cells (packet_cell cell)) →
         M.holds m.new (freed from (cell + 1) cells)) }
+    ensures heads { M.heads m.new ≡ M.heads m.old }
     ensures cause { HasFaultCause (M.faults m.old) (M.faults m.new) result }
     ensures follows { M.follows m.old m.new }
 {
@@ -40,6 +42,7 @@ fn free_text<M: Memory>(m: &mut M, cell: usize) -> Result<(), MemFault>
     requires { cell < CELLS }
     ensures freed { OnOk result ((from : ℕ) (cells : Cells) → from ≤ cell → M.holds m.old (freed from cell cells) → HasText (cells (packet_cell cell)) →
         M.holds m.new (freed from (cell + 1) cells)) }
+    ensures heads { M.heads m.new ≡ M.heads m.old }
     ensures cause { HasFaultCause (M.faults m.old) (M.faults m.new) result }
     ensures follows { M.follows m.old m.new }
 {
@@ -51,7 +54,7 @@ fn is_text(kind: Kind) -> bool
     ensures { result ≡ is_text kind }
 {
     match kind {
-        Kind::Int | Kind::Truth | Kind::Task => false,
+        Kind::Int | Kind::Truth | Kind::Task | Kind::Space => false,
         Kind::Text => true,
     }
 }

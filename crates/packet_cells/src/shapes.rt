@@ -21,6 +21,7 @@ pub fn free_shapes<M: Memory>(
     requires { at + length (all_kinds shapes.now) ≤ CELLS }
     ensures freed { OnOk result ((cells : Cells) → M.holds m.old cells → HoldEach at (all_kinds shapes.now) cells →
         M.holds m.new (freed at (at + length (all_kinds shapes.now)) cells)) }
+    ensures heads { M.heads m.new ≡ M.heads m.old }
     ensures cause { HasFaultCause (M.faults m.old) (M.faults m.new) result }
     ensures follows { M.follows m.old m.new }
 {
@@ -42,6 +43,7 @@ fn free_shape<M: Memory>(
     ensures end { IfOk result (λ end. end ≡ at + length (cell_kinds shape.now)) }
     ensures freed { OnOk result ((from : ℕ) (cells : Cells) → from ≤ at → M.holds m.old (freed from at cells) → HoldEach at (cell_kinds shape.now) cells →
         M.holds m.new (freed from (at + length (cell_kinds shape.now)) cells)) }
+    ensures heads { M.heads m.new ≡ M.heads m.old }
     ensures cause { HasFaultCause (M.faults m.old) (M.faults m.new) result }
     ensures follows { M.follows m.old m.new }
 {

@@ -17,8 +17,8 @@ reached_behaves core bodies p kept same b = record {
   packets = b.packets;
   inserted = b.inserted;
   first = b.first ∙ first core.start refl;
-  ends = λ w cells h. subst (Comes p (start p) (scene_of w cells)) (same w) (b.ends w cells h);
-  only = λ w cells n r h e. subst (λ e. Shows p e r) (same w) (b.only w cells n r h e);
+  ends = λ w m h. subst (Comes p (start p) (scene_of w m)) (same w) (b.ends w m h);
+  only = λ w m n r h e. subst (λ e. Shows p e r) (same w) (b.only w m n r h e);
 }
   where
     first : (o : Option ℕ) → core.start ≡ o → first_kinds o (with_bodies core bodies) ≡ first_kinds o core

@@ -6,12 +6,13 @@ use Rattle.std.proofs.lemmas.Bool.{cases_lt}
 use Rattle.std.proofs.lemmas.Option.{slice_get-get_or}
 use Rattle.eu_base.specs.declared.address.TheConstants.{CELLS}
 use Rattle.eu_base.specs.declared.value.Value.{Value}
-use Rattle.eu_base.specs.declared.value.Value.TheVariants.{Int, Truth, Text, Task}
+use Rattle.eu_base.specs.declared.value.Value.TheVariants.{Int, Truth, Text, Task, Space}
 use Rattle.eu_base.specs.Room.{value_blocks, total}
 use Rattle.eu_base.specs.declared.address.Area.{Area}
 use Rattle.eu_base.specs.declared.value.Kind.{Kind}
 use Rattle.eu_base.specs.Cells.{Cell, Cells, held_of, area_cell, cell_blocks, area_blocks}
-use Rattle.code_form.specs.Machine.{content_blocks}
+use Rattle.eu_base.specs.DataSpaces.{heads_of}
+use Rattle.code_form.specs.Machine.{Mem, content_blocks}
 use Rattle.elan_types.specs.Eval.{Slot, Taken, World, slots_in, slot_at, slot_blocks, store_blocks}
 use Rattle.place_gen.proofs.Cells.{Use, OfValue, OfPlace, OfLimit, OfNothing, Uses, Kept, KeepsIn, Keeps, kept_in, uses_in, room_in, AllKept}
 
@@ -44,6 +45,7 @@ held_blocks (Int z) = refl
 held_blocks (Truth b) = refl
 held_blocks (Text t) = refl
 held_blocks (Task n) = refl
+held_blocks (Space s) = refl
 
 kept_blocks : (P : List Kind) (L : Uses) (at : ℕ) (k : Use) (s : Slot) (n : Cell) → Kept P L at k s n → cell_blocks n ≡ slot_blocks s
 kept_blocks P L at (OfValue k) s n g = ap cell_blocks g.3 ∙ held_blocks g.0 ∙ ap slot_blocks (sym g.1)
@@ -65,10 +67,10 @@ same_in area P L store cells room h =
     ap slot_blocks a ∙ sym (ap cell_blocks (h.beyond x past)))
     (cases_lt x (length L)))
 
-pub same_blocks : (area : Area) (P : List Kind) (L : Uses) (w : World) (cells : Cells) → length P ≤ CELLS → length L ≤ CELLS → Keeps P L w cells
-    → store_blocks (slots_in area w) ≡ area_blocks area cells
-same_blocks area P L w cells few room h =
-    same_in area P (uses_in P L area) (slots_in area w) cells (room_in area P L few room) (kept_in area P L w cells h)
+pub same_blocks : (area : Area) (P : List Kind) (L : Uses) (w : World) (m : Mem) → length P ≤ CELLS → length L ≤ CELLS → Keeps P L w m
+    → store_blocks (slots_in area w) ≡ area_blocks area m.cells
+same_blocks area P L w m few room h =
+    same_in area P (uses_in P L (heads_of w.spaces) area) (slots_in area w) m.cells (room_in area P L w m few room h) (kept_in area P L w m h)
 
 -- more slots, and what is put into cells for them
 pub more_blocks : (P : List Kind) (L : Uses) (at : ℕ) (M : Uses) (more : List Slot) (contents : List Cell) → AllKept P L at M more contents

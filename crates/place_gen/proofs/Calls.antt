@@ -5,7 +5,6 @@ use Rattle.std.proofs.lemmas.List.{append-nil}
 use Rattle.eu_base.specs.declared.value.Kind.{Kind}
 use Rattle.eu_base.specs.declared.value.Value.{Value}
 use Rattle.eu_base.specs.declared.shape.Shape.{Shape}
-use Rattle.eu_base.specs.Cells.{Cells}
 use Rattle.code_form.specs.declared.operand.Operand.{Operand}
 use Rattle.code_form.specs.declared.operand.OperandKind.{OperandKind}
 use Rattle.code_form.specs.declared.operand.OperandKind.TheVariants as operand
@@ -14,7 +13,7 @@ use Rattle.code_form.specs.declared.code.Spot.{Spot}
 use Rattle.code_form.specs.declared.code.Entry.{Entry}
 use Rattle.code_form.specs.declared.code.Layout.TheVariants as layouts
 use Rattle.code_form.specs.Program.{Program, owner, line_of}
-use Rattle.code_form.specs.Machine.{Position, Move, at, base_of, bytes_on, bytes_of, on_result, instruction}
+use Rattle.code_form.specs.Machine.{Mem, Position, Move, at, base_of, bytes_on, bytes_of, on_result, instruction}
 use Rattle.code_form.specs.Valid.{IsRefinement, with_result}
 use Rattle.elan_types.specs.declared.core_phrase.Exit.{Exit}
 use Rattle.elan_types.specs.declared.core_phrase.Exit.TheVariants as exits
@@ -31,10 +30,10 @@ use Rattle.place_gen.proofs.Forms.{keep, keep_place, Is, IsValue, IsPlace, IsAct
 
 -- the instruction that leaves a body
 module _ (p : Program) where
-  leave_move : (e : Exit) (k : Option Shape) (c : Position) (cells : Cells)
-      → instruction p (Some (leave_instr e k)) c cells ≡ on_result k c.ops (λ result. way_out p e result c.used c.frames cells)
-  leave_move exits.Body k c cells = refl
-  leave_move exits.Around k c cells = refl
+  leave_move : (e : Exit) (k : Option Shape) (c : Position) (memory : Mem)
+      → instruction p (Some (leave_instr e k)) c memory ≡ on_result k c.ops (λ result. way_out p e result c.used c.frames memory)
+  leave_move exits.Body k c memory = refl
+  leave_move exits.Around k c memory = refl
 
   result_taken : (k : Option Shape) (v : Option (List Value)) (ops : List Operand) (go : List Operand → Move) → Result k v
       → on_result k (result_ops v ++ ops) go ≡ go (result_ops v)
@@ -49,12 +48,12 @@ module _ (p : Program) where
       (ops : List Operand) (l : Exit → Option (List Value) → World → Ending) → Result k v → LeftBy p m.body e k
       → slice_get p.lines pc ≡ Some (line_of (leave_instr e k) ks m) → c.used ≡ length L → Exits p L b m.body c.frames l → (w : World) → w.marks ≤ b
       → Ends p L (at c pc (result_ops v ++ ops)) w (l e v w)
-  leave_ends e k v L b pc ks m c ops l r d has used hl w le = λ cells keeps.
+  leave_ends e k v L b pc ks m c ops l r d has used hl w le = λ memory keeps.
       let now = at c pc (result_ops v ++ ops) in
-      on_move p now (scene_of w cells) (way_out p e (result_ops v) c.used c.frames cells) (l e v w)
-      (here p pc (leave_instr e k) ks m has c (result_ops v ++ ops) cells ∙ leave_move e k now cells
-      ∙ result_taken k v ops (λ result. way_out p e result c.used c.frames cells) r)
-      (hl.by e k d [] tt v w r le now (omega (arith, used)) cells (subst (λ U. Keeps (P p) U w cells) (sym (append-nil L)) keeps))
+      on_move p now (scene_of w memory) (way_out p e (result_ops v) c.used c.frames memory) (l e v w)
+      (here p pc (leave_instr e k) ks m has c (result_ops v ++ ops) memory ∙ leave_move e k now memory
+      ∙ result_taken k v ops (λ result. way_out p e result c.used c.frames memory) r)
+      (hl.by e k d [] tt v w r le now (omega (arith, used)) memory (subst (λ U. Keeps (P p) U w memory) (sym (append-nil L)) keeps))
 
 module _ (p : Program) (body : Option ℕ) where
   -- what a parameter is given, and what parameters are given

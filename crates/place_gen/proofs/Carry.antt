@@ -1,12 +1,15 @@
 -- How the machine follows a run, whatever phrase the run comes from.
 use Rattle.std.proofs.Common.{◌≡◌, ℕ, zero, suc, ◌+◌, ◌<◌, ◌≤◌, List, [], ◌∷◌, ◌++◌, map, length, Option, Some, None, Bool, true, false, cond, refl, sym, ap, ◌∙◌}
-use Rattle.std.proofs.Common.{◌&&◌, subst, arith, append_assoc, length-append}
+use Rattle.std.proofs.Common.{◌&&◌, ⊎_elim, subst, arith, append_assoc, length-append}
 use Rattle.std.specs.Prelude.{slice_get, Ok, Err}
+use Rattle.eu_base.specs.Values.{kind_of}
+use Rattle.eu_base.specs.SpacePlaces.{is_in}
+use Rattle.eu_base.proofs.Results.{kind_is}
 use Rattle.eu_base.specs.declared.address.TheConstants.{CELLS}
 use Rattle.eu_base.specs.declared.value.Kind.{Kind}
 use Rattle.eu_base.specs.declared.value.Value.{Value}
 use Rattle.eu_base.specs.declared.stop.Stop.{Stop}
-use Rattle.eu_base.specs.declared.stop.Stop.TheVariants.{Index, OperandRoom, TextRoom}
+use Rattle.eu_base.specs.declared.stop.Stop.TheVariants.{Index, OperandRoom, TextRoom, NoSpace}
 use Rattle.eu_base.specs.declared.request.Request.{Request}
 use Rattle.eu_base.specs.declared.request.Reply.{Reply}
 use Rattle.eu_base.specs.declared.request.Reply.TheVariants as replies
@@ -17,7 +20,11 @@ use Rattle.eu_base.specs.declared.shape.Shape.TheVariants.{Cell}
 use Rattle.eu_base.specs.Shapes.{cell_kinds}
 use Rattle.eu_base.specs.Room.{values_bytes, values_blocks, texts_fit}
 use Rattle.eu_base.specs.declared.address.Area.TheVariants.{Run, Packets}
-use Rattle.eu_base.specs.Cells.{Cells, held_of, written, cell_blocks, area_blocks}
+use Rattle.eu_base.specs.Room.{cells_fit}
+use Rattle.std.proofs.lemmas.Bool.{cases_lt}
+use Rattle.std.proofs.lemmas.Bool.Decides.{nat_tests}
+use Rattle.std.proofs.lemmas.Option.{slice_get_within}
+use Rattle.eu_base.specs.Cells.{Cells, area_cell, held_of, written, cell_blocks, area_blocks}
 use Rattle.code_form.specs.declared.operand.Operand.{Operand}
 use Rattle.code_form.specs.declared.operand.Operand.TheVariants.{Value as Of, Place as At}
 use Rattle.code_form.specs.declared.operand.OperandKind.{OperandKind}
@@ -32,7 +39,7 @@ use Rattle.code_form.specs.declared.code.Layout.TheVariants as layouts
 use Rattle.code_form.specs.Program.{Program, kinds_in_packets, line_of, instr_of, owner}
 use Rattle.code_form.specs.Machine.{Frame, Position, Control, free, asking, given, refused, answered, After as AfterMark, To, Asks as AsksFor, Move}
 use Rattle.code_form.specs.Machine.{Goes, Spends, Halts, Refuses, Ends as EndsHere, Unknown, takes, takes_all, written_all, at, operand_of, operand_bytes, bytes_on, bytes_of}
-use Rattle.code_form.specs.Machine.{base_of, back_to, out_to}
+use Rattle.code_form.specs.Machine.{Mem, with_cells, if_there as looks, base_of, back_to, out_to}
 use Rattle.code_form.specs.Machine.{instruction, step, takes_reply, Scene, Rest, rest_at, Stage, On, after_stage, mark_stage, reply_stage, move_stage}
 use Rattle.code_form.specs.Machine.{stage, advance, carry_on, exec}
 use Rattle.code_form.specs.Valid.{IsRefinement}
@@ -40,16 +47,17 @@ use Rattle.elan_types.specs.declared.core_phrase.Exit.{Exit}
 use Rattle.elan_types.specs.declared.core_phrase.Exit.TheVariants as exits
 use Rattle.elan_types.specs.Eval.{Place, World, Outcome, Gives, Left, Stopped, OutOfMarks, Asks, bind, spend_at, spend}
 use Rattle.elan_types.specs.Eval.{heed, ask_at, ask, branch, or_stop, or_outside, the, slots_in, assign, save, store_blocks, turns, Calls, Reach, holding}
-use Rattle.elan_types.specs.Eval.{Passed, AsValue, AsPlace, all_slots}
+use Rattle.elan_types.specs.Eval.{Slot, Taken, is_there, if_there, Passed, AsValue, AsPlace, all_slots}
 use Rattle.elan_types.specs.Command as endings
 use Rattle.elan_types.specs.Command.{Ending}
 use Rattle.place_gen.specs.Stretch.{Stretch, join}
-use Rattle.place_gen.specs.Correct.{addr_of, RestsAs, Shows, Comes, scene_of}
+use Rattle.place_gen.specs.Correct.{addr_of, StandsFor, Image, RestsAs, Shows, Comes, scene_of}
 use Rattle.place_gen.proofs.Lines.{HasAt, has_front, has_rest}
 use Rattle.elan_types.proofs.Shapes.{cell_is}
 use Rattle.place_gen.proofs.Homes.{LeftBy, frame_uses}
-use Rattle.place_gen.proofs.Cells.{Use, OfValue, Uses, AtKinds, AtPlace, uses_in, AreCounts, counts_append, Keeps, image, all_variables}
-use Rattle.place_gen.proofs.Spans.{AreOf, place_this, writes_all, takes_values}
+use Rattle.place_gen.proofs.Cells.{Use, OfValue, Uses, AtPlace, AreCounts, counts_append, get_back, get_right, Keeps, image, all_variables, has_spaces}
+use Rattle.place_gen.proofs.Spans.{AreOf, IsFound, found, takes_values}
+use Rattle.place_gen.proofs.Spaces.{writes_all}
 use Rattle.place_gen.proofs.Blocks.{held_blocks, same_blocks}
 
 -- what an outcome goes on to, after a result and by an exit
@@ -99,8 +107,15 @@ is_one k L vs h = one_of k vs (subst (λ ks. AreOf ks vs) (cell_is k) h)
 pub of_one : (k : Kind) (L : Uses) (v : Value) → IsOf k v → OfShape (Cell k) L (v ∷ [])
 of_one k L v ok = subst (λ ks. AreOf ks (v ∷ [])) (sym (cell_is k)) (ok, tt)
 
-pub at_one : (P : List Kind) (k : Kind) (L : Uses) (x : Place) → AtShape P (Cell k) L x → slice_get (uses_in P L x.area) x.variable ≡ Some (OfValue k)
-at_one P k L x h = (subst (λ ks. AtKinds ks (uses_in P L x.area) x.variable) (cell_is k) h.0).0
+pub at_one : (P : List Kind) (k : Kind) (L : Uses) (x : Place) → AtShape P (Cell k) L x → AtPlace P (k ∷ []) L x
+at_one P k L x h = subst (λ ks. AtPlace P ks L x) (cell_is k) h
+
+-- values are of these kinds
+pub kinds_same : (ks : List Kind) (vs : List Value) → AreOf ks vs → map kind_of vs ≡ ks
+kinds_same [] [] h = refl
+kinds_same [] (v ∷ vs) h = absurd h
+kinds_same (k ∷ ks) [] h = absurd h
+kinds_same (k ∷ ks) (v ∷ vs) h = ap (λ (k : Kind). k ∷ map kind_of vs) (kind_is k v h.0) ∙ ap (λ l. k ∷ l) (kinds_same ks vs h.1)
 
 -- what a body delivers
 abbrev pub Result : Option Shape → Option (List Value) → Type 0
@@ -111,6 +126,23 @@ Result _ _ = ⊥
 abbrev pub result_ops : Option (List Value) → List Operand
 result_ops None = []
 result_ops (Some vs) = operand_of vs ∷ []
+
+-- with a slot more that only counts
+abbrev pub with_count : World → World
+with_count w = record w { store = w.store ++ Taken ∷ [] }
+
+counted_image : (store : List Slot) (cells : Cells) → Image Run store cells → Image Run (store ++ Taken ∷ []) cells
+counted_image store cells h room x s e =
+    let long = length-append store (Taken ∷ []) in
+    let within = slice_get_within (store ++ Taken ∷ []) x s e in
+    let fits : cells_fit (length store) ≡ true = grind (arith, nat_tests, room, long) in
+    ⊎_elim (λ lt. h fits x s (sym (get_back store (Taken ∷ []) x lt) ∙ e))
+    (λ le.
+    let last : x ≡ length store + 0 = omega (arith, le, within, long) in
+    let is : Some Taken ≡ Some s = sym (get_right store (Taken ∷ []) 0) ∙ ap (slice_get (store ++ Taken ∷ [])) (sym last) ∙ e in
+    let same : Taken ≡ s = cc in
+    subst (StandsFor (cells (area_cell Run x))) same tt)
+    (cases_lt x (length store))
 
 -- the operand of what a parameter is given
 abbrev pub passed_operand : Passed → Operand
@@ -124,7 +156,7 @@ operand_size (v ∷ []) = omega arith
 operand_size (v ∷ u ∷ vs) = refl
 
 -- how a body is left
-abbrev pub way_out : Program → Exit → List Operand → ℕ → List Frame → Cells → Move
+abbrev pub way_out : Program → Exit → List Operand → ℕ → List Frame → Mem → Move
 way_out p exits.Body = back_to p
 way_out p exits.Around = out_to p
 
@@ -143,11 +175,18 @@ module _ (p : Program) where
 
   -- the machine comes so to rest from any cells that keep the store
   abbrev pub Ends : Uses → Position → World → Ending → Type 0
-  Ends L c w e = (cells : Cells) → Keeps P L w cells → Comes p (free c) (scene_of w cells) e
+  Ends L c w e = (memory : Mem) → Keeps P L w memory → Comes p (free c) (scene_of w memory) e
 
   -- a rest where the cells keep the store
-  pub resting : {L : Uses} (h : Halt) (d : Control) (w : World) (cells : Cells) → Keeps P L w cells → RestsAs p h w (rest_at h d (scene_of w cells))
-  resting {L} h d w cells keeps = record { how = refl; marks = refl; replies = refl; command = image Run P L w.store cells keeps.command; packets = all_variables Packets P P w.packets cells keeps.packets }
+  pub resting : {L : Uses} (h : Halt) (d : Control) (w : World) (memory : Mem) → Keeps P L w memory → RestsAs p h w (rest_at h d (scene_of w memory))
+  resting {L} h d w memory keeps = record {
+    how = refl;
+    marks = refl;
+    replies = refl;
+    command = image Run P L w.store memory.cells keeps.command;
+    packets = all_variables Packets P P w.packets memory.cells keeps.packets;
+    spaces = has_spaces P w.spaces memory keeps.spaces;
+  }
 
   -- what a step leads to comes to rest so
   pub record After (st : Stage) (e : Ending) : Type 0 where
@@ -164,126 +203,168 @@ module _ (p : Program) where
   abbrev pub Does : Control → Scene → Move → Type 0
   Does d s m = advance p d s ≡ move_stage m d s
 
-  pub does : (c : Position) (s : Scene) (m : Move) → step p c s.cells ≡ m → Does (free c) s m
+  pub does : (c : Position) (s : Scene) (m : Move) → step p c s.mem ≡ m → Does (free c) s m
   does c s m h = ap (λ m. stage m c s) h
 
-  pub does_given : (c : Position) (r : Reply) (s : Scene) (m : Move) → takes_reply (instr_of (slice_get p.lines c.pc)) r c s.cells ≡ m → Does (given c r) s m
+  pub does_given : (c : Position) (r : Reply) (s : Scene) (m : Move) → takes_reply (instr_of (slice_get p.lines c.pc)) r c s.mem ≡ m → Does (given c r) s m
   does_given c r s m h = ap (λ m. move_stage m (given c r) s) h
 
   -- a step, and what it leads to
   on_does : (d : Control) (s : Scene) (m : Move) (e : Ending) → Does d s m → After (move_stage m d s) e → Comes p d s e
   on_does d s m e h a = record { steps = suc a.steps; rest = a.rest; comes = ap (λ st. carry_on st (exec p a.steps)) h ∙ a.comes; shows = a.shows }
 
-  pub on_move : (c : Position) (s : Scene) (m : Move) (e : Ending) → step p c s.cells ≡ m → After (stage m c s) e → Comes p (free c) s e
+  pub on_move : (c : Position) (s : Scene) (m : Move) (e : Ending) → step p c s.mem ≡ m → After (stage m c s) e → Comes p (free c) s e
   on_move c s m e h a = on_does (free c) s m e (does c s m h) a
 
-  pub does_go : (d : Control) (c' : Position) (s : Scene) (cells : Cells) (e : Ending) → Does d s (Goes c' cells)
-      → Comes p (free c') (record s { cells = cells }) e → Comes p d s e
-  does_go d c' s cells e h a = on_does d s (Goes c' cells) e h (going (free c') (record s { cells = cells }) e a)
+  pub does_go : (d : Control) (c' : Position) (s : Scene) (memory : Mem) (e : Ending) → Does d s (Goes c' memory)
+      → Comes p (free c') (record s { mem = memory }) e → Comes p d s e
+  does_go d c' s memory e h a = on_does d s (Goes c' memory) e h (going (free c') (record s { mem = memory }) e a)
 
-  pub on_step : (c c' : Position) (s : Scene) (cells : Cells) (e : Ending) → step p c s.cells ≡ Goes c' cells → Comes p (free c') (record s { cells = cells }) e
+  pub on_step : (c c' : Position) (s : Scene) (memory : Mem) (e : Ending) → step p c s.mem ≡ Goes c' memory → Comes p (free c') (record s { mem = memory }) e
       → Comes p (free c) s e
-  on_step c c' s cells e h a = does_go (free c) c' s cells e (does c s (Goes c' cells) h) a
+  on_step c c' s memory e h a = does_go (free c) c' s memory e (does c s (Goes c' memory) h) a
 
   -- the machine goes from one place to another and changes nothing else
   abbrev pub Leads : Position → Position → Type 0
-  Leads c c' = (cells : Cells) → step p c cells ≡ Goes c' cells
+  Leads c c' = (memory : Mem) → step p c memory ≡ Goes c' memory
 
   pub lead_ends : (L : Uses) (c c' : Position) (w : World) (e : Ending) → Leads c c' → Ends L c' w e → Ends L c w e
-  lead_ends L c c' w e l a = λ cells h. on_step c c' (scene_of w cells) cells e (l cells) (a cells h)
+  lead_ends L c c' w e l a = λ memory h. on_step c c' (scene_of w memory) memory e (l memory) (a memory h)
 
-  pub stop_comes : (L : Uses) (d : Control) (w : World) (s : Stop) (cells : Cells) → Keeps P L w cells → Does d (scene_of w cells) (Halts s)
-      → Comes p d (scene_of w cells) (endings.Stopped s w)
-  stop_comes L d w s cells keeps h = on_does d (scene_of w cells) (Halts s) (endings.Stopped s w) h (record {
+  pub stop_comes : (L : Uses) (d : Control) (w : World) (s : Stop) (memory : Mem) → Keeps P L w memory → Does d (scene_of w memory) (Halts s)
+      → Comes p d (scene_of w memory) (endings.Stopped s w)
+  stop_comes L d w s memory keeps h = on_does d (scene_of w memory) (Halts s) (endings.Stopped s w) h (record {
     steps = 0;
-    rest = rest_at (halts.Stopped s) d (scene_of w cells);
+    rest = rest_at (halts.Stopped s) d (scene_of w memory);
     comes = refl;
-    shows = resting (halts.Stopped s) d w cells keeps;
+    shows = resting (halts.Stopped s) d w memory keeps;
   })
 
-  pub stop_ends : (L : Uses) (c : Position) (w : World) (s : Stop) → ((cells : Cells) → step p c cells ≡ Halts s) → Ends L c w (endings.Stopped s w)
-  stop_ends L c w s h = λ cells keeps. stop_comes L (free c) w s cells keeps (does c (scene_of w cells) (Halts s) (h cells))
+  -- the same where a cell that counts is about to be taken
+  pub stop_counted : (L : Uses) (d : Control) (w : World) (s : Stop) (memory : Mem) → Keeps P L w memory → Does d (scene_of w memory) (Halts s)
+      → Comes p d (scene_of w memory) (endings.Stopped s (with_count w))
+  stop_counted L d w s memory keeps h =
+      let rests = resting (halts.Stopped s) d w memory keeps in
+      on_does d (scene_of w memory) (Halts s) (endings.Stopped s (with_count w)) h (record {
+        steps = 0;
+        rest = rest_at (halts.Stopped s) d (scene_of w memory);
+        comes = refl;
+        shows = record {
+          how = refl;
+          marks = refl;
+          replies = refl;
+          command = counted_image w.store memory.cells rests.command;
+          packets = rests.packets;
+          spaces = rests.spaces;
+        };
+      })
+
+  pub stop_ends : (L : Uses) (c : Position) (w : World) (s : Stop) → ((memory : Mem) → step p c memory ≡ Halts s) → Ends L c w (endings.Stopped s w)
+  stop_ends L c w s h = λ memory keeps. stop_comes L (free c) w s memory keeps (does c (scene_of w memory) (Halts s) (h memory))
 
   -- what is refused stops in the next step
-  pub refuse_ends : (L : Uses) (c c' : Position) (w : World) (s : Stop) → ((cells : Cells) → step p c cells ≡ Refuses s c')
+  pub refuse_ends : (L : Uses) (c c' : Position) (w : World) (s : Stop) → ((memory : Mem) → step p c memory ≡ Refuses s c')
       → Ends L c w (endings.Stopped s w)
-  refuse_ends L c c' w s h = λ cells keeps. on_move c (scene_of w cells) (Refuses s c') (endings.Stopped s w) (h cells) (record {
+  refuse_ends L c c' w s h = λ memory keeps. on_move c (scene_of w memory) (Refuses s c') (endings.Stopped s w) (h memory) (record {
     steps = 1;
-    rest = rest_at (halts.Stopped s) (refused c' s) (scene_of w cells);
+    rest = rest_at (halts.Stopped s) (refused c' s) (scene_of w memory);
     comes = refl;
-    shows = resting (halts.Stopped s) (refused c' s) w cells keeps;
+    shows = resting (halts.Stopped s) (refused c' s) w memory keeps;
   })
 
-  pub end_ends : (L : Uses) (c : Position) (w : World) → ((cells : Cells) → step p c cells ≡ EndsHere) → Ends L c w (endings.Ended w)
-  end_ends L c w h = λ cells keeps. on_move c (scene_of w cells) EndsHere (endings.Ended w) (h cells) (record {
+  pub end_ends : (L : Uses) (c : Position) (w : World) → ((memory : Mem) → step p c memory ≡ EndsHere) → Ends L c w (endings.Ended w)
+  end_ends L c w h = λ memory keeps. on_move c (scene_of w memory) EndsHere (endings.Ended w) (h memory) (record {
     steps = 0;
-    rest = rest_at halts.Ended (free c) (scene_of w cells);
+    rest = rest_at halts.Ended (free c) (scene_of w memory);
     comes = refl;
-    shows = resting halts.Ended (free c) w cells keeps;
+    shows = resting halts.Ended (free c) w memory keeps;
   })
 
   -- what is delivered goes on where it has room, or stops
   pub read_comes : {L : Uses} {A : Type 0} (d : Control) (a : A) (t : Bool) (to : A → Position) (k : A → World → Ending)
-      (l : Exit → Option (List Value) → World → Ending) (w : World) (cells : Cells) → Keeps P L w cells → Ends L (to a) w (k a w)
-      → Does d (scene_of w cells) (cond t (Goes (to a) cells) (Halts OperandRoom))
-      → Comes p d (scene_of w cells) (finish (branch t (Gives a) (Stopped OperandRoom) w) k l)
-  read_comes d a true to k l w cells h next e = does_go d (to a) (scene_of w cells) cells _ e (next cells h)
-  read_comes {L} d a false to k l w cells h next e = stop_comes L d w OperandRoom cells h e
+      (l : Exit → Option (List Value) → World → Ending) (w : World) (memory : Mem) → Keeps P L w memory → Ends L (to a) w (k a w)
+      → Does d (scene_of w memory) (cond t (Goes (to a) memory) (Halts OperandRoom))
+      → Comes p d (scene_of w memory) (finish (branch t (Gives a) (Stopped OperandRoom) w) k l)
+  read_comes d a true to k l w memory h next e = does_go d (to a) (scene_of w memory) memory _ e (next memory h)
+  read_comes {L} d a false to k l w memory h next e = stop_comes L d w OperandRoom memory h e
 
   read_ends : {L : Uses} {A : Type 0} (c : Position) (a : A) (t : Bool) (to : A → Position) (k : A → World → Ending) (l : Exit → Option (List Value) → World → Ending)
-      (w : World) (cells : Cells) → Keeps P L w cells → Ends L (to a) w (k a w) → step p c cells ≡ cond t (Goes (to a) cells) (Halts OperandRoom)
-      → Comes p (free c) (scene_of w cells) (finish (branch t (Gives a) (Stopped OperandRoom) w) k l)
-  read_ends c a t to k l w cells h next e = read_comes (free c) a t to k l w cells h next (does c (scene_of w cells) _ e)
+      (w : World) (memory : Mem) → Keeps P L w memory → Ends L (to a) w (k a w) → step p c memory ≡ cond t (Goes (to a) memory) (Halts OperandRoom)
+      → Comes p (free c) (scene_of w memory) (finish (branch t (Gives a) (Stopped OperandRoom) w) k l)
+  read_ends c a t to k l w memory h next e = read_comes (free c) a t to k l w memory h next (does c (scene_of w memory) _ e)
+
+  -- what looks whether cells of these kinds stand at a place: it stops where they do not
+  pub there_ends : {L : Uses} {A : Type 0} (d : Control) (ks : List Kind) (x : Place) (go : World → Outcome A) (move : Move) (k : A → World → Ending)
+      (l : Exit → Option (List Value) → World → Ending) (w : World) (memory : Mem) → Keeps P L w memory
+      → Does d (scene_of w memory) (looks ks (addr_of x) memory move)
+      → (is_there ks x w ≡ true → Does d (scene_of w memory) move → Comes p d (scene_of w memory) (finish (go w) k l))
+      → Comes p d (scene_of w memory) (finish (if_there ks x go w) k l)
+  there_ends {L} d ks x go move k l w memory h does next =
+      by (is_there ks x w) refl
+      (does ∙ ap (λ (t : Bool). move_stage (cond t move (Halts NoSpace)) d (scene_of w memory)) (ap (is_in ks x.area x.variable) h.spaces.heads))
+    where
+      by : (t : Bool) → is_there ks x w ≡ t → Does d (scene_of w memory) (cond t move (Halts NoSpace))
+          → Comes p d (scene_of w memory) (finish (branch t go (Stopped NoSpace) w) k l)
+      by true e m = next e m
+      by false e m = stop_comes L d w NoSpace memory h m
 
   -- an instruction that writes to the cell of a variable
-  pub write_ends : {L : Uses} (c c' : Position) (w : World) (x : Place) (k : Kind) (v : Value) (e : Ending) (cells : Cells) → length P ≤ CELLS → length L ≤ CELLS
-      → slice_get (uses_in P L x.area) x.variable ≡ Some (OfValue k) → IsOf k v → Keeps P L w cells
-      → step p c cells ≡ Goes c' (written cells (addr_of x) (held_of v)) → Ends L c' (assign x (v ∷ []) w) e → Comes p (free c) (scene_of w cells) e
-  write_ends {L} c c' w x k v e cells few room is ok h m a =
-      on_step c c' (scene_of w cells) (written cells (addr_of x) (held_of v)) e m
-      (a _ (writes_all P (k ∷ []) (v ∷ []) L w cells x few room h (place_this P k L x few room is) (ok, tt)))
+  pub write_ends : {L : Uses} (c c' : Position) (w : World) (x : Place) (k : Kind) (v : Value) (e : Ending) (memory : Mem) → length P ≤ CELLS
+      → length L ≤ CELLS → IsFound P (k ∷ []) L w x → IsOf k v → Keeps P L w memory
+      → Does (free c) (scene_of w memory) (Goes c' (with_cells (written memory.cells (addr_of x) (held_of v)) memory))
+      → Ends L c' (assign x (v ∷ []) w) e → Comes p (free c) (scene_of w memory) e
+  write_ends {L} c c' w x k v e memory few room is ok h m a =
+      let now = with_cells (written memory.cells (addr_of x) (held_of v)) memory in
+      does_go (free c) c' (scene_of w memory) now e m (a now (writes_all P (k ∷ []) (v ∷ []) L w memory x few room h is (ok, tt)))
 
   put_by : {L : Uses} {A : Type 0} (d : Control) (c' : Position) (w : World) (x : Place) (vs : List Value) (go : World → Outcome A)
-      (k : A → World → Ending) (l : Exit → Option (List Value) → World → Ending) (cells now : Cells) (t : Bool) → Keeps P L w cells
+      (k : A → World → Ending) (l : Exit → Option (List Value) → World → Ending) (memory now : Mem) (t : Bool) → Keeps P L w memory
       → Keeps P L (assign x vs w) now
-      → Does d (scene_of w cells) (cond t (Goes c' now) (Halts TextRoom)) → Ends L c' (assign x vs w) (finish (go (assign x vs w)) k l)
-      → Comes p d (scene_of w cells) (finish (branch t (λ w. go (assign x vs w)) (Stopped TextRoom) w) k l)
-  put_by d c' w x vs go k l cells now true h later m next = does_go d c' (scene_of w cells) now _ m (next now later)
-  put_by {L} d c' w x vs go k l cells now false h later m next = stop_comes L d w TextRoom cells h m
+      → Does d (scene_of w memory) (cond t (Goes c' now) (Halts TextRoom)) → Ends L c' (assign x vs w) (finish (go (assign x vs w)) k l)
+      → Comes p d (scene_of w memory) (finish (branch t (λ w. go (assign x vs w)) (Stopped TextRoom) w) k l)
+  put_by d c' w x vs go k l memory now true h later m next = does_go d c' (scene_of w memory) now _ m (next now later)
+  put_by {L} d c' w x vs go k l memory now false h later m next = stop_comes L d w TextRoom memory h m
 
-  -- what stores a value at a place, where its texts have room: both sides count the same blocks
+  -- what stores a value at a place, where its cells are there and its texts have room: both sides count the same blocks
   pub put_all_ends : {L : Uses} {A : Type 0} (d : Control) (c' : Position) (w : World) (x : Place) (kinds : List Kind) (vs : List Value)
-      (go : World → Outcome A) (k : A → World → Ending) (l : Exit → Option (List Value) → World → Ending) (cells : Cells) → length P ≤ CELLS → length L ≤ CELLS
-      → AtAll P kinds L x → AreOf kinds vs → Keeps P L w cells
-      → Does d (scene_of w cells) (cond (takes_all vs (addr_of x) cells)
-      (cond (texts_fit (values_blocks vs) (area_blocks x.area (written_all cells (addr_of x) vs)))
-      (Goes c' (written_all cells (addr_of x) vs)) (Halts TextRoom)) Unknown)
-      → Ends L c' (assign x vs w) (finish (go (assign x vs w)) k l) → Comes p d (scene_of w cells) (finish (save x vs go w) k l)
-  put_all_ends {L} d c' w x kinds vs go k l cells few room is ok h m next =
-      let now = written_all cells (addr_of x) vs in
-      let later = writes_all P kinds vs L w cells x few room h is ok in
+      (go : World → Outcome A) (k : A → World → Ending) (l : Exit → Option (List Value) → World → Ending) (memory : Mem) → length P ≤ CELLS
+      → length L ≤ CELLS → AtAll P kinds L x → AreOf kinds vs → Keeps P L w memory
+      → Does d (scene_of w memory) (looks (map kind_of vs) (addr_of x) memory (cond (takes_all vs (addr_of x) memory.cells)
+      (cond (texts_fit (values_blocks vs) (area_blocks x.area (written_all memory.cells (addr_of x) vs)))
+      (Goes c' (with_cells (written_all memory.cells (addr_of x) vs) memory)) (Halts TextRoom)) Unknown))
+      → Ends L c' (assign x vs w) (finish (go (assign x vs w)) k l) → Comes p d (scene_of w memory) (finish (save x vs go w) k l)
+  put_all_ends {L} d c' w x kinds vs go k l memory few room is ok h m next =
+      let now = with_cells (written_all memory.cells (addr_of x) vs) memory in
       let move = λ (all : ℕ). cond (texts_fit (values_blocks vs) all) (Goes c' now) (Halts TextRoom) in
-      put_by d c' w x vs go k l cells now (texts_fit (values_blocks vs) (store_blocks (slots_in x.area (assign x vs w)))) h later
-      (m ∙ ap (λ m. move_stage m d (scene_of w cells))
-      (ap (λ t. cond t (move (area_blocks x.area now)) Unknown) (takes_values P kinds vs L w cells x few room h is ok)
-      ∙ ap move (sym (same_blocks x.area P L (assign x vs w) now few room later)))) next
+      let all = cond (takes_all vs (addr_of x) memory.cells) (move (area_blocks x.area now.cells)) Unknown in
+      let store = λ (w : World).
+      branch (texts_fit (values_blocks vs) (store_blocks (slots_in x.area (assign x vs w)))) (λ w. go (assign x vs w)) (Stopped TextRoom) w in
+      there_ends d (map kind_of vs) x store all k l w memory h m (λ there does.
+      let at = found P kinds L w x is (subst (λ ks. is_there ks x w ≡ true) (kinds_same kinds vs ok) there) in
+      let later = writes_all P kinds vs L w memory x few room h at ok in
+      put_by d c' w x vs go k l memory now (texts_fit (values_blocks vs) (store_blocks (slots_in x.area (assign x vs w)))) h later
+      (does ∙ ap (λ m. move_stage m d (scene_of w memory))
+      (ap (λ t. cond t (move (area_blocks x.area now.cells)) Unknown) (takes_values P kinds vs L w memory x few room h at ok)
+      ∙ ap move (sym (same_blocks x.area P L (assign x vs w) now few room later)))) next)
 
   -- a value of one cell
   pub put_ends : {L : Uses} {A : Type 0} (d : Control) (c' : Position) (w : World) (x : Place) (kind : Kind) (v : Value) (go : World → Outcome A)
-      (k : A → World → Ending) (l : Exit → Option (List Value) → World → Ending) (cells : Cells) → length P ≤ CELLS → length L ≤ CELLS
-      → slice_get (uses_in P L x.area) x.variable ≡ Some (OfValue kind) → IsOf kind v → Keeps P L w cells
-      → Does d (scene_of w cells) (cond (takes (held_of v) (cells (addr_of x)))
-      (cond (texts_fit (cell_blocks (held_of v)) (area_blocks x.area (written cells (addr_of x) (held_of v))))
-      (Goes c' (written cells (addr_of x) (held_of v))) (Halts TextRoom)) Unknown)
-      → Ends L c' (assign x (v ∷ []) w) (finish (go (assign x (v ∷ []) w)) k l) → Comes p d (scene_of w cells) (finish (save x (v ∷ []) go w) k l)
-  put_ends {L} d c' w x kind v go k l cells few room is ok h m next =
-      let now = written cells (addr_of x) (held_of v) in
-      let move = λ (t : Bool) (own : ℕ). cond t (cond (texts_fit own (area_blocks x.area now)) (Goes c' now) (Halts TextRoom)) Unknown in
-      let takes_it = takes (held_of v) (cells (addr_of x)) in
-      let same : takes_it ≡ takes_all (v ∷ []) (addr_of x) cells = and_true takes_it in
+      (k : A → World → Ending) (l : Exit → Option (List Value) → World → Ending) (memory : Mem) → length P ≤ CELLS → length L ≤ CELLS
+      → AtPlace P (kind ∷ []) L x → IsOf kind v → Keeps P L w memory
+      → Does d (scene_of w memory) (looks (kind_of v ∷ []) (addr_of x) memory (cond (takes (held_of v) (memory.cells (addr_of x)))
+      (cond (texts_fit (cell_blocks (held_of v)) (area_blocks x.area (written memory.cells (addr_of x) (held_of v))))
+      (Goes c' (with_cells (written memory.cells (addr_of x) (held_of v)) memory)) (Halts TextRoom)) Unknown))
+      → Ends L c' (assign x (v ∷ []) w) (finish (go (assign x (v ∷ []) w)) k l) → Comes p d (scene_of w memory) (finish (save x (v ∷ []) go w) k l)
+  put_ends {L} d c' w x kind v go k l memory few room is ok h m next =
+      let now = with_cells (written memory.cells (addr_of x) (held_of v)) memory in
+      let move = λ (t : Bool) (own : ℕ).
+      looks (kind_of v ∷ []) (addr_of x) memory (cond t (cond (texts_fit own (area_blocks x.area now.cells)) (Goes c' now) (Halts TextRoom)) Unknown) in
+      let takes_it = takes (held_of v) (memory.cells (addr_of x)) in
+      let same : takes_it ≡ takes_all (v ∷ []) (addr_of x) memory.cells = and_true takes_it in
       let own : cell_blocks (held_of v) ≡ values_blocks (v ∷ []) = omega (arith, held_blocks v) in
-      put_all_ends d c' w x (kind ∷ []) (v ∷ []) go k l cells few room (place_this P kind L x few room is) (ok, tt) h
-      (m ∙ ap (λ m. move_stage m d (scene_of w cells)) (ap (λ t. move t (cell_blocks (held_of v))) same ∙ ap (move (takes_all (v ∷ []) (addr_of x) cells)) own))
+      put_all_ends d c' w x (kind ∷ []) (v ∷ []) go k l memory few room is (ok, tt) h
+      (m ∙ ap (λ m. move_stage m d (scene_of w memory))
+      (ap (λ t. move t (cell_blocks (held_of v))) same ∙ ap (move (takes_all (v ∷ []) (addr_of x) memory.cells)) own))
       next
     where
       and_true : (t : Bool) → t ≡ (t && true)
@@ -293,8 +374,8 @@ module _ (p : Program) where
   -- where a body is left, the machine goes to the frame below, and on as the exit says, whatever cells were taken meanwhile to count
   pub record Exits (L : Uses) (b : ℕ) (body : Option ℕ) (fs : List Frame) (l : Exit → Option (List Value) → World → Ending) : Type 0 where
     pub by : (e : Exit) (s : Option Shape) → LeftBy p body e s → (more : Uses) → AreCounts more → (v : Option (List Value)) (w : World) → Result s v → w.marks ≤ b
-        → (c : Position) → c.used ≡ length L + length more → (cells : Cells) → Keeps P (L ++ more) w cells
-        → After (stage (way_out p e (result_ops v) c.used fs cells) c (scene_of w cells)) (l e v w)
+        → (c : Position) → c.used ≡ length L + length more → (memory : Mem) → Keeps P (L ++ more) w memory
+        → After (stage (way_out p e (result_ops v) c.used fs memory) c (scene_of w memory)) (l e v w)
 
   pub fewer : {L : Uses} {b b' : ℕ} {body : Option ℕ} {fs : List Frame} {l : Exit → Option (List Value) → World → Ending} → b' ≤ b → Exits L b body fs l
       → Exits L b' body fs l
@@ -304,9 +385,9 @@ module _ (p : Program) where
   pub wider : {b : ℕ} {body : Option ℕ} {fs : List Frame} {l : Exit → Option (List Value) → World → Ending} (L M : Uses) → AreCounts M → Exits L b body fs l
       → Exits (L ++ M) b body fs l
   wider L M all h = record {
-    by = λ e k d more counts v w r m c used cells keeps.
-        h.by e k d (M ++ more) (counts_append M more all counts) v w r m c (omega (arith, used, length-append L M, length-append M more)) cells
-        (subst (λ U. Keeps P U w cells) (append_assoc L M more) keeps);
+    by = λ e k d more counts v w r m c used memory keeps.
+        h.by e k d (M ++ more) (counts_append M more all counts) v w r m c (omega (arith, used, length-append L M, length-append M more)) memory
+        (subst (λ U. Keeps P U w memory) (append_assoc L M more) keeps);
   }
 
   -- where the cells are in use so, with at most b marks and in a body over these frames, the machine goes from a place as the phrase
@@ -320,54 +401,54 @@ module _ (p : Program) where
   pub record Answers {A : Type 0} (L : Uses) (Good : Uses → A → Type 0) (b : ℕ) (c : Position) (r : Reply) (run : World → Outcome A) (to : A → Position)
       : Type 0 where
     pub by : (k : A → World → Ending) (l : Exit → Option (List Value) → World → Ending) → ((a : A) (w : World) → Good L a → w.marks ≤ b → Ends L (to a) w (k a w))
-        → (w : World) → w.marks ≤ b → (cells : Cells) → Keeps P L w cells → Comes p (given c r) (scene_of w cells) (finish (run w) k l)
+        → (w : World) → w.marks ≤ b → (memory : Mem) → Keeps P L w memory → Comes p (given c r) (scene_of w memory) (finish (run w) k l)
 
   -- a mark, and what follows it: it goes on so, or stops
-  pub record Goes' {A : Type 0} (L : Uses) (body : Option ℕ) (fs : List Frame) (Good : Uses → A → Type 0) (b : ℕ) (c : Position) (a : Cells → AfterMark)
+  pub record Goes' {A : Type 0} (L : Uses) (body : Option ℕ) (fs : List Frame) (Good : Uses → A → Type 0) (b : ℕ) (c : Position) (a : Mem → AfterMark)
       (run : World → Outcome A) (to : A → Position) : Type 0 where
     pub by : (k : A → World → Ending) (l : Exit → Option (List Value) → World → Ending) → ((a : A) (w : World) → Good L a → w.marks ≤ b → Ends L (to a) w (k a w))
-        → Exits L b body fs l → (w : World) → w.marks ≤ b → (cells : Cells) → Keeps P L w cells
-        → After (after_stage (a cells) (free c) (scene_of w cells)) (finish (run w) k l)
+        → Exits L b body fs l → (w : World) → w.marks ≤ b → (memory : Mem) → Keeps P L w memory
+        → After (after_stage (a memory) (free c) (scene_of w memory)) (finish (run w) k l)
 
-  no_turns : {L : Uses} (m : ℕ) (a : AfterMark) (c : Position) (w : World) (cells : Cells) → m ≤ 0 → Keeps P L w cells
-      → After (mark_stage m a (free c) (scene_of w cells)) (endings.OutOfMarks w)
-  no_turns {L} zero a c w cells le h = record {
+  no_turns : {L : Uses} (m : ℕ) (a : AfterMark) (c : Position) (w : World) (memory : Mem) → m ≤ 0 → Keeps P L w memory
+      → After (mark_stage m a (free c) (scene_of w memory)) (endings.OutOfMarks w)
+  no_turns {L} zero a c w memory le h = record {
     steps = 0;
-    rest = rest_at halts.Marked (free c) (scene_of w cells);
+    rest = rest_at halts.Marked (free c) (scene_of w memory);
     comes = refl;
-    shows = resting halts.Marked (free c) w cells h;
+    shows = resting halts.Marked (free c) w memory h;
   }
-  no_turns (suc m) a c w cells le h = absurd (omega arith)
+  no_turns (suc m) a c w memory le h = absurd (omega arith)
 
   -- a reply is heeded: it stops, or its instruction goes on with it
   heeded : {L : Uses} {A : Type 0} {Good : Uses → A → Type 0} (b : ℕ) (r : Reply) (q : Request) (c : Position) (run : Reply → World → Outcome A)
       (to : A → Position) → ((r : Reply) → Answers L Good b c r (run r) to) → (k : A → World → Ending) (l : Exit → Option (List Value) → World → Ending)
-      → ((a : A) (w : World) → Good L a → w.marks ≤ b → Ends L (to a) w (k a w)) → (w : World) → w.marks ≤ b → (cells : Cells) → Keeps P L w cells
-      → Comes p (answered q r c) (scene_of w cells) (finish (heed r run w) k l)
-  heeded b replies.Done q c run to h k l hk w le cells keeps = (h replies.Done).by k l hk w le cells keeps
-  heeded b (replies.Text t) q c run to h k l hk w le cells keeps = (h (replies.Text t)).by k l hk w le cells keeps
-  heeded b (replies.Task n) q c run to h k l hk w le cells keeps = (h (replies.Task n)).by k l hk w le cells keeps
-  heeded b (replies.Truth t) q c run to h k l hk w le cells keeps = (h (replies.Truth t)).by k l hk w le cells keeps
-  heeded {L} b (replies.Stopped s) q c run to h k l hk w le cells keeps = record {
+      → ((a : A) (w : World) → Good L a → w.marks ≤ b → Ends L (to a) w (k a w)) → (w : World) → w.marks ≤ b → (memory : Mem) → Keeps P L w memory
+      → Comes p (answered q r c) (scene_of w memory) (finish (heed r run w) k l)
+  heeded b replies.Done q c run to h k l hk w le memory keeps = (h replies.Done).by k l hk w le memory keeps
+  heeded b (replies.Text t) q c run to h k l hk w le memory keeps = (h (replies.Text t)).by k l hk w le memory keeps
+  heeded b (replies.Task n) q c run to h k l hk w le memory keeps = (h (replies.Task n)).by k l hk w le memory keeps
+  heeded b (replies.Truth t) q c run to h k l hk w le memory keeps = (h (replies.Truth t)).by k l hk w le memory keeps
+  heeded {L} b (replies.Stopped s) q c run to h k l hk w le memory keeps = record {
     steps = 1;
-    rest = rest_at (halts.Stopped s) (refused c s) (scene_of w cells);
+    rest = rest_at (halts.Stopped s) (refused c s) (scene_of w memory);
     comes = refl;
-    shows = resting (halts.Stopped s) (refused c s) w cells keeps;
+    shows = resting (halts.Stopped s) (refused c s) w memory keeps;
   }
 
   replied : {L : Uses} {A : Type 0} {Good : Uses → A → Type 0} (b : ℕ) (rs : List Reply) (q : Request) (c : Position) (run : Reply → World → Outcome A)
       (to : A → Position) → ((r : Reply) → Answers L Good b c r (run r) to) → (k : A → World → Ending) (l : Exit → Option (List Value) → World → Ending)
-      → ((a : A) (w : World) → Good L a → w.marks ≤ b → Ends L (to a) w (k a w)) → (w : World) → w.marks ≤ b → (cells : Cells) → Keeps P L w cells
-      → After (reply_stage rs q c (scene_of w cells)) (finish (ask_at rs q w run) k l)
-  replied {L} b [] q c run to h k l hk w le cells keeps = record {
+      → ((a : A) (w : World) → Good L a → w.marks ≤ b → Ends L (to a) w (k a w)) → (w : World) → w.marks ≤ b → (memory : Mem) → Keeps P L w memory
+      → After (reply_stage rs q c (scene_of w memory)) (finish (ask_at rs q w run) k l)
+  replied {L} b [] q c run to h k l hk w le memory keeps = record {
     steps = 0;
-    rest = rest_at (halts.Asks q) (asking c q) (scene_of w cells);
+    rest = rest_at (halts.Asks q) (asking c q) (scene_of w memory);
     comes = refl;
-    shows = resting (halts.Asks q) (asking c q) w cells keeps;
+    shows = resting (halts.Asks q) (asking c q) w memory keeps;
   }
-  replied b (r ∷ rs) q c run to h k l hk w le cells keeps =
+  replied b (r ∷ rs) q c run to h k l hk w le memory keeps =
       let next : World = record w { replies = rs } in
-      going (answered q r c) (scene_of next cells) _ (heeded b r q c run to h k l hk next le cells keeps)
+      going (answered q r c) (scene_of next memory) _ (heeded b r q c run to h k l hk next le memory keeps)
 
   module _ {L : Uses} {body : Option ℕ} {fs : List Frame} where
     -- what follows a phrase
@@ -409,11 +490,11 @@ module _ (p : Program) where
 
     -- an instruction that delivers what it reads in the cells, where it has room
     pub reads_carries : {A : Type 0} {Good : Uses → A → Type 0} (b : ℕ) (c : Position) (give : World → A) (fits : World → Bool) (to : A → Position)
-        → ((w : World) (cells : Cells) → Keeps P L w cells
-        → Good L (give w) × (step p c cells ≡ cond (fits w) (Goes (to (give w)) cells) (Halts OperandRoom)))
+        → ((w : World) (memory : Mem) → Keeps P L w memory
+        → Good L (give w) × (step p c memory ≡ cond (fits w) (Goes (to (give w)) memory) (Halts OperandRoom)))
         → Carries L body fs Good b c (λ w. branch (fits w) (Gives (give w)) (Stopped OperandRoom) w) to
     reads_carries b c give fits to e =
-        record { by = λ k l hk hl w le cells h. let x = e w cells h in read_ends c (give w) (fits w) to k l w cells h (hk (give w) w x.0 le) x.1 }
+        record { by = λ k l hk hl w le memory h. let x = e w memory h in read_ends c (give w) (fits w) to k l w memory h (hk (give w) w x.0 le) x.1 }
 
     pub branch_carries : {A : Type 0} {Good : Uses → A → Type 0} (b : ℕ) (t : Bool) (c : Bool → Position) (f g : World → Outcome A) (to : A → Position)
         → Carries L body fs Good b (c true) f to → Carries L body fs Good b (c false) g to → Carries L body fs Good b (c t) (branch t f g) to
@@ -421,57 +502,57 @@ module _ (p : Program) where
     branch_carries b false c f g to r s = s
 
     pub to_goes : {A : Type 0} {Good : Uses → A → Type 0} (b : ℕ) (c c' : Position) (run : World → Outcome A) (to : A → Position)
-        → Carries L body fs Good b c' run to → Goes' L body fs Good b c (λ cells. To c' cells) run to
-    to_goes b c c' run to r = record { by = λ k l hk hl w le cells h. going (free c') (scene_of w cells) _ (r.by k l hk hl w le cells h) }
+        → Carries L body fs Good b c' run to → Goes' L body fs Good b c (λ memory. To c' memory) run to
+    to_goes b c c' run to r = record { by = λ k l hk hl w le memory h. going (free c') (scene_of w memory) _ (r.by k l hk hl w le memory h) }
 
-    spent : {A : Type 0} {Good : Uses → A → Type 0} (b m : ℕ) (c : Position) (a : Cells → AfterMark) (run : World → Outcome A) (to : A → Position)
+    spent : {A : Type 0} {Good : Uses → A → Type 0} (b m : ℕ) (c : Position) (a : Mem → AfterMark) (run : World → Outcome A) (to : A → Position)
         → ((b' : ℕ) → b' < b → Goes' L body fs Good b' c a run to) → (k : A → World → Ending) (l : Exit → Option (List Value) → World → Ending)
-        → ((a : A) (w : World) → Good L a → w.marks ≤ b → Ends L (to a) w (k a w)) → Exits L b body fs l → (w : World) → m ≤ b → (cells : Cells)
-        → Keeps P L w cells → m ≡ w.marks → After (mark_stage m (a cells) (free c) (scene_of w cells)) (finish (spend_at m w run) k l)
-    spent b zero c a run to r k l hk hl w le cells h is = record {
+        → ((a : A) (w : World) → Good L a → w.marks ≤ b → Ends L (to a) w (k a w)) → Exits L b body fs l → (w : World) → m ≤ b → (memory : Mem)
+        → Keeps P L w memory → m ≡ w.marks → After (mark_stage m (a memory) (free c) (scene_of w memory)) (finish (spend_at m w run) k l)
+    spent b zero c a run to r k l hk hl w le memory h is = record {
       steps = 0;
-      rest = rest_at halts.Marked (free c) (scene_of w cells);
+      rest = rest_at halts.Marked (free c) (scene_of w memory);
       comes = refl;
-      shows = resting halts.Marked (free c) w cells h;
+      shows = resting halts.Marked (free c) w memory h;
     }
-    spent b (suc m) c a run to r k l hk hl w le cells h is =
+    spent b (suc m) c a run to r k l hk hl w le memory h is =
         (r m (omega arith)).by k l (λ a w good le'. hk a w good (omega (arith, le, le'))) (fewer (omega (arith, le)) hl) (record w { marks = m }) (omega arith)
-        cells h
+        memory h
 
-    pub spend_carries : {A : Type 0} {Good : Uses → A → Type 0} (b : ℕ) (c : Position) (a : Cells → AfterMark) (run : World → Outcome A) (to : A → Position)
-        → ((cells : Cells) → step p c cells ≡ Spends (a cells)) → ((b' : ℕ) → b' < b → Goes' L body fs Good b' c a run to)
+    pub spend_carries : {A : Type 0} {Good : Uses → A → Type 0} (b : ℕ) (c : Position) (a : Mem → AfterMark) (run : World → Outcome A) (to : A → Position)
+        → ((memory : Mem) → step p c memory ≡ Spends (a memory)) → ((b' : ℕ) → b' < b → Goes' L body fs Good b' c a run to)
         → Carries L body fs Good b c (spend run) to
     spend_carries b c a run to e r = record {
-      by = λ k l hk hl w le cells h. on_move c (scene_of w cells) (Spends (a cells)) _ (e cells) (spent b w.marks c a run to r k l hk hl w le cells h refl);
+      by = λ k l hk hl w le memory h. on_move c (scene_of w memory) (Spends (a memory)) _ (e memory) (spent b w.marks c a run to r k l hk hl w le memory h refl);
     }
 
     -- a mark, and then a phrase
     pub mark_carries : {A : Type 0} {Good : Uses → A → Type 0} (b : ℕ) (c c' : Position) (run : World → Outcome A) (to : A → Position)
-        → ((cells : Cells) → step p c cells ≡ Spends (To c' cells)) → ((b' : ℕ) → b' < b → Carries L body fs Good b' c' run to)
+        → ((memory : Mem) → step p c memory ≡ Spends (To c' memory)) → ((b' : ℕ) → b' < b → Carries L body fs Good b' c' run to)
         → Carries L body fs Good b c (spend run) to
-    mark_carries b c c' run to e r = spend_carries b c (λ cells. To c' cells) run to e (λ b' lt. to_goes b' c c' run to (r b' lt))
+    mark_carries b c c' run to e r = spend_carries b c (λ memory. To c' memory) run to e (λ b' lt. to_goes b' c c' run to (r b' lt))
 
     -- a request, which waits at its instruction
     pub ask_carries : {A : Type 0} {Good : Uses → A → Type 0} (b : ℕ) (q : Request) (c : Position) (run : Reply → World → Outcome A) (to : A → Position)
-        → ((cells : Cells) → step p c cells ≡ Spends (AsksFor c q cells)) → ((b' : ℕ) (r : Reply) → Answers L Good b' c r (run r) to)
+        → ((memory : Mem) → step p c memory ≡ Spends (AsksFor c q memory)) → ((b' : ℕ) (r : Reply) → Answers L Good b' c r (run r) to)
         → Carries L body fs Good b c (ask q run) to
-    ask_carries b q c run to e r = spend_carries b c (λ cells. AsksFor c q cells) (λ w. ask_at w.replies q w run) to e (λ b' lt. record {
-      by = λ k l hk hl w le cells h.
-          let a = replied b' w.replies q c run to (r b') k l hk w le cells h in
+    ask_carries b q c run to e r = spend_carries b c (λ memory. AsksFor c q memory) (λ w. ask_at w.replies q w run) to e (λ b' lt. record {
+      by = λ k l hk hl w le memory h.
+          let a = replied b' w.replies q c run to (r b') k l hk w le memory h in
           record { steps = suc a.steps; rest = a.rest; comes = a.comes; shows = a.shows };
     })
 
     -- no marks, and so no turns and no calls
-    pub out_carries : {A : Type 0} {Good : Uses → A → Type 0} (b : ℕ) (c : Position) (a : Cells → AfterMark) (to : A → Position) → b ≤ 0
-        → ((cells : Cells) → step p c cells ≡ Spends (a cells)) → Carries L body fs Good b c OutOfMarks to
+    pub out_carries : {A : Type 0} {Good : Uses → A → Type 0} (b : ℕ) (c : Position) (a : Mem → AfterMark) (to : A → Position) → b ≤ 0
+        → ((memory : Mem) → step p c memory ≡ Spends (a memory)) → Carries L body fs Good b c OutOfMarks to
     out_carries b c a to le e = record {
-      by = λ k l hk hl w le' cells h. on_move c (scene_of w cells) (Spends (a cells)) _ (e cells) (no_turns w.marks (a cells) c w cells (omega arith) h);
+      by = λ k l hk hl w le' memory h. on_move c (scene_of w memory) (Spends (a memory)) _ (e memory) (no_turns w.marks (a memory) c w memory (omega arith) h);
     }
 
     -- a loop
-    pub turns_carries : (m b : ℕ) (turn : World → Outcome Bool) (top body' exit : Position) → ((cells : Cells) → step p top cells ≡ Spends (To body' cells))
+    pub turns_carries : (m b : ℕ) (turn : World → Outcome Bool) (top body' exit : Position) → ((memory : Mem) → step p top memory ≡ Spends (To body' memory))
         → ((b' : ℕ) → b' ≤ b → Carries L body fs Any b' body' turn (λ on. cond on top exit)) → b ≤ m → Carries L body fs Any b top (turns m turn) (λ _. exit)
-    turns_carries zero b turn top body' exit e r le = out_carries b top (λ cells. To body' cells) (λ _. exit) le e
+    turns_carries zero b turn top body' exit e r le = out_carries b top (λ memory. To body' memory) (λ _. exit) le e
     turns_carries (suc m) b turn top body' exit e r le =
         mark_carries b top body' (λ w. bind (turn w) (λ on. branch on (turns m turn) (Gives (tt {0})))) (λ _. exit) e (λ b' lt.
         then_carries b' body' turn (λ on. cond on top exit) (λ on. branch on (turns m turn) (Gives (tt {0}))) (λ _. exit) (r b' (omega arith)) (λ on _.
@@ -499,8 +580,8 @@ module _ (p : Program) where
 
   -- the instruction at a place
   pub here : (pc : ℕ) (i : Instr) (ks : List OperandKind) (m : Spot) → slice_get p.lines pc ≡ Some (line_of i ks m)
-      → (c : Position) (ops : List Operand) (cells : Cells) → step p (at c pc ops) cells ≡ instruction p (Some i) (at c pc ops) cells
-  here pc i ks m h c ops cells = ap (λ o. instruction p (instr_of o) (at c pc ops) cells) h
+      → (c : Position) (ops : List Operand) (memory : Mem) → step p (at c pc ops) memory ≡ instruction p (Some i) (at c pc ops) memory
+  here pc i ks m h c ops memory = ap (λ o. instruction p (instr_of o) (at c pc ops) memory) h
 
   -- two stretches, one after the other
   pub join_carries : {L : Uses} {A B : Type 0} {Good : Uses → A → Type 0} {Fine : Uses → B → Type 0} (f g : Stretch) (b pc : ℕ) (ks : List OperandKind)

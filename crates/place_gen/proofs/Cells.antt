@@ -1,6 +1,6 @@
 -- What the cells in use hold, and how it changes when a variable is written and when cells are taken and given back.
-use Rattle.std.proofs.Common.{◌≡◌, ℕ, zero, suc, ◌+◌, ◌<◌, ◌≤◌, ◌%◌, List, [], ◌∷◌, ◌++◌, map, length, take, Some, Bool, true, false, cond}
-use Rattle.std.proofs.Common.{nat_le, nat_lt, ◌&&◌, refl, sym, ap, ◌∙◌, subst, arith, append_assoc, get_or-set_other, get_or-set_same}
+use Rattle.std.proofs.Common.{◌≡◌, ℕ, zero, suc, ◌+◌, ◌<◌, ◌≤◌, ◌%◌, List, [], ◌∷◌, ◌++◌, map, length, take, Option, Some, Bool, true, false, cond}
+use Rattle.std.proofs.Common.{nat_eq, nat_le, nat_lt, ◌&&◌, refl, sym, ap, ◌∙◌, subst, arith, append_assoc, get_or-set_other, get_or-set_same}
 use Rattle.std.proofs.Common.{length-set, length-append, ⊎_elim}
 use Rattle.std.specs.Prelude.{◌==◌, slice_get, slice_set, slice_index_or, option_map, ℤ}
 use Rattle.std.proofs.lemmas.List.{append-nil, length-map, length-take-le, get_or-take, get_or_append_left}
@@ -15,18 +15,25 @@ use Rattle.eu_base.specs.declared.address.TheConstants.{CELLS}
 use Rattle.eu_base.specs.declared.address.Addr.{Addr}
 use Rattle.eu_base.specs.declared.address.Area.{Area}
 use Rattle.eu_base.specs.declared.address.Area.TheVariants.{Run, Packets}
+use Rattle.eu_base.specs.declared.address.Area.TheVariants as areas
 use Rattle.eu_base.specs.declared.value.Kind.{Kind}
 use Rattle.eu_base.specs.declared.value.Kind.TheVariants as kinds
 use Rattle.eu_base.specs.declared.value.Value.{Value}
-use Rattle.eu_base.specs.declared.value.Value.TheVariants.{Int, Truth, Text, Task}
-use Rattle.eu_base.specs.Values.{IsOf, number_in}
-use Rattle.eu_base.specs.Cells.{Cell, Free, Word, Cells, held_of, IsCell, area_cell, run_cell, packet_cell, same_cell, written, forgotten, is_between}
+use Rattle.eu_base.specs.declared.value.Value.TheVariants.{Int, Truth, Text, Task, Space}
+use Rattle.eu_base.specs.Values.{SpaceNo, IsOf, number_in}
+use Rattle.eu_base.specs.DataSpaces.{Head, Heads, Spaces, heads_of, no_head}
+use Rattle.std.specs.List.{AllByRecursion}
+use Rattle.std.specs.Map.{lookup}
+use Rattle.std.specs.Option.{unwrap_or}
+use Rattle.eu_base.specs.SoundSpaces.{AreSpaces}
+use Rattle.eu_base.specs.SpacePlaces.{kinds_of, values_of, shaped_kinds}
+use Rattle.eu_base.specs.Cells.{Cell, Free, Word, Cells, held_of, IsArea, IsCell, area_cell, run_cell, packet_cell, space_cell, written, forgotten, is_between}
 use Rattle.eu_base.specs.Cells.{place_number, place_in}
 use Rattle.eu_base.proofs.Places.{place_back, same_there}
-use Rattle.eu_base.proofs.Results.{task_back}
-use Rattle.code_form.specs.Machine.{Move, on_word, on_number, on_cell, takes, written_from, is_free, are_free}
+use Rattle.eu_base.proofs.Results.{task_back, space_back}
+use Rattle.code_form.specs.Machine.{Mem, Move, with_cells, on_word, on_number, on_cell, takes, written_from, is_free, are_free}
 use Rattle.elan_types.specs.Eval.{Place, Slot, Holds, Refers, Taken, World, slot_blocks, slots_in, slot_at, value_of, place_of}
-use Rattle.place_gen.specs.Correct.{addr_of, StandsFor, Image, HasVariables}
+use Rattle.place_gen.specs.Correct.{addr_of, StandsFor, Image, HasVariables, AreGiven, HasSpaces}
 
 bits : (z : ℤ) → FitsSigned w16 z → cast_unsigned w16 z < 65536
 bits z f = omega (arith, ints)
@@ -43,19 +50,28 @@ value_back kinds.Int (Int z) go f = ap (λ z. go (Int z)) (number_back z f)
 value_back kinds.Int (Truth b) go f = absurd f
 value_back kinds.Int (Text t) go f = absurd f
 value_back kinds.Int (Task n) go f = absurd f
+value_back kinds.Int (Space s) go f = absurd f
 value_back kinds.Truth (Int z) go f = absurd f
 value_back kinds.Truth (Truth true) go f = refl
 value_back kinds.Truth (Truth false) go f = refl
 value_back kinds.Truth (Text t) go f = absurd f
 value_back kinds.Truth (Task n) go f = absurd f
+value_back kinds.Truth (Space s) go f = absurd f
 value_back kinds.Text (Int z) go f = absurd f
 value_back kinds.Text (Truth b) go f = absurd f
 value_back kinds.Text (Text t) go f = refl
 value_back kinds.Text (Task n) go f = absurd f
+value_back kinds.Text (Space s) go f = absurd f
 value_back kinds.Task (Int z) go f = absurd f
 value_back kinds.Task (Truth b) go f = absurd f
 value_back kinds.Task (Text t) go f = absurd f
 value_back kinds.Task (Task n) go f = ap (λ n. go (Task n)) (task_back n f)
+value_back kinds.Task (Space s) go f = absurd f
+value_back kinds.Space (Int z) go f = absurd f
+value_back kinds.Space (Truth b) go f = absurd f
+value_back kinds.Space (Text t) go f = absurd f
+value_back kinds.Space (Task n) go f = absurd f
+value_back kinds.Space (Space s) go f = ap (λ (s : Option SpaceNo). go (Space s)) (space_back s f)
 
 -- a cell that holds a value of a kind takes each of that kind
 takes_held : (k : Kind) (v old : Value) → IsOf k v → IsOf k old → takes (held_of v) (held_of old) ≡ true
@@ -63,30 +79,47 @@ takes_held kinds.Int (Int z) (Int y) f g = refl
 takes_held kinds.Truth (Truth b) (Truth a) f g = refl
 takes_held kinds.Text (Text t) (Text u) f g = refl
 takes_held kinds.Task (Task n) (Task m) f g = refl
+takes_held kinds.Space (Space s) (Space r) f g = refl
 takes_held kinds.Int v (Truth a) f g = absurd g
 takes_held kinds.Int v (Text u) f g = absurd g
 takes_held kinds.Int v (Task m) f g = absurd g
+takes_held kinds.Int v (Space r) f g = absurd g
 takes_held kinds.Truth v (Int y) f g = absurd g
 takes_held kinds.Truth v (Text u) f g = absurd g
 takes_held kinds.Truth v (Task m) f g = absurd g
+takes_held kinds.Truth v (Space r) f g = absurd g
 takes_held kinds.Text v (Int y) f g = absurd g
 takes_held kinds.Text v (Truth a) f g = absurd g
 takes_held kinds.Text v (Task m) f g = absurd g
+takes_held kinds.Text v (Space r) f g = absurd g
 takes_held kinds.Task v (Int y) f g = absurd g
 takes_held kinds.Task v (Truth a) f g = absurd g
 takes_held kinds.Task v (Text u) f g = absurd g
+takes_held kinds.Task v (Space r) f g = absurd g
+takes_held kinds.Space v (Int y) f g = absurd g
+takes_held kinds.Space v (Truth a) f g = absurd g
+takes_held kinds.Space v (Text u) f g = absurd g
+takes_held kinds.Space v (Task m) f g = absurd g
 takes_held kinds.Int (Truth b) old f g = absurd f
 takes_held kinds.Int (Text t) old f g = absurd f
 takes_held kinds.Int (Task n) old f g = absurd f
+takes_held kinds.Int (Space s) old f g = absurd f
 takes_held kinds.Truth (Int z) old f g = absurd f
 takes_held kinds.Truth (Text t) old f g = absurd f
 takes_held kinds.Truth (Task n) old f g = absurd f
+takes_held kinds.Truth (Space s) old f g = absurd f
 takes_held kinds.Text (Int z) old f g = absurd f
 takes_held kinds.Text (Truth b) old f g = absurd f
 takes_held kinds.Text (Task n) old f g = absurd f
+takes_held kinds.Text (Space s) old f g = absurd f
 takes_held kinds.Task (Int z) old f g = absurd f
 takes_held kinds.Task (Truth b) old f g = absurd f
 takes_held kinds.Task (Text t) old f g = absurd f
+takes_held kinds.Task (Space s) old f g = absurd f
+takes_held kinds.Space (Int z) old f g = absurd f
+takes_held kinds.Space (Truth b) old f g = absurd f
+takes_held kinds.Space (Text t) old f g = absurd f
+takes_held kinds.Space (Task n) old f g = absurd f
 
 -- what a cell in use holds: a value of a kind, the place where values of these kinds stand, a limit, or nothing
 pub data Use : Type 0 where
@@ -118,19 +151,28 @@ abbrev pub AtKinds : List Kind → Uses → ℕ → Type 0
 AtKinds [] L x = x ≤ length L
 AtKinds (k ∷ ks) L x = (slice_get L x ≡ Some (OfValue k)) × AtKinds ks L (x + 1)
 
--- the cells in use of an area: these of the command, and those of packets, which hold values of these kinds
-abbrev pub uses_in : List Kind → Uses → Area → Uses
-uses_in P L Run = L
-uses_in P L Packets = map OfValue P
+-- the cells in use of an area: these of the command, those of packets, which hold values of these kinds, and those of data spaces
+abbrev pub uses_in : List Kind → Uses → Heads → Area → Uses
+uses_in P L heads Run = L
+uses_in P L heads Packets = map OfValue P
+uses_in P L heads (areas.Space s) = map OfValue (kinds_of s heads)
 
--- values of these kinds stand in the cells from a place on
+-- values of these kinds stand in the cells of an area from one on. Of a data space only that it can have such cells: each access looks whether it
+-- has them
+abbrev pub StandsIn : List Kind → List Kind → Uses → Area → ℕ → Type 0
+StandsIn P ks L Run x = AtKinds ks L x
+StandsIn P ks L Packets x = AtKinds ks (map OfValue P) x
+StandsIn P ks L (areas.Space s) x = x + length ks ≤ CELLS
+
+-- they do so from a place on
 abbrev pub AtPlace : List Kind → List Kind → Uses → Place → Type 0
-AtPlace P ks L x = AtKinds ks (uses_in P L x.area) x.variable × IsCell (addr_of x)
+AtPlace P ks L x = StandsIn P ks L x.area x.variable × IsCell (addr_of x) × IsArea x.area
 
 -- what ends with a cell of an area stands before one of the command
 abbrev pub StandsBefore : ℕ → Area → ℕ → Type 0
 StandsBefore at Run end = end ≤ at
 StandsBefore at Packets end = Unit {0}
+StandsBefore at (areas.Space s) end = Unit {0}
 
 -- a slot with this number, and what its cell holds. A VAR parameter refers to a variable before it, or to one of a packet
 abbrev pub Kept : List Kind → Uses → ℕ → Use → Slot → Cell → Type 0
@@ -146,22 +188,49 @@ pub record KeepsIn (area : Area) (P : List Kind) (L : Uses) (slots : List Slot) 
   pub each : (x : ℕ) (k : Use) → slice_get L x ≡ Some k → Kept P L x k (slot_at slots x) (cells (area_cell area x))
   pub beyond : (x : ℕ) → length L ≤ x → cells (area_cell area x) ≡ Free
 
--- so it is in both areas
-pub record KeepsAll (P : List Kind) (L : Uses) (store others : List Slot) (cells : Cells) : Type 0 where
-  pub command : KeepsIn Run P L store cells
-  pub packets : KeepsIn Packets P (map OfValue P) others cells
+-- so it is with each data space
+pub record KeepsSpaces (P : List Kind) (spaces : Spaces) (m : Mem) : Type 0 where
+  pub heads : m.heads ≡ heads_of spaces
+  pub sound : AreSpaces spaces
+  pub given : AreGiven (heads_of spaces)
+  pub each : (s : SpaceNo) → KeepsIn (areas.Space s) P (map OfValue (kinds_of s (heads_of spaces))) (map Holds (values_of s spaces)) m.cells
 
-abbrev pub Keeps : List Kind → Uses → World → Cells → Type 0
-Keeps P L w cells = KeepsAll P L w.store w.packets cells
+-- and in all areas
+pub record KeepsAll (P : List Kind) (L : Uses) (store others : List Slot) (all : Spaces) (m : Mem) : Type 0 where
+  pub command : KeepsIn Run P L store m.cells
+  pub packets : KeepsIn Packets P (map OfValue P) others m.cells
+  pub spaces : KeepsSpaces P all m
 
-pub kept_in : (area : Area) (P : List Kind) (L : Uses) (w : World) (cells : Cells) → Keeps P L w cells → KeepsIn area P (uses_in P L area) (slots_in area w) cells
-kept_in Run P L w cells h = h.command
-kept_in Packets P L w cells h = h.packets
+abbrev pub Keeps : List Kind → Uses → World → Mem → Type 0
+Keeps P L w m = KeepsAll P L w.store w.packets w.spaces m
 
--- both areas have room
-pub room_in : (area : Area) (P : List Kind) (L : Uses) → length P ≤ CELLS → length L ≤ CELLS → length (uses_in P L area) ≤ CELLS
-room_in Run P L few room = room
-room_in Packets P L few room = omega (arith, few, length-map P OfValue)
+pub kept_in : (area : Area) (P : List Kind) (L : Uses) (w : World) (m : Mem) → Keeps P L w m
+    → KeepsIn area P (uses_in P L (heads_of w.spaces) area) (slots_in area w) m.cells
+kept_in Run P L w m h = h.command
+kept_in Packets P L w m h = h.packets
+kept_in (areas.Space s) P L w m h = h.spaces.each s
+
+-- the cells of a data space have numbers of cells
+pub fit_at : (s : SpaceNo) (heads : Heads) → AreGiven heads → length (kinds_of s heads) ≤ CELLS
+fit_at s heads given = by heads.live given.fit
+  where
+    by : (live : List (ℕ × Head)) → AllByRecursion (λ e. length (shaped_kinds e.1.shape) ≤ CELLS) live
+        → length (shaped_kinds (unwrap_or (lookup (nat_eq s.0) live) no_head).shape) ≤ CELLS
+    by [] all = omega arith
+    by (e ∷ live) all = this (nat_eq s.0 e.0) (by live all.1)
+      where
+        this : (b : Bool) → length (shaped_kinds (unwrap_or (lookup (nat_eq s.0) live) no_head).shape) ≤ CELLS
+            → length (shaped_kinds (unwrap_or (cond b (Some e.1) (lookup (nat_eq s.0) live)) no_head).shape) ≤ CELLS
+        this true rest = all.0
+        this false rest = rest
+
+-- all areas have room
+pub room_in : (area : Area) (P : List Kind) (L : Uses) (w : World) (m : Mem) → length P ≤ CELLS → length L ≤ CELLS → Keeps P L w m
+    → length (uses_in P L (heads_of w.spaces) area) ≤ CELLS
+room_in Run P L w m few room h = room
+room_in Packets P L w m few room h = omega (arith, few, length-map P OfValue)
+room_in (areas.Space s) P L w m few room h =
+    let fit = fit_at s (heads_of w.spaces) h.spaces.given in omega (arith, fit, length-map (kinds_of s (heads_of w.spaces)) OfValue)
 
 pub get_left : {A : Type 0} (xs ys : List A) (i : ℕ) (x : A) → slice_get xs i ≡ Some x → slice_get (xs ++ ys) i ≡ Some x
 get_left [] ys i x e = let f : ⊥ = cc in absurd f
@@ -216,6 +285,15 @@ all_variables area P kinds slots cells h = record {
   beyond = λ x past. h.beyond x (omega (arith, past, length-map kinds OfValue));
 }
 
+-- so the memory has the data spaces
+pub has_spaces : (P : List Kind) (spaces : Spaces) (m : Mem) → KeepsSpaces P spaces m → HasSpaces spaces m
+has_spaces P spaces m h = record {
+  heads = h.heads;
+  sound = h.sound;
+  given = h.given;
+  each = λ s. all_variables (areas.Space s) P (kinds_of s (heads_of spaces)) (map Holds (values_of s spaces)) m.cells (h.each s);
+}
+
 -- what a variable holds is read out of its cell
 pub reads : (area : Area) (P : List Kind) (L : Uses) (slots : List Slot) (cells : Cells) (x : ℕ) (k : Kind) (go : Value → Move) → KeepsIn area P L slots cells
     → slice_get L x ≡ Some (OfValue k)
@@ -235,7 +313,7 @@ refers P L store cells x ks go h e =
     let same : y ≡ g.0 = ap place_of g.1 in
     let is : AtPlace P ks L y = subst (AtPlace P ks L) (sym same) g.3 in
     let n : cells (run_cell x) ≡ Word (place_number (addr_of y)) = g.4 ∙ ap (λ (y : Place). Word (place_number (addr_of y))) (sym same) in
-    (is, ap (λ c. on_word c (λ n. go (place_in n))) n ∙ ap go (place_back (addr_of y) is.1))
+    (is, ap (λ c. on_word c (λ n. go (place_in n))) n ∙ ap go (place_back (addr_of y) is.2 is.1))
 
 -- and a limit
 pub reads_limit : (P : List Kind) (L : Uses) (store : List Slot) (cells : Cells) (x : ℕ) (l : ℤ) (go : ℤ → Move) → KeepsIn Run P L store cells
@@ -282,7 +360,27 @@ pub takes_value : (area : Area) (P : List Kind) (L : Uses) (slots : List Slot) (
     → slice_get L x ≡ Some (OfValue k) → IsOf k v → takes (held_of v) (cells (area_cell area x)) ≡ true
 takes_value area P L slots cells x k v h e ok = let g = h.each x (OfValue k) e in ap (takes (held_of v)) g.3 ∙ takes_held k v g.0 ok g.2
 
--- what is known of the cells of packets, where they are as before
+-- what is known of the cells of an area, where they are as before
+pub area_stays : (area : Area) (P : List Kind) (L : Uses) (slots : List Slot) (cells now : Cells)
+    → ((x : ℕ) → now (area_cell area x) ≡ cells (area_cell area x)) → KeepsIn area P L slots cells → KeepsIn area P L slots now
+area_stays area P L slots cells now same h = record {
+  as_many = h.as_many;
+  each = λ x k e. subst (Kept P L x k (slot_at slots x)) (sym (same x)) (h.each x k e);
+  beyond = λ x past. same x ∙ h.beyond x past;
+}
+
+-- of the cells of data spaces
+pub spaces_stay : (P : List Kind) (spaces : Spaces) (m : Mem) (now : Cells) → ((s : SpaceNo) (x : ℕ) → now (space_cell s x) ≡ m.cells (space_cell s x))
+    → KeepsSpaces P spaces m → KeepsSpaces P spaces (with_cells now m)
+spaces_stay P spaces m now same h = record {
+  heads = h.heads;
+  sound = h.sound;
+  given = h.given;
+  each = λ s.
+      area_stays (areas.Space s) P (map OfValue (kinds_of s (heads_of spaces))) (map Holds (values_of s spaces)) m.cells now (same s) (h.each s);
+}
+
+-- of the cells of packets
 pub packets_stay : (P : List Kind) (L : Uses) (slots : List Slot) (cells now : Cells) → ((x : ℕ) → now (packet_cell x) ≡ cells (packet_cell x))
     → KeepsIn Packets P L slots cells → KeepsIn Packets P L slots now
 packets_stay P L slots cells now same h = record {
@@ -325,14 +423,14 @@ cuts_command gone P L M store cells n from used is from_is used_is lost h =
           ap (λ b. cond (b && nat_lt x used) (gone (cells (run_cell x))) (cells (run_cell x))) high ∙ behind x past (nat_lt x used) refl;
     }
   where
-    front : (ks : List Kind) (area : Area) (x y : ℕ) → x < length L → StandsBefore x area (y + length ks) → AtKinds ks (uses_in P (L ++ M) area) y
-        → AtKinds ks (uses_in P L area) y
+    front : (ks : List Kind) (area : Area) (x y : ℕ) → x < length L → StandsBefore x area (y + length ks) → StandsIn P ks (L ++ M) area y → StandsIn P ks L area y
     front ks Run x y lt low at_y = at_front ks L M y (omega (arith, low, lt)) at_y
     front ks Packets x y lt low at_y = at_y
+    front ks (areas.Space s) x y lt low at_y = at_y
 
     by : (x : ℕ) (k : Use) → x < length L → Kept P (L ++ M) x k (slot_at store x) (cells (run_cell x)) → Kept P L x k (slot_at store x) (cells (run_cell x))
     by x (OfValue k) lt g = g
-    by x (OfPlace ks) lt g = (g.0, g.1, g.2, (front ks g.0.area x g.0.variable lt g.2 g.3.0, g.3.1), g.4)
+    by x (OfPlace ks) lt g = (g.0, g.1, g.2, (front ks g.0.area x g.0.variable lt g.2 g.3.0, g.3.1, g.3.2), g.4)
     by x (OfLimit l) lt g = g
     by x OfNothing lt g = g
 
@@ -344,13 +442,14 @@ cuts_command gone P L M store cells n from used is from_is used_is lost h =
         lost x k (slot_at store x) (cells (run_cell x)) past is_for (h.each x k is_for)
     behind x past false e = let after : used ≤ x = grind (arith, nat_tests, e) in h.beyond x (omega (arith, after, used_is))
 
-pub cuts : (gone : Cell → Cell) (P : List Kind) (L M : Uses) (w : World) (cells : Cells) (n from used : ℕ) → n ≡ length L → from ≡ length L
+pub cuts : (gone : Cell → Cell) (P : List Kind) (L M : Uses) (w : World) (m : Mem) (n from used : ℕ) → n ≡ length L → from ≡ length L
     → used ≡ length (L ++ M)
     → ((x : ℕ) (k : Use) (s : Slot) (c : Cell) → length L ≤ x → slice_get (L ++ M) x ≡ Some k → Kept P (L ++ M) x k s c → gone c ≡ Free)
-    → Keeps P (L ++ M) w cells → Keeps P L (record w { store = take n w.store }) (emptied gone from used cells)
-cuts gone P L M w cells n from used is from_is used_is lost h = record {
-  command = cuts_command gone P L M w.store cells n from used is from_is used_is lost h.command;
-  packets = packets_stay P (map OfValue P) w.packets cells (emptied gone from used cells) (λ x. refl) h.packets;
+    → Keeps P (L ++ M) w m → Keeps P L (record w { store = take n w.store }) (with_cells (emptied gone from used m.cells) m)
+cuts gone P L M w m n from used is from_is used_is lost h = record {
+  command = cuts_command gone P L M w.store m.cells n from used is from_is used_is lost h.command;
+  packets = packets_stay P (map OfValue P) w.packets m.cells (emptied gone from used m.cells) (λ x. refl) h.packets;
+  spaces = spaces_stay P w.spaces m (emptied gone from used m.cells) (λ s x. refl) h.spaces;
 }
 
 -- a limit is a number, which can be forgotten
@@ -369,12 +468,13 @@ AllKept P L at [] [] [] = Unit {0}
 AllKept P L at (k ∷ M) (s ∷ more) (n ∷ numbers) = Kept P L at k s n × AllKept P L (suc at) M more numbers
 AllKept P L at _ _ _ = ⊥
 
-wider_in : (ks : List Kind) (P : List Kind) (L M : Uses) (area : Area) (x : ℕ) → AtKinds ks (uses_in P L area) x → AtKinds ks (uses_in P (L ++ M) area) x
+wider_in : (ks : List Kind) (P : List Kind) (L M : Uses) (area : Area) (x : ℕ) → StandsIn P ks L area x → StandsIn P ks (L ++ M) area x
 wider_in ks P L M Run x h = at_wider ks L M x h
 wider_in ks P L M Packets x h = h
+wider_in ks P L M (areas.Space s) x h = h
 
 pub place_wider : (ks : List Kind) (P : List Kind) (L M : Uses) (x : Place) → AtPlace P ks L x → AtPlace P ks (L ++ M) x
-place_wider ks P L M x h = (wider_in ks P L M x.area x.variable h.0, h.1)
+place_wider ks P L M x h = (wider_in ks P L M x.area x.variable h.0, h.1, h.2)
 
 kept_wider : (P : List Kind) (L M : Uses) (at : ℕ) (k : Use) (s : Slot) (n : Cell) → Kept P L at k s n → Kept P (L ++ M) at k s n
 kept_wider P L M at (OfValue k) s n g = g
@@ -447,16 +547,25 @@ beside_frame : (ns : List Cell) (at x : ℕ) (cells : Cells) → written_from at
 beside_frame [] at x cells = refl
 beside_frame (n ∷ ns) at x cells = beside_frame ns (suc at) x (written cells (run_cell at) n)
 
-pub extends_one : (P : List Kind) (L : Uses) (w : World) (cells : Cells) (k : Use) (s : Slot) (n : Cell) → Keeps P L w cells → Kept P L (length L) k s n
-    → Keeps P (L ++ k ∷ []) (record w { store = w.store ++ s ∷ [] }) (written cells (run_cell (length L)) n)
-extends_one P L w cells k s n h g = record {
-  command = extends_command P L w.store cells k s n h.command g;
-  packets = packets_stay P (map OfValue P) w.packets cells (written cells (run_cell (length L)) n) (λ x. refl) h.packets;
-}
+beside_spaces : (ns : List Cell) (at : ℕ) (s : SpaceNo) (x : ℕ) (cells : Cells) → written_from at ns cells (space_cell s x) ≡ cells (space_cell s x)
+beside_spaces [] at s x cells = refl
+beside_spaces (n ∷ ns) at s x cells = beside_spaces ns (suc at) s x (written cells (run_cell at) n)
 
-pub extends : (P : List Kind) (M : Uses) (L : Uses) (w : World) (more : List Slot) (cells : Cells) (numbers : List Cell) → Keeps P L w cells
-    → AllKept P L (length L) M more numbers → Keeps P (L ++ M) (record w { store = w.store ++ more }) (written_from (length L) numbers cells)
-extends P M L w more cells numbers h g = record {
-  command = extends_all P M L w.store more cells numbers h.command g;
-  packets = packets_stay P (map OfValue P) w.packets cells (written_from (length L) numbers cells) (λ x. beside_frame numbers (length L) x cells) h.packets;
-}
+pub extends_one : (P : List Kind) (L : Uses) (w : World) (m : Mem) (k : Use) (s : Slot) (n : Cell) → Keeps P L w m → Kept P L (length L) k s n
+    → Keeps P (L ++ k ∷ []) (record w { store = w.store ++ s ∷ [] }) (with_cells (written m.cells (run_cell (length L)) n) m)
+extends_one P L w m k s n h g =
+    let now = written m.cells (run_cell (length L)) n in record {
+      command = extends_command P L w.store m.cells k s n h.command g;
+      packets = packets_stay P (map OfValue P) w.packets m.cells now (λ x. refl) h.packets;
+      spaces = spaces_stay P w.spaces m now (λ s x. refl) h.spaces;
+    }
+
+pub extends : (P : List Kind) (M : Uses) (L : Uses) (w : World) (more : List Slot) (m : Mem) (numbers : List Cell) → Keeps P L w m
+    → AllKept P L (length L) M more numbers
+    → Keeps P (L ++ M) (record w { store = w.store ++ more }) (with_cells (written_from (length L) numbers m.cells) m)
+extends P M L w more m numbers h g =
+    let now = written_from (length L) numbers m.cells in record {
+      command = extends_all P M L w.store more m.cells numbers h.command g;
+      packets = packets_stay P (map OfValue P) w.packets m.cells now (λ x. beside_frame numbers (length L) x m.cells) h.packets;
+      spaces = spaces_stay P w.spaces m now (λ s x. beside_spaces numbers (length L) s x m.cells) h.spaces;
+    }

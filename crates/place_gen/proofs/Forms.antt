@@ -20,7 +20,7 @@ use Rattle.eu_base.specs.Values.{number_of}
 use Rattle.eu_base.specs.Room.{values_bytes, place_bytes, bytes_fit}
 use Rattle.eu_base.specs.Operations.{operand_kinds, result_kind, result_of, in_row}
 use Rattle.eu_base.specs.declared.address.Area.TheVariants as areas
-use Rattle.eu_base.specs.Cells.{Cells, area_cell, packet_cell}
+use Rattle.eu_base.specs.Cells.{area_cell, packet_cell}
 use Rattle.code_form.specs.declared.operand.Operand.{Operand}
 use Rattle.code_form.specs.declared.operand.Operand.TheVariants.{Value as Of, Place as At}
 use Rattle.code_form.specs.declared.operand.OperandKind.{OperandKind}
@@ -30,22 +30,24 @@ use Rattle.code_form.specs.declared.instr.Instr.TheVariants.{Number, Truth, Text
 use Rattle.code_form.specs.declared.code.Spot.{Spot}
 use Rattle.code_form.specs.Program.{Program}
 use Rattle.code_form.specs.Valid.{cell_value}
-use Rattle.code_form.specs.Machine.{Position, free, Move, Halts, at, goes, pushes as push_move, on_room, least_bytes, operand_of, or_halt, on_values, on_all, on_place}
+use Rattle.code_form.specs.Machine.{Mem, on_cells, if_there as looks, move_stage, Position, free, Move, Halts, at, goes, pushes as push_move, on_room, least_bytes, operand_of, or_halt, on_values, on_all, on_place}
 use Rattle.code_form.specs.Machine.{on_item, further, puts_all, base_of, bytes_on, bytes_of, step, instruction}
 use Rattle.elan_types.specs.Typing as typing
 use Rattle.elan_types.specs.Typing.{Held, values_held, begins}
-use Rattle.elan_types.specs.Eval.{Place, slot_at, place_of, Gives, bind, or_stop, or_outside, fetch_all, beyond, the, assign, save, load_all, deliver}
+use Rattle.elan_types.specs.Eval.{World, Place, slot_at, place_of, Gives, bind, or_stop, or_outside, fetch_all, beyond, the, assign, save, load_all, deliver}
 use Rattle.elan_types.specs.Eval.{deliver_place, holding, holding_place, stored, part_of, Calls, Run}
 use Rattle.elan_types.specs.Eval.{all, values}
 use Rattle.place_gen.specs.Stretch.{Stretch, none, one, pushes, join}
 use Rattle.place_gen.specs.Correct.{addr_of, scene_of}
 use Rattle.place_gen.proofs.Lines.{HasAt, join_sized}
 use Rattle.place_gen.proofs.Homes.{use_of, frame_uses}
-use Rattle.place_gen.proofs.Cells.{Use, OfValue, OfPlace, Uses, AtKinds, uses_in, room_in, refers}
-use Rattle.place_gen.proofs.Spans.{AreOf, AreOf-length, reads_all, most_cells, are_part, variables_at, held_at, get_dropped, at_begins, at_item, at_dropped, in_row_low}
+use Rattle.place_gen.proofs.Cells.{Use, OfValue, OfPlace, Uses, StandsIn, refers}
+use Rattle.place_gen.proofs.Spans.{AreOf, AreOf-length, reads_all, most_cells, are_part, variables_at, held_at, get_dropped, in_row_low}
+use Rattle.place_gen.proofs.Spans.{found, stands_begins, stands_dropped, stands_item, stands_low}
+use Rattle.eu_base.specs.Cells.{IsArea}
 use Rattle.eu_base.proofs.Results.{result_gives}
 use Rattle.place_gen.proofs.Carry.{P, Any, OfShape, AtShape, AtAll, is_one, of_one, reach, holds_operand, operand_size, Carries, Stands, Within, stop_ends}
-use Rattle.place_gen.proofs.Carry.{then_carries, none_carries, reads_carries, weaker_carries, outside_carries, does, put_all_ends, or_carries, here, ends_at}
+use Rattle.place_gen.proofs.Carry.{there_ends, read_comes, then_carries, none_carries, reads_carries, weaker_carries, outside_carries, does, put_all_ends, or_carries, here, ends_at}
 use Rattle.place_gen.proofs.Carry.{join_carries}
 
 abbrev pub keep : List Value → List Operand → List Operand
@@ -81,11 +83,11 @@ abbrev pub AllOf : List Kind → Uses → List Value → Type 0
 AllOf ks L vs = AreOf ks vs
 
 -- a value is pushed where its bytes have room
-pub push_is : (c : Position) (vs : List Value) (ops : List Operand) (cells : Cells)
-    → push_move c (operand_of vs) ops cells
-    ≡ cond (bytes_fit (values_bytes vs + bytes_on ops (bytes_of c.frames))) (goes c (operand_of vs ∷ ops) cells) (Halts OperandRoom)
-push_is c vs ops cells =
-    ap (λ n. cond (bytes_fit (n + bytes_on ops (bytes_of c.frames))) (goes c (operand_of vs ∷ ops) cells) (Halts OperandRoom)) (operand_size vs)
+pub push_is : (c : Position) (vs : List Value) (ops : List Operand) (memory : Mem)
+    → push_move c (operand_of vs) ops memory
+    ≡ cond (bytes_fit (values_bytes vs + bytes_on ops (bytes_of c.frames))) (goes c (operand_of vs ∷ ops) memory) (Halts OperandRoom)
+push_is c vs ops memory =
+    ap (λ n. cond (bytes_fit (n + bytes_on ops (bytes_of c.frames))) (goes c (operand_of vs ∷ ops) memory) (Halts OperandRoom)) (operand_size vs)
 
 -- a test of fewer bytes before it changes nothing
 room_twice : (a b held : ℕ) (m : Move) → a ≤ b
@@ -149,25 +151,25 @@ module _ (p : Program) (body : Option ℕ) where
 
   -- one instruction that delivers what it reads
   pub deliver_is : (i : Instr) (k : Kind) (v : Value) → IsOf k v
-      → ((c : Position) (cells : Cells) → instruction p (Some i) c cells ≡ push_move c (Of v) c.ops cells)
+      → ((c : Position) (memory : Mem) → instruction p (Some i) c memory ≡ push_move c (Of v) c.ops memory)
       → IsValue (Cell k) (deliver (v ∷ [])) (one i (pushes (cell_value k)))
   deliver_is i k v ok e = record {
     sized = λ ks m pc. refl;
     goes =
         λ calls n b pc L ks m c ops home le has.
         reads_carries p b (at c pc ops) (λ w. v ∷ []) (λ w. bytes_fit (values_bytes (v ∷ []) + bytes_on ops (bytes_of c.frames))) (λ vs. at c (pc + 1) (keep vs ops))
-        (λ w cells h. (of_one k L v ok, here p pc i ks m has.0 c ops cells ∙ e (at c pc ops) cells ∙ push_is (at c pc ops) (v ∷ []) ops cells));
+        (λ w memory h. (of_one k L v ok, here p pc i ks m has.0 c ops memory ∙ e (at c pc ops) memory ∙ push_is (at c pc ops) (v ∷ []) ops memory));
   }
 
   pub number_is : (z : ℤ) → IsOf kinds.Int (item.Int z) → IsValue (Cell kinds.Int) (deliver (item.Int z ∷ [])) (one (Number z) (pushes (cell_value kinds.Int)))
-  number_is z ok = deliver_is (Number z) kinds.Int (item.Int z) ok (λ c cells. refl)
+  number_is z ok = deliver_is (Number z) kinds.Int (item.Int z) ok (λ c memory. refl)
 
   pub truth_is : (t : Bool) → IsValue (Cell kinds.Truth) (deliver (item.Truth t ∷ [])) (one (Truth t) (pushes (cell_value kinds.Truth)))
-  truth_is t = deliver_is (Truth t) kinds.Truth (item.Truth t) tt (λ c cells. refl)
+  truth_is t = deliver_is (Truth t) kinds.Truth (item.Truth t) tt (λ c memory. refl)
 
   pub text_is : (t : List ℕ) → IsOf kinds.Text (item.Text t)
       → IsValue (Cell kinds.Text) (deliver (item.Text t ∷ [])) (one (Text t) (pushes (cell_value kinds.Text)))
-  text_is t ok = deliver_is (Text t) kinds.Text (item.Text t) ok (λ c cells. refl)
+  text_is t ok = deliver_is (Text t) kinds.Text (item.Text t) ok (λ c memory. refl)
 
   in_frame : (m : Spot) (c : Position) (L : Uses) (x : ℕ) (u : Use) → m.body ≡ body → Stands p L m c → slice_get (frame_uses p body) x ≡ Some u
       → slice_get L (base_of c.frames + x) ≡ Some u
@@ -184,7 +186,7 @@ module _ (p : Program) (body : Option ℕ) where
         let small : x < CELLS = omega (arith, within, le.stands.room) in
         let at_x = variables_at (drop x p.variables) L x low (λ y k e. le.stands.level (x + y) k (sym (get_dropped x y p.variables) ∙ e)) in
         reads_carries p b (at c pc ops) (λ w. record { area = areas.Run; variable = x }) (λ w. bytes_fit (place_bytes + bytes_on ops (bytes_of c.frames)))
-        (λ x. at c (pc + 1) (keep_place x ops)) (λ w cells h. ((at_x, small), here p pc (Outer x) ks m has.0 c ops cells));
+        (λ x. at c (pc + 1) (keep_place x ops)) (λ w memory h. ((at_x, small, tt), here p pc (Outer x) ks m has.0 c ops memory));
   }
 
   pub packet_is : (x : ℕ) (s : Shape) (k : Kind) → slice_get (P p) x ≡ Some k
@@ -201,8 +203,8 @@ module _ (p : Program) (body : Option ℕ) where
         let low : x ≤ length U = omega (arith, within, length-map (P p) OfValue) in
         let at_x = variables_at (drop x (P p)) U x low (λ y k e. used (x + y) k (sym (get_dropped x y (P p)) ∙ e)) in
         reads_carries p b (at c pc ops) (λ w. record { area = areas.Packets; variable = x }) (λ w. bytes_fit (place_bytes + bytes_on ops (bytes_of c.frames)))
-        (λ x. at c (pc + 1) (keep_place x ops)) (λ w cells h.
-        ((at_x, small), here p pc (Packet x) ks m has.0 c ops cells ∙ ap (λ y. push_move (at c pc ops) (At (packet_cell y)) ops cells) same));
+        (λ x. at c (pc + 1) (keep_place x ops)) (λ w memory h.
+        ((at_x, small, tt), here p pc (Packet x) ks m has.0 c ops memory ∙ ap (λ y. push_move (at c pc ops) (At (packet_cell y)) ops memory) same));
   }
 
   pub local_is : (x : ℕ) (s : Shape) (k : Kind) (hs : List Held) → slice_get hs x ≡ Some (typing.OfKind k) → ((y : ℕ) (h : Held) → slice_get hs y ≡ Some h → slice_get (frame_uses p body) y ≡ Some (use_of h))
@@ -218,7 +220,7 @@ module _ (p : Program) (body : Option ℕ) where
         subst (λ z. slice_get L z ≡ Some (use_of h)) (add_assoc base x y)
         (in_frame m c L (x + y) (use_of h) home le.stands (is (x + y) h (sym (get_dropped x y hs) ∙ e)))) in
         reads_carries p b (at c pc ops) (λ w. record { area = areas.Run; variable = base + x }) (λ w. bytes_fit (place_bytes + bytes_on ops (bytes_of c.frames)))
-        (λ x. at c (pc + 1) (keep_place x ops)) (λ w cells h. ((at_x, small), here p pc (Local x) ks m has.0 c ops cells));
+        (λ x. at c (pc + 1) (keep_place x ops)) (λ w memory h. ((at_x, small, tt), here p pc (Local x) ks m has.0 c ops memory));
   }
 
   pub parameter_is : (x : ℕ) (s : Shape) (js : List Kind) → slice_get (frame_uses p body) x ≡ Some (OfPlace js)
@@ -228,25 +230,24 @@ module _ (p : Program) (body : Option ℕ) where
     goes =
         λ calls n b pc L ks m c ops home le has.
         reads_carries p b (at c pc ops) (λ w. place_of (slot_at w.store (base_of c.frames + x)))
-        (λ w. bytes_fit (place_bytes + bytes_on ops (bytes_of c.frames))) (λ x. at c (pc + 1) (keep_place x ops)) (λ w cells h.
+        (λ w. bytes_fit (place_bytes + bytes_on ops (bytes_of c.frames))) (λ x. at c (pc + 1) (keep_place x ops)) (λ w memory h.
         let r =
-        refers (P p) L w.store cells (base_of c.frames + x) js (λ a. push_move (at c pc ops) (At a) ops cells) h.command
+        refers (P p) L w.store memory.cells (base_of c.frames + x) js (λ a. push_move (at c pc ops) (At a) ops memory) h.command
         (in_frame m c L x (OfPlace js) home le.stands is) in
-        (r.0, here p pc (Param x) ks m has.0 c ops cells ∙ r.1));
+        (r.0, here p pc (Param x) ks m has.0 c ops memory ∙ r.1));
   }
 
   -- a place further on, of an item whose index is looked at, and of a field
-  further_carries : (calls : Calls) (n b pc : ℕ) (L : Uses) (m : Spot) (c : Position) (old ops : List Operand) (x : Place) (d j : ℕ) (k : Kind) (js : List Kind)
-      → length (P p) ≤ CELLS → length L ≤ CELLS → AtKinds (k ∷ js) (uses_in (P p) L x.area) (x.variable + d)
-      → ((cells : Cells) → step p (at c pc old) cells ≡ push_move (at c pc old) (At (further (addr_of x) d)) ops cells)
+  further_carries : (calls : Calls) (n b pc : ℕ) (L : Uses) (m : Spot) (c : Position) (old ops : List Operand) (x : Place) (d : ℕ) (k : Kind) (js : List Kind)
+      → length (P p) ≤ CELLS → length L ≤ CELLS → StandsIn (P p) (k ∷ js) L x.area (x.variable + d) → IsArea x.area
+      → ((memory : Mem) → step p (at c pc old) memory ≡ push_move (at c pc old) (At (further (addr_of x) d)) ops memory)
       → Carries p L m.body c.frames (AtAll (P p) (k ∷ js)) b (at c pc old) (deliver_place (beyond x d) (reach calls n c ops)) (λ y. at c (pc + 1) (keep_place y ops))
-  further_carries calls n b pc L m c old ops x d j k js few room at_d does =
+  further_carries calls n b pc L m c old ops x d k js few room at_d there does =
       let now = at c pc old in
-      let U = uses_in (P p) L x.area in
-      let small : x.variable + d < CELLS = omega (arith, slice_get_within U (x.variable + d) (OfValue k) at_d.0, room_in x.area (P p) L few room) in
+      let small : x.variable + d < CELLS = stands_low (P p) k js L x.area (x.variable + d) few room at_d in
       let same : (x.variable + d) % CELLS ≡ x.variable + d = omega (arith, small) in
       reads_carries p b now (λ w. beyond x d) (λ w. bytes_fit (place_bytes + bytes_on ops (bytes_of c.frames))) (λ y. at c (pc + 1) (keep_place y ops))
-      (λ w cells h. ((at_d, small), does cells ∙ ap (λ y. push_move now (At (area_cell x.area y)) ops cells) same))
+      (λ w memory h. ((at_d, small, there), does memory ∙ ap (λ y. push_move now (At (area_cell x.area y)) ops memory) same))
 
   pub item_is : {q : Run Place} {t : Run (List Value)} {f g : Stretch} (ks : List Kind) (count cells : ℕ) (k : Kind) (js : List Kind) (s : Shape)
       → IsPlaceOf ks q f → IsValue (Cell kinds.Int) t g → length (k ∷ js) ≡ cells → begins (joined (replicate count (k ∷ js))) ks ≡ true
@@ -273,14 +274,14 @@ module _ (p : Program) (body : Option ℕ) where
             let o = in_row count (number_of one_v.value) in
             let now = at c z (Of one_v.value ∷ keep_place x ops) in
             let does =
-            λ (cells' : Cells). here p z (Index count cells) (g.leaves (f.leaves ls)) m h.0 c (Of one_v.value ∷ keep_place x ops) cells' in
-            let move = λ (o : Option ℕ) (cells' : Cells). on_item o (λ i. push_move now (At (further (addr_of x) (i * cells))) ops cells') in
+            λ (memory : Mem). here p z (Index count cells) (g.leaves (f.leaves ls)) m h.0 c (Of one_v.value ∷ keep_place x ops) memory in
+            let move = λ (o : Option ℕ) (memory : Mem). on_item o (λ i. push_move now (At (further (addr_of x) (i * cells))) ops memory) in
             subst (λ vs. Carries p L m.body c.frames (AtAll (P p) (k ∷ js)) b (at c z (keep vs (keep_place x ops))) (run vs) to) (sym one_v.is)
             (outside_carries p b now o (λ i. deliver_place (beyond x (i * cells)) r) to
-            (λ none w. stop_ends p L now w OutsideRow (λ cells'. does cells' ∙ ap (λ o. move o cells') none))
-            (λ i some. further_carries calls n b z L m c (Of one_v.value ∷ keep_place x ops) ops x (i * cells) i k js le.stands.packets le.stands.room
-            (at_item ks count cells i k js (uses_in (P p) L x.area) x.variable size fits (in_row_low count (number_of one_v.value) i some) at_x.0)
-            (λ cells'. does cells' ∙ ap (λ o. move o cells') some)))));
+            (λ none w. stop_ends p L now w OutsideRow (λ memory. does memory ∙ ap (λ o. move o memory) none))
+            (λ i some. further_carries calls n b z L m c (Of one_v.value ∷ keep_place x ops) ops x (i * cells) k js le.stands.packets le.stands.room
+            (stands_item (P p) ks count cells i k js L x.area x.variable size fits (in_row_low count (number_of one_v.value) i some) at_x.0) at_x.2
+            (λ memory. does memory ∙ ap (λ o. move o memory) some)))));
       }
 
   pub field_is : {q : Run Place} {f : Stretch} (ks : List Kind) (before : ℕ) (k : Kind) (js : List Kind) (s : Shape) → IsPlaceOf ks q f
@@ -294,9 +295,9 @@ module _ (p : Program) (body : Option ℕ) where
             let r = reach calls n c ops in
             join_carries p f last b pc ls m c ops (q r) (λ x. deliver_place (beyond x before) r) (λ x. keep_place x ops) (λ y. keep_place y ops) i.sized has
             (λ h. i.goes calls n b pc L ls m c ops home le h) (λ h x at_x.
-            further_carries calls n b (pc + f.size) L m c (keep_place x ops) ops x before 0 k js le.stands.packets le.stands.room
-            (at_dropped before ks k js (uses_in (P p) L x.area) x.variable is at_x.0)
-            (λ cells. here p (pc + f.size) (Field before) (f.leaves ls) m h.0 c (keep_place x ops) cells));
+            further_carries calls n b (pc + f.size) L m c (keep_place x ops) ops x before k js le.stands.packets le.stands.room
+            (stands_dropped (P p) before ks k js L x.area x.variable is at_x.0) at_x.2
+            (λ memory. here p (pc + f.size) (Field before) (f.leaves ls) m h.0 c (keep_place x ops) memory));
       }
 
   -- the place of a value of a shape, where cells of its kinds stand first
@@ -306,7 +307,7 @@ module _ (p : Program) (body : Option ℕ) where
     goes =
         λ calls n b pc L ls m c ops home le has.
         weaker_carries p b (at c pc ops) (q (reach calls n c ops)) (λ x. at c (pc + f.size) (keep_place x ops))
-        (λ x at_x. (at_begins (cell_kinds s) ks (uses_in (P p) L x.area) x.variable fits at_x.0, at_x.1)) (i.goes calls n b pc L ls m c ops home le has);
+        (λ x at_x. (stands_begins (P p) (cell_kinds s) ks L x.area x.variable fits at_x.0, at_x.1, at_x.2)) (i.goes calls n b pc L ls m c ops home le has);
   }
 
   pub load_is : {q : Run Place} {f : Stretch} (s : Shape) → IsPlace s q f
@@ -320,16 +321,22 @@ module _ (p : Program) (body : Option ℕ) where
             (λ x. keep_place x ops) (λ vs. keep vs ops) i.sized has (λ h. i.goes calls n b pc L ks m c ops home le h) (λ h x at_x.
             let z = pc + f.size in
             let now = at c z (keep_place x ops) in
+            let ks' = cell_kinds s in
             let held = bytes_on ops (bytes_of c.frames) in
-            reads_carries p b now (fetch_all (cell_kinds s) x) (λ w. bytes_fit (values_bytes (fetch_all (cell_kinds s) x w) + held))
-            (λ vs. at c (z + 1) (keep vs ops)) (λ w cells keeps.
-            let r = reads_all (P p) (cell_kinds s) L w cells x (λ vs. push_move now (operand_of vs) ops cells) le.stands.packets le.stands.room keeps at_x in
-            let vs = fetch_all (cell_kinds s) x w in (
-              r.0,
-              here p z (Load s) (f.leaves ks) m h.0 c (keep_place x ops) cells
-                  ∙ ap (on_room now (least_bytes s) ops) (r.1 ∙ push_is now vs ops cells)
-                  ∙ room_twice (least_bytes s) (values_bytes vs) held (goes now (operand_of vs ∷ ops) cells) (most_cells (cell_kinds s) vs r.0),
-            )));
+            record {
+              by = λ k' l hk hl w le' memory keeps.
+                  let vs = fetch_all ks' x w in
+                  let go = λ (vs : List Value). push_move now (operand_of vs) ops memory in
+                  let read = on_room now (least_bytes s) ops (on_cells ks' (addr_of x) memory.cells go) in
+                  there_ends p (free now) ks' x (λ (w : World). deliver (fetch_all ks' x w) (reach calls n c ops) w) read k' l w memory keeps
+                  (does p now (scene_of w memory) _ (here p z (Load s) (f.leaves ks) m h.0 c (keep_place x ops) memory)) (λ there looked.
+                  let r =
+                  reads_all (P p) ks' L w memory x go le.stands.packets le.stands.room keeps (found (P p) ks' L w x at_x there) in
+                  read_comes p (free now) vs (bytes_fit (values_bytes vs + held)) (λ vs. at c (z + 1) (keep vs ops)) k' l w memory keeps (hk vs w r.0 le')
+                  (looked ∙ ap (λ m. move_stage m (free now) (scene_of w memory))
+                  (ap (on_room now (least_bytes s) ops) (r.1 ∙ push_is now vs ops memory)
+                  ∙ room_twice (least_bytes s) (values_bytes vs) held (goes now (operand_of vs ∷ ops) memory) (most_cells ks' vs r.0))));
+            });
       }
 
   pub store_is : {q : Run Place} {t : Run (List Value)} {e f : Stretch} (s : Shape) → IsPlace s q e → IsValue s t f
@@ -347,11 +354,11 @@ module _ (p : Program) (body : Option ℕ) where
             (λ h. i.goes calls n b (pc + e.size) L (e.leaves ks) m c (keep_place x ops) home le h) (λ h vs ok.
             let z = pc + e.size + f.size in record {
               by =
-                  λ k' l hk hl w le' cells keeps.
+                  λ k' l hk hl w le' memory keeps.
                   let now = at c z (keep vs (keep_place x ops)) in
-                  put_all_ends p (free now) (at c (z + 1) ops) w x (cell_kinds s) vs (Gives (tt {0})) k' l cells le.stands.packets le.stands.room at_x ok keeps
-                  (does p now (scene_of w cells) _ (here p z (Store s) (f.leaves (e.leaves ks)) m h.0 c (keep vs (keep_place x ops)) cells
-                  ∙ all_on vs (keep_place x ops) (λ vs ops. on_place ops (λ a ops. puts_all now a vs ops cells))))
+                  put_all_ends p (free now) (at c (z + 1) ops) w x (cell_kinds s) vs (Gives (tt {0})) k' l memory le.stands.packets le.stands.room at_x ok keeps
+                  (does p now (scene_of w memory) _ (here p z (Store s) (f.leaves (e.leaves ks)) m h.0 c (keep vs (keep_place x ops)) memory
+                  ∙ all_on vs (keep_place x ops) (λ vs ops. on_place ops (λ a ops. puts_all now a vs ops memory))))
                   (hk tt (assign x vs w) tt le');
             }));
       }
@@ -401,22 +408,22 @@ module _ (p : Program) (body : Option ℕ) where
             let q = pc + f.size in
             let now = at c q (pushed vs ops) in
             let does =
-            λ (cells : Cells). here p q (Do op) (f.leaves ks) m h.0 c (pushed vs ops) cells
-            ∙ all_taken (operand_kinds op) vs ops (λ vs ops. or_halt (result_of op vs) (λ v. push_move now (Of v) ops cells)) oks in
+            λ (memory : Mem). here p q (Do op) (f.leaves ks) m h.0 c (pushed vs ops) memory
+            ∙ all_taken (operand_kinds op) vs ops (λ vs ops. or_halt (result_of op vs) (λ v. push_move now (Of v) ops memory)) oks in
             or_carries p b now (result_of op vs) (λ v. deliver (v ∷ []) (reach calls n c ops)) (λ vs. at c (q + 1) (keep vs ops))
-            (λ s e w. stop_ends p L now w s (λ cells. does cells ∙ ap (λ g. or_halt g (λ v. push_move now (Of v) ops cells)) e))
+            (λ s e w. stop_ends p L now w s (λ memory. does memory ∙ ap (λ g. or_halt g (λ v. push_move now (Of v) ops memory)) e))
             (λ v e. reads_carries p b now (λ w. v ∷ []) (λ w. bytes_fit (values_bytes (v ∷ []) + bytes_on ops (bytes_of c.frames)))
             (λ vs. at c (q + 1) (keep vs ops))
-            (λ w cells h. (
+            (λ w memory h. (
               of_one (result_kind op) L v (result_gives op vs v e),
-              does cells ∙ ap (λ g. or_halt g (λ v. push_move now (Of v) ops cells)) e ∙ push_is now (v ∷ []) ops cells,
+              does memory ∙ ap (λ g. or_halt g (λ v. push_move now (Of v) ops memory)) e ∙ push_is now (v ∷ []) ops memory,
             ))));
       }
 
   -- an item and a field of a value
   part_carries : (calls : Calls) (n b pc : ℕ) (L : Uses) (m : Spot) (c : Position) (old ops : List Operand) (vs : List Value) (s r : Shape) (d cells : ℕ)
       → AreOf (cell_kinds s) vs → take cells (drop d (cell_kinds s)) ≡ cell_kinds r
-      → ((now : Cells) → step p (at c pc old) now ≡ push_move (at c pc old) (operand_of (take cells (drop d vs))) ops now)
+      → ((now : Mem) → step p (at c pc old) now ≡ push_move (at c pc old) (operand_of (take cells (drop d vs))) ops now)
       → Carries p L m.body c.frames (OfShape r) b (at c pc old) (deliver (part_of d cells vs) (reach calls n c ops)) (λ us. at c (pc + 1) (keep us ops))
   part_carries calls n b pc L m c old ops vs s r d cells ok is does =
       let now = at c pc old in
@@ -450,9 +457,9 @@ module _ (p : Program) (body : Option ℕ) where
             let v = one_v.value in
             let o = in_row count (number_of v) in
             let now = at c z (Of v ∷ keep vs ops) in
-            let move = λ (o : Option ℕ) (now' : Cells). on_item o (λ k. push_move now (operand_of (take cells (drop (k * cells) vs))) ops now') in
+            let move = λ (o : Option ℕ) (now' : Mem). on_item o (λ k. push_move now (operand_of (take cells (drop (k * cells) vs))) ops now') in
             let does =
-            λ (now' : Cells). here p z (Pick count cells) (g.leaves (f.leaves ls)) m h.0 c (Of v ∷ keep vs ops) now'
+            λ (now' : Mem). here p z (Pick count cells) (g.leaves (f.leaves ls)) m h.0 c (Of v ∷ keep vs ops) now'
             ∙ all_on vs ops (λ vs ops. on_item o (λ k. push_move now (operand_of (take cells (drop (k * cells) vs))) ops now')) in
             subst (λ us. Carries p L m.body c.frames (OfShape r) b (at c z (keep us (keep vs ops))) (run us) to) (sym one_v.is)
             (outside_carries p b now o (λ k. deliver (part_of (k * cells) cells vs) rs) to

@@ -11,6 +11,8 @@ use Rattle.eu_base.specs.declared.shape.Shape.TheVariants.{Cell}
 use Rattle.eu_base.specs.Shapes.{cell_kinds}
 use Rattle.eu_base.specs.declared.request.RequestName.{RequestName}
 use Rattle.eu_base.specs.Requests.{request_result}
+use Rattle.eu_base.specs.declared.space_operation.SpaceOperation.{SpaceOperation}
+use Rattle.eu_base.specs.SpaceOperations.{space_result_kind}
 use Rattle.code_form.specs.declared.operand.OperandKind.{OperandKind}
 use Rattle.code_form.specs.declared.operand.OperandKind.TheVariants as operand
 use Rattle.code_form.specs.declared.code.Entry.{Entry}
@@ -131,6 +133,22 @@ pub delivers_some : (name : RequestName) (u : Shape) → request_type name ≡ S
 delivers_some name u e = by (request_result name) refl e
   where
     by : (o : Option Kind) → request_result name ≡ o → option_map Cell o ≡ Some u → (k : Kind) × (request_result name ≡ Some k) × (Some (Cell k) ≡ Some u)
+    by None h e = absurd (cc e)
+    by (Some k) h e = (k, h, e)
+
+-- and a call on data spaces
+pub gives_none : (op : SpaceOperation) → is_none (option_map Cell (space_result_kind op)) ≡ true → space_result_kind op ≡ None
+gives_none op e = by (space_result_kind op) e
+  where
+    by : (o : Option Kind) → is_none (option_map Cell o) ≡ true → o ≡ None
+    by None e = refl
+    by (Some k) e = absurd (cc e)
+
+pub gives_some : (op : SpaceOperation) (u : Shape) → option_map Cell (space_result_kind op) ≡ Some u
+    → (k : Kind) × (space_result_kind op ≡ Some k) × (Some (Cell k) ≡ Some u)
+gives_some op u e = by (space_result_kind op) refl e
+  where
+    by : (o : Option Kind) → space_result_kind op ≡ o → option_map Cell o ≡ Some u → (k : Kind) × (space_result_kind op ≡ Some k) × (Some (Cell k) ≡ Some u)
     by None h e = absurd (cc e)
     by (Some k) h e = (k, h, e)
 

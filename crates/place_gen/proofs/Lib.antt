@@ -7,8 +7,10 @@ pub mod Makes
 pub mod Select
 pub mod Cells
 pub mod Homes
-pub mod Spans
 pub mod PlaceKinds
+pub mod Spans
+pub mod Spaces
+pub mod Changes
 pub mod Blocks
 pub mod Carry
 pub mod Forms
@@ -16,6 +18,7 @@ pub mod Choices
 pub mod Calls
 pub mod Slots
 pub mod Requests
+pub mod OnSpaces
 pub mod Loops
 pub mod Limits
 pub mod Tree

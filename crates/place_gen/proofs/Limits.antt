@@ -6,35 +6,38 @@ use Rattle.std.proofs.lemmas.Bool.{leb-true}
 use Rattle.std.specs.Int.{w16}
 use Rattle.std.specs.Int.RustNames.{FitsSigned}
 use Rattle.eu_base.specs.declared.address.TheConstants.{CELLS}
+use Rattle.eu_base.specs.declared.value.Kind.{Kind}
 use Rattle.eu_base.specs.declared.value.Kind.TheVariants as kinds
 use Rattle.eu_base.specs.declared.value.Value.{Value}
 use Rattle.eu_base.specs.declared.value.Value.TheVariants as item
 use Rattle.eu_base.specs.declared.shape.Shape.TheVariants.{Cell}
-use Rattle.eu_base.specs.declared.stop.Stop.TheVariants.{CellRoom}
+use Rattle.eu_base.specs.declared.stop.Stop.TheVariants.{CellRoom, NoSpace}
 use Rattle.eu_base.specs.declared.operation.Way.{Way}
 use Rattle.eu_base.specs.Room.{cells_fit}
 use Rattle.eu_base.specs.Values.{IsOf, number_of}
 use Rattle.eu_base.specs.Operations.{is_past}
-use Rattle.eu_base.specs.Cells.{Cells, held_of, run_cell, written, forgotten, without}
+use Rattle.code_form.specs.Machine.{Mem, Move, with_cells, if_there as looks, move_stage}
+use Rattle.eu_base.specs.SpacePlaces.{is_in}
+use Rattle.eu_base.specs.Cells.{held_of, run_cell, written, forgotten, without}
 use Rattle.code_form.specs.declared.operand.Operand.{Operand}
 use Rattle.code_form.specs.declared.operand.Operand.TheVariants.{Value as Of}
 use Rattle.code_form.specs.declared.operand.OperandKind.{OperandKind}
 use Rattle.code_form.specs.declared.instr.Instr.TheVariants.{Limit, Unlimit}
 use Rattle.code_form.specs.declared.code.Spot.{Spot}
 use Rattle.code_form.specs.Program.{Program, line_of, deeper}
-use Rattle.code_form.specs.Machine.{Position, free, Goes, Halts, Unknown, at, using, on_cell, is_free, base_of, step}
+use Rattle.code_form.specs.Machine.{Position, Control, free, Goes, Halts, Unknown, at, using, on_cell, is_free, base_of, step}
 use Rattle.elan_types.specs.declared.core_phrase.Exit.{Exit as Exit'}
 use Rattle.elan_types.specs.Eval.{Place, Taken, World, Outcome, Gives, Stopped, bind, branch, fetch, the, holding_place, cut, Calls, Run, turns}
-use Rattle.elan_types.specs.Eval.{step as step_on, step_to, limited, counted}
+use Rattle.elan_types.specs.Eval.{is_there, if_there, load, step as step_on, step_to, limited, counted}
 use Rattle.elan_types.specs.Command.{Ending}
 use Rattle.place_gen.specs.Stretch.{Stretch, PlaceCode, join, Exit, step_code, step_to_code, turns_code, limit_code, counted_code}
 use Rattle.place_gen.specs.Correct.{addr_of, Comes, scene_of}
-use Rattle.place_gen.proofs.Spans.{reads_one, fetch_wider}
+use Rattle.place_gen.proofs.Spans.{found, reads_one, fetch_wider}
 use Rattle.place_gen.proofs.Lines.{HasAt, has_front, has_rest, join_sized}
-use Rattle.place_gen.proofs.Cells.{Use, OfValue, OfLimit, Uses, Keeps, uses_in, get_left, cuts, limit_forgotten, extends_one}
+use Rattle.place_gen.proofs.Cells.{Use, OfValue, OfLimit, Uses, AtPlace, Keeps, get_left, cuts, limit_forgotten, extends_one}
 use Rattle.eu_base.proofs.Results.{fits_in_range}
-use Rattle.place_gen.proofs.Carry.{P, finish, finish_bind, Any, at_one, reach, Ends, wider, Carries, Stands, Within, on_step, stop_comes, branch_carries}
-use Rattle.place_gen.proofs.Carry.{does, none_carries, here, ends_at, join_carries, join_one}
+use Rattle.place_gen.proofs.Carry.{P, finish, finish_bind, Any, at_one, reach, Ends, wider, Carries, Stands, Within, with_count, stop_counted, on_step, stop_comes, branch_carries}
+use Rattle.place_gen.proofs.Carry.{Does, does, does_go, none_carries, here, ends_at, join_carries, join_one}
 use Rattle.place_gen.proofs.Forms.{keep_place, IsValue, IsPlace, IsAction}
 use Rattle.place_gen.proofs.Loops.{IsExit, Under, number_fits, turns_are, turns_sized}
 
@@ -52,25 +55,40 @@ module _ (p : Program) (body : Option ℕ) where
       }
 
   -- a cell is taken for the limit, where it has room
-  taken : {L : Uses} (t : Bool) (c c' : Position) (w : World) (cells now : Cells) (go : World → Outcome (Unit {0})) (k : Unit {0} → World → Ending)
-      (l : Exit' → Option (List Value) → World → Ending) → Keeps (P p) L w cells → step p c cells ≡ cond t (Goes c' now) (Halts CellRoom)
-      → (t ≡ true → Comes p (free c') (scene_of w now) (finish (go (record w { store = w.store ++ Taken ∷ [] })) k l))
-      → Comes p (free c) (scene_of w cells) (finish (branch t (λ w. go (record w { store = w.store ++ Taken ∷ [] })) (Stopped CellRoom) w) k l)
-  taken {L} true c c' w cells now go k l keeps e h = on_step p c c' (scene_of w cells) now _ e (h refl)
-  taken {L} false c c' w cells now go k l keeps e h = stop_comes p L (free c) w CellRoom cells keeps (does p c (scene_of w cells) (Halts CellRoom) e)
+  taken : {L : Uses} (t : Bool) (c : Position) (w : World) (memory : Mem) (move : Move) (go : World → Outcome (Unit {0})) (k : Unit {0} → World → Ending)
+      (l : Exit' → Option (List Value) → World → Ending) → Keeps (P p) L w memory → step p c memory ≡ cond t move (Halts CellRoom)
+      → (t ≡ true → Does p (free c) (scene_of w memory) move → Comes p (free c) (scene_of w memory) (finish (go (with_count w)) k l))
+      → Comes p (free c) (scene_of w memory) (finish (branch t (λ w. go (with_count w)) (Stopped CellRoom) w) k l)
+  taken true c w memory move go k l keeps e h = h refl (does p c (scene_of w memory) move e)
+  taken {L} false c w memory move go k l keeps e h = stop_comes p L (free c) w CellRoom memory keeps (does p c (scene_of w memory) (Halts CellRoom) e)
+
+  -- it is looked then whether the counter is there
+  counter_there : (L : Uses) (d : Control) (ks : List Kind) (x : Place) (go : World → Outcome (Unit {0})) (f : Unit {0} → World → Outcome (Unit {0})) (move : Move)
+      (k : Unit {0} → World → Ending) (l : Exit' → Option (List Value) → World → Ending) (w : World) (memory : Mem) → Keeps (P p) L w memory
+      → Does p d (scene_of w memory) (looks ks (addr_of x) memory move)
+      → (is_there ks x w ≡ true → Does p d (scene_of w memory) move → Comes p d (scene_of w memory) (finish (bind (go (with_count w)) f) k l))
+      → Comes p d (scene_of w memory) (finish (bind (if_there ks x go (with_count w)) f) k l)
+  counter_there L d ks x go f move k l w memory h does next =
+      by (is_there ks x w) refl
+      (does ∙ ap (λ (t : Bool). move_stage (cond t move (Halts NoSpace)) d (scene_of w memory)) (ap (is_in ks x.area x.variable) h.spaces.heads))
+    where
+      by : (t : Bool) → is_there ks x w ≡ t → Does p d (scene_of w memory) (cond t move (Halts NoSpace))
+          → Comes p d (scene_of w memory) (finish (bind (branch t go (Stopped NoSpace) (with_count w)) f) k l)
+      by true e m = next e m
+      by false e m = stop_counted p L d w NoSpace memory h m
 
   -- the cell is given back
   given_back : (L : Uses) (limit : ℤ) (b end : ℕ) (c c1 : Position) (ops : List Operand) (k : Unit {0} → World → Ending) → c1.used ≡ c.used + 1
       → c1.frames ≡ c.frames → c.used ≡ length L
-      → ((cells : Cells) → step p (at c1 end ops) cells ≡ Goes (at c (end + 1) ops) (without c.used (c.used + 1) cells))
+      → ((memory : Mem) → step p (at c1 end ops) memory ≡ Goes (at c (end + 1) ops) (with_cells (without c.used (c.used + 1) memory.cells) memory))
       → ((a : Unit {0}) (w : World) → Any L a → w.marks ≤ b → Ends p L (at c (end + 1) ops) w (k a w)) → (a : Unit {0}) (w : World)
       → Any (L ++ OfLimit limit ∷ []) a → w.marks ≤ b → Ends p (L ++ OfLimit limit ∷ []) (at c1 end ops) w (k tt (cut (length w.store - 1) w))
-  given_back L limit b end c c1 ops k e e' used s hk a w good le cells keeps =
+  given_back L limit b end c c1 ops k e e' used s hk a w good le memory keeps =
       let n : length w.store - 1 ≡ length L = omega (arith, keeps.command.as_many, length-append L (OfLimit limit ∷ [])) in
       let m : c.used + 1 ≡ length (L ++ OfLimit limit ∷ []) = omega (arith, used, length-append L (OfLimit limit ∷ [])) in
-      on_step p (at c1 end ops) (at c (end + 1) ops) (scene_of w cells) (without c.used (c.used + 1) cells) _ (s cells)
-      (hk tt (cut (length w.store - 1) w) tt le (without c.used (c.used + 1) cells)
-      (cuts forgotten (P p) L (OfLimit limit ∷ []) w cells (length w.store - 1) c.used (c.used + 1) n used m (limit_forgotten (P p) L limit) keeps))
+      on_step p (at c1 end ops) (at c (end + 1) ops) (scene_of w memory) (with_cells (without c.used (c.used + 1) memory.cells) memory) _ (s memory)
+      (hk tt (cut (length w.store - 1) w) tt le (with_cells (without c.used (c.used + 1) memory.cells) memory)
+      (cuts forgotten (P p) L (OfLimit limit ∷ []) w memory (length w.store - 1) c.used (c.used + 1) n used m (limit_forgotten (P p) L limit) keeps))
 
   limit_sized : (way : Way) (ts : Stretch) → ((ks : List OperandKind) (m : Spot) (pc : ℕ) → length (ts.lines ks m pc) ≡ ts.size)
       → (ks : List OperandKind) (m : Spot) (pc : ℕ) → length ((limit_code way ts).lines ks m pc) ≡ (limit_code way ts).size
@@ -80,7 +98,7 @@ module _ (p : Program) (body : Option ℕ) where
   -- the turns under a limit
   limited_carries : {t : Run Bool} {f : Exit} (way : Way) (v : Value) (x : Place) → IsOf kinds.Int v → IsExit p body (Under p body (number_of v)) t f
       → (calls : Calls) (n b pc : ℕ) (L : Uses) (ks : List OperandKind) (m : Spot) (c : Position) (ops : List Operand) → m.body ≡ body
-      → Within p calls n b L m c → slice_get (uses_in (P p) L x.area) x.variable ≡ Some (OfValue kinds.Int) → HasAt p.lines pc ((limit_code way (turns_code f)).lines ks m pc)
+      → Within p calls n b L m c → AtPlace (P p) (kinds.Int ∷ []) L x → HasAt p.lines pc ((limit_code way (turns_code f)).lines ks m pc)
       → Carries p L m.body c.frames Any b (at c pc (Of v ∷ keep_place x ops)) (limited x way (number_of v) t (reach calls n c ops))
       (λ _. at c (pc + 1 + (turns_code f).size + 1) ops)
   limited_carries {t} {f} way v x ok i calls n b pc L ks m c ops home le at_x has =
@@ -93,50 +111,53 @@ module _ (p : Program) (body : Option ℕ) where
       let c1 = using c (c.used + 1) in
       let h1 = has_rest p.lines (pc + 1) ts.size (ts.lines (drop 2 ks) (deeper m) (pc + 1)) _ (turns_sized p body i (drop 2 ks) (deeper m) (pc + 1)) has.1 in
       record {
-        by = λ k l hk hl w lw cells keeps.
+        by = λ k l hk hl w lw memory keeps.
             let used : c.used ≡ length L = le.stands.used in
             let same : length w.store + 1 ≡ c.used + 1 = omega (arith, used, keeps.command.as_many) in
-            let past = is_past way z (number_of (fetch x w)) in
-            let now_cells = written cells (run_cell c.used) (held_of (item.Int z)) in
-            let w' : World = record w { store = w.store ++ Taken ∷ [] } in
+            let now_memory = with_cells (written memory.cells (run_cell c.used) (held_of (item.Int z))) memory in
+            let w' = with_count w in
             let goes_on =
-            λ (u : Value). Goes (using (at c (cond (is_past way z (number_of u)) end (pc + 1)) ops) (c.used + 1)) now_cells in
-            let read = reads_one (P p) L w cells x kinds.Int goes_on keeps at_x in
-            let is_free' : is_free (cells (run_cell c.used)) ≡ true = ap is_free (keeps.command.beyond c.used (omega (arith, used))) in
-            let does : step p now cells ≡ cond (cells_fit (c.used + 1)) (goes_on (fetch x w)) (Halts CellRoom) =
-            here p pc (Limit way end) ks m has.0 c (Of v ∷ keep_place x ops) cells
-            ∙ ap (λ t. cond (cells_fit (c.used + 1)) (cond t (on_cell kinds.Int (cells (addr_of x)) goes_on) Unknown)
-            (Halts CellRoom)) is_free' ∙ ap (λ go. cond (cells_fit (c.used + 1)) go (Halts CellRoom)) read.1 in
-            let run =
-            λ (w : World). bind (branch (is_past way z (number_of (fetch x w))) (Gives (tt {0})) (turns n (t r)) w)
-            (λ _ w. Gives (tt {0}) (cut (length w.store - 1) w)) in
-            let kept : Keeps (P p) M w' now_cells =
-            subst (λ n. Keeps (P p) M w' (written cells (run_cell n) (held_of (item.Int z)))) (sym used)
-            (extends_one (P p) L w cells (OfLimit z) Taken (held_of (item.Int z)) keeps (refl, number_fits p body v ok, refl)) in
-            let same_x : fetch x w' ≡ fetch x w = fetch_wider (P p) L w cells x kinds.Int (Taken ∷ []) keeps at_x in
-            let fuller = λ (e : cells_fit (c.used + 1) ≡ true).
+            λ (u : Value). Goes (using (at c (cond (is_past way z (number_of u)) end (pc + 1)) ops) (c.used + 1)) now_memory in
+            let counter = on_cell kinds.Int (memory.cells (addr_of x)) goes_on in
+            let looked = looks (kinds.Int ∷ []) (addr_of x) memory counter in
+            let is_free' : is_free (memory.cells (run_cell c.used)) ≡ true =
+            ap is_free (keeps.command.beyond c.used (omega (arith, used))) in
+            let steps : step p now memory ≡ cond (cells_fit (c.used + 1)) looked (Halts CellRoom) =
+            here p pc (Limit way end) ks m has.0 c (Of v ∷ keep_place x ops) memory
+            ∙ ap (λ t. cond (cells_fit (c.used + 1)) (cond t looked Unknown) (Halts CellRoom)) is_free' in
+            let behind = λ (_ : Unit {0}) (w : World). Gives (tt {0}) (cut (length w.store - 1) w) in
+            let tests = λ (w : World). branch (is_past way z (number_of (fetch x w))) (Gives (tt {0})) (turns n (t r)) w in
+            let run = λ (w : World). bind (if_there (kinds.Int ∷ []) x tests w) behind in
+            let kept : Keeps (P p) M w' now_memory =
+            subst (λ n. Keeps (P p) M w' (with_cells (written memory.cells (run_cell n) (held_of (item.Int z))) memory)) (sym used)
+            (extends_one (P p) L w memory (OfLimit z) Taken (held_of (item.Int z)) keeps (refl, number_fits p body v ok, refl)) in
+            let drops = λ (memory : Mem).
+            let n : c.used + 1 - 1 ≡ c.used = omega arith in
+            here p end Unlimit (drop 2 ks) (deeper m) h1.0 c1 ops memory
+            ∙ ap (λ n. Goes (using (at c (end + 1) ops) n) (with_cells (without n (c.used + 1) memory.cells) memory)) n in
+            let fuller = λ (e : cells_fit (c.used + 1) ≡ true) (does : Does p (free now) (scene_of w memory) looked).
+            counter_there L (free now) (kinds.Int ∷ []) x tests behind counter k l w memory keeps does (λ there found_it.
+            let is = found (P p) (kinds.Int ∷ []) L w x at_x there in
+            let read = reads_one (P p) L w memory x kinds.Int goes_on keeps is in
+            let past = is_past way z (number_of (fetch x w)) in
+            let same_x : fetch x w' ≡ fetch x w = fetch_wider (P p) L w memory x kinds.Int (Taken ∷ []) keeps is in
             let le' : Within p calls n b M (deeper m) c1 = record { turns = le.turns; stands = stands_wider L (OfLimit z) m c e le.stands; carry = le.carry } in
             let inner =
             branch_carries p {L = M} {body = m.body} {fs = c.frames} b past (λ (t : Bool). at c1 (cond t end (pc + 1)) ops) (Gives (tt {0})) (turns n (t r))
             (λ _. at c1 end ops) (none_carries p b tt (λ _. at c1 end ops) tt)
             (turns_are p body i calls n b (pc + 1) M (drop 2 ks) (deeper m) c1 ops home le' (L, refl)
             (has_front p.lines (pc + 1) (ts.lines (drop 2 ks) (deeper m) (pc + 1)) _ has.1)) in
-            let drops = λ (cells : Cells).
-            let n : c.used + 1 - 1 ≡ c.used = omega arith in
-            here p end Unlimit (drop 2 ks) (deeper m) h1.0 c1 ops cells ∙ ap (λ n. Goes (using (at c (end + 1) ops) n) (without n (c.used + 1) cells)) n in
             let ends =
             inner.by (λ _ w. k tt (cut (length w.store - 1) w)) l (given_back L z b end c c1 ops k refl refl used drops hk)
-            (wider p L (OfLimit z ∷ []) (tt, tt) hl) w'
-            lw
-            now_cells kept in
-            subst (Comes p (free (at c1 (cond past end (pc + 1)) ops)) (scene_of w now_cells))
-            (sym (finish_bind (branch past (Gives (tt {0})) (turns n (t r)) w') (λ _ w. Gives (tt {0}) (cut (length w.store - 1) w)) k l)
-            ∙ ap (λ (u : Value). finish
-            (bind (branch (is_past way z (number_of u)) (Gives (tt {0})) (turns n (t r)) w') (λ _ w. Gives (tt {0}) (cut (length w.store - 1) w))) k l)
-            (sym same_x)) ends in
-            subst (λ (n : ℕ). Comes p (free now) (scene_of w cells)
-            (finish (branch (cells_fit n) (λ w. run (record w { store = w.store ++ Taken ∷ [] })) (Stopped CellRoom) w) k l)) (sym same)
-            (taken (cells_fit (c.used + 1)) now (at c1 (cond past end (pc + 1)) ops) w cells now_cells run k l keeps does fuller);
+            (wider p L (OfLimit z ∷ []) (tt, tt) hl) w' lw now_memory kept in
+            let all =
+            subst (Comes p (free (at c1 (cond past end (pc + 1)) ops)) (scene_of w now_memory))
+            (sym (finish_bind (branch past (Gives (tt {0})) (turns n (t r)) w') behind k l)
+            ∙ ap (λ (u : Value). finish (bind (branch (is_past way z (number_of u)) (Gives (tt {0})) (turns n (t r)) w') behind) k l) (sym same_x)) ends in
+            does_go p (free now) (at c1 (cond past end (pc + 1)) ops) (scene_of w memory) now_memory _
+            (found_it ∙ ap (λ m. move_stage m (free now) (scene_of w memory)) read.1) all) in
+            subst (λ (n : ℕ). Comes p (free now) (scene_of w memory) (finish (branch (cells_fit n) (λ w. run (with_count w)) (Stopped CellRoom) w) k l)) (sym same)
+            (taken (cells_fit (c.used + 1)) now w memory looked run k l keeps steps fuller);
       }
 
   -- a loop whose counter has its first value, without a limit and with one

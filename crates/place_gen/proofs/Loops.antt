@@ -11,11 +11,12 @@ use Rattle.eu_base.specs.declared.operation.Change.TheVariants.{Increase}
 use Rattle.eu_base.specs.declared.operation.Way.{Way}
 use Rattle.eu_base.specs.declared.shape.Shape.{Shape}
 use Rattle.eu_base.specs.declared.shape.Shape.TheVariants.{Cell}
-use Rattle.eu_base.specs.declared.stop.Stop.TheVariants.{TextRoom}
+use Rattle.eu_base.specs.declared.stop.Stop.TheVariants.{TextRoom, NoSpace}
 use Rattle.eu_base.specs.Room.{values_blocks, texts_fit}
 use Rattle.eu_base.specs.Values.{IsOf, number_of, truth_of}
 use Rattle.eu_base.specs.Operations.{has_reached, next_number}
 use Rattle.eu_base.specs.Cells.{Cells, held_of, run_cell, written}
+use Rattle.code_form.specs.Machine.{Mem, with_cells, if_there as looks, move_stage}
 use Rattle.code_form.specs.declared.operand.Operand.{Operand}
 use Rattle.code_form.specs.declared.operand.Operand.TheVariants.{Value as Of}
 use Rattle.code_form.specs.declared.operand.OperandKind.{OperandKind}
@@ -26,17 +27,17 @@ use Rattle.code_form.specs.Valid.{cell_value}
 use Rattle.code_form.specs.Machine.{Frame, Position, Move, To, free, Goes, Spends, at, on_number, limit_cell, step}
 use Rattle.elan_types.specs.declared.core_phrase.Exit.{Exit as Exit'}
 use Rattle.elan_types.specs.Eval.{slots_in, Place, Slot, World, Outcome, Gives, Stopped, bind, branch, fetch, the, assign, save, store_blocks, deliver, holding_place, modify, Calls, Run, turns}
-use Rattle.elan_types.specs.Eval.{while_true, until_true, then_on, done, turn, go_on, forever, step as step_on, step_to, step_from}
+use Rattle.elan_types.specs.Eval.{is_there, load, while_true, until_true, then_on, done, turn, go_on, forever, step as step_on, step_to, step_from}
 use Rattle.elan_types.specs.Command.{Ending}
 use Rattle.place_gen.specs.Stretch.{Stretch, PlaceCode, never_code, none, one, pushes, join, Exit, stays, exit_join, while_code, until_code, step_code, step_to_code, turn_code, turns_code}
 use Rattle.place_gen.specs.Correct.{addr_of, Comes, scene_of}
-use Rattle.place_gen.proofs.Spans.{reads_one}
+use Rattle.place_gen.proofs.Spans.{IsFound, found, reads_one}
 use Rattle.eu_base.specs.declared.address.Area.TheVariants as areas
 use Rattle.eu_base.specs.declared.address.TheConstants.{CELLS}
 use Rattle.place_gen.proofs.Lines.{HasAt, has_front, has_rest, join_sized}
-use Rattle.place_gen.proofs.Cells.{OfValue, OfLimit, Uses, uses_in, KeepsIn, Keeps, reads_limit, get_right}
+use Rattle.place_gen.proofs.Cells.{OfLimit, Uses, KeepsIn, Keeps, reads_limit, get_right}
 use Rattle.eu_base.proofs.Results.{next_fits, fits_in_range}
-use Rattle.place_gen.proofs.Carry.{P, finish, Any, at_one, reach, Ends, Carries, Within, less, on_step, lead_ends, then_carries, lead_carries, write_ends}
+use Rattle.place_gen.proofs.Carry.{P, finish, Any, at_one, reach, Ends, Carries, Within, less, Does, does, does_go, there_ends, lead_ends, then_carries, lead_carries, write_ends}
 use Rattle.place_gen.proofs.Carry.{branch_carries, none_carries, turns_carries, mark_carries, out_carries, one_then, here, ends_at}
 use Rattle.place_gen.proofs.Forms.{keep, keep_place, IsValue, IsPlace, IsAction, number_is}
 use Rattle.place_gen.proofs.Choices.{modify_carries}
@@ -91,7 +92,7 @@ module _ (p : Program) (body : Option ℕ) where
         (one_then p kinds.Truth b (at c pc ops) (t r) (λ vs. at c q (keep vs ops)) (λ v. Gives (truth_of v)) to
         (i.goes calls n b pc U ks m c ops home le (has_front p.lines pc (f.lines ks m pc) _ has)) (λ v ok.
         lead_carries p b (at c q (Of v ∷ ops)) (at c (cond (truth_of v) (q + 1) end) ops) (Gives (truth_of v)) to
-        (λ cells. here p q (False end) (f.leaves ks) m h.0 c (Of v ∷ ops) cells) (gives_truth b (truth_of v) c (q + 1) ops end)));
+        (λ memory. here p q (False end) (f.leaves ks) m h.0 c (Of v ∷ ops) memory) (gives_truth b (truth_of v) c (q + 1) ops end)));
   }
 
   pub until_some : {t : Run (List Value)} {f : Stretch} (L : Uses → Type 0) → IsValue p body (Cell kinds.Truth) t f
@@ -111,12 +112,12 @@ module _ (p : Program) (body : Option ℕ) where
         (one_then p kinds.Truth b (at c pc ops) (t r) (λ vs. at c q (keep vs ops)) (λ v. Gives (not (truth_of v))) to
         (i.goes calls n b pc U ks m c ops home le (has_front p.lines pc (f.lines ks m pc) _ has)) (λ v ok.
         lead_carries p b (at c q (Of v ∷ ops)) (at c (cond (truth_of v) (q + 1) (q + 1 + 1)) ops) (Gives (not (truth_of v))) to
-        (λ cells. here p q (False (q + 1 + 1)) (f.leaves ks) m h.0 c (Of v ∷ ops) cells)
-        (by (truth_of v) b c ops q end (λ cells. here p (q + 1) (Jump end) ks m h.1.0 c ops cells))));
+        (λ memory. here p q (False (q + 1 + 1)) (f.leaves ks) m h.0 c (Of v ∷ ops) memory)
+        (by (truth_of v) b c ops q end (λ memory. here p (q + 1) (Jump end) ks m h.1.0 c ops memory))));
   }
     where
       by : {U : Uses} {home : Option ℕ} (t : Bool) (b : ℕ) (c : Position) (ops : List Operand) (q end : ℕ)
-          → ((cells : Cells) → step p (at c (q + 1) ops) cells ≡ Goes (at c end ops) cells)
+          → ((memory : Mem) → step p (at c (q + 1) ops) memory ≡ Goes (at c end ops) memory)
           → Parts U home b c (q + 1 + 1) ops end (Gives (not t)) (at c (cond t (q + 1) (q + 1 + 1)) ops)
       by true b c ops q end e =
           lead_carries p b (at c (q + 1) ops) (at c end ops) (Gives false) (λ on. cond on (at c (q + 1 + 1) ops) (at c end ops)) e
@@ -165,18 +166,18 @@ module _ (p : Program) (body : Option ℕ) where
       let exit = at c end ops in
       let r = reach calls n c ops in
       ends_at p b top c (turns n (t r)) end (pc + (1 + (f.size + 1))) (λ _. ops) (omega arith)
-      (turns_carries p n b (t r) top (at c (pc + 1) ops) exit (λ cells. here p pc Mark ks m has.0 c ops cells) (λ b' lb.
-      jumps_back {U = U} {home = m.body} {fs = c.frames} b' (at c (pc + 1) ops) (at c q ops) top exit (t r) (λ cells. here p q (Jump pc) ks m h.0 c ops cells)
+      (turns_carries p n b (t r) top (at c (pc + 1) ops) exit (λ memory. here p pc Mark ks m has.0 c ops memory) (λ b' lb.
+      jumps_back {U = U} {home = m.body} {fs = c.frames} b' (at c (pc + 1) ops) (at c q ops) top exit (t r) (λ memory. here p q (Jump pc) ks m h.0 c ops memory)
       (i.goes calls n b' (pc + 1) end U ks m c ops home (less p le lb) l (has_front p.lines (pc + 1) (f.lines end ks m (pc + 1)) _ has.1))) le.turns)
     where
-      back : {U : Uses} (b : ℕ) (mid top exit : Position) (k : Bool → World → Ending) → ((cells : Cells) → step p mid cells ≡ Goes top cells)
+      back : {U : Uses} (b : ℕ) (mid top exit : Position) (k : Bool → World → Ending) → ((memory : Mem) → step p mid memory ≡ Goes top memory)
           → ((a : Bool) (w : World) → Any U a → w.marks ≤ b → Ends p U (cond a top exit) w (k a w)) → (a : Bool) (w : World) → w.marks ≤ b
           → Ends p U (cond a mid exit) w (k a w)
       back {U} b mid top exit k e hk true w le = lead_ends p U mid top w _ e (hk true w tt le)
       back {U} b mid top exit k e hk false w le = hk false w tt le
 
       jumps_back : {U : Uses} {home : Option ℕ} {fs : List Frame} (b : ℕ) (from mid top exit : Position) (t : World → Outcome Bool)
-          → ((cells : Cells) → step p mid cells ≡ Goes top cells) → Carries p U home fs Any b from t (λ on. cond on mid exit)
+          → ((memory : Mem) → step p mid memory ≡ Goes top memory) → Carries p U home fs Any b from t (λ on. cond on mid exit)
           → Carries p U home fs Any b from t (λ on. cond on top exit)
       jumps_back b from mid top exit t e i = record { by = λ k l hk hl w le. i.by k l (λ a w _ le. back b mid top exit k e hk a w le) hl w le }
 
@@ -197,9 +198,9 @@ module _ (p : Program) (body : Option ℕ) where
   Nothing U u = ⊥
 
   forever_carries : {U : Uses} {home : Option ℕ} {fs : List Frame} (m b : ℕ) (top back exit : Position)
-      → ((cells : Cells) → step p top cells ≡ Spends (To back cells)) → ((cells : Cells) → step p back cells ≡ Goes top cells) → b ≤ m
+      → ((memory : Mem) → step p top memory ≡ Spends (To back memory)) → ((memory : Mem) → step p back memory ≡ Goes top memory) → b ≤ m
       → Carries p U home fs Nothing b top (turns m (Gives true)) (λ _. exit)
-  forever_carries zero b top back exit e f le = out_carries p b top (λ cells. To back cells) (λ _. exit) le e
+  forever_carries zero b top back exit e f le = out_carries p b top (λ memory. To back memory) (λ _. exit) le e
   forever_carries (suc m) b top back exit e f le =
       mark_carries p b top back (turns m (Gives true)) (λ _. exit) e (λ b' lt.
       lead_carries p b' back top (turns m (Gives true)) (λ _. exit) f (forever_carries m b' top back exit e f (omega arith)))
@@ -211,8 +212,8 @@ module _ (p : Program) (body : Option ℕ) where
         let top = at c pc ops in
         let exit = at c (pc + (1 + 1)) (keep [] ops) in
         then_carries p b top (forever (reach calls n c ops)) (λ _. exit) (λ _. Gives []) (λ vs. at c (pc + (1 + 1)) (keep vs ops))
-        (forever_carries n b top (at c (pc + 1) ops) exit (λ cells. here p pc Mark ks m has.0 c ops cells)
-        (λ cells. here p (pc + 1) (Jump pc) ks m has.1.0 c ops cells) le.turns) (λ u bad. absurd bad);
+        (forever_carries n b top (at c (pc + 1) ops) exit (λ memory. here p pc Mark ks m has.0 c ops memory)
+        (λ memory. here p (pc + 1) (Jump pc) ks m has.1.0 c ops memory) le.turns) (λ u bad. absurd bad);
   }
 
   -- the step of a counter without limit
@@ -248,6 +249,7 @@ module _ (p : Program) (body : Option ℕ) where
   number_fits (item.Truth b) h = absurd h
   number_fits (item.Text t) h = absurd h
   number_fits (item.Task n) h = absurd h
+  number_fits (item.Space s) h = absurd h
 
   -- the limit is read out of its cell
   limit_read : (limit : ℤ) (U : Uses) (c : Position) (store : List Slot) (cells : Cells) (go : ℤ → Move) → Under limit U → c.used ≡ length U
@@ -261,13 +263,15 @@ module _ (p : Program) (body : Option ℕ) where
 
   stepped : {U : Uses} (t : Bool) (way : Way) (limit z : ℤ) (x : Place) (b : ℕ) (c next exit : Position) (k : Bool → World → Ending)
       (l : Exit' → Option (List Value) → World → Ending) → ((a : Bool) (w : World) → Any U a → w.marks ≤ b → Ends p U (cond a next exit) w (k a w)) → (w : World)
-      → w.marks ≤ b → (cells : Cells) → length (P p) ≤ CELLS → length U ≤ CELLS → Keeps (P p) U w cells
-      → slice_get (uses_in (P p) U x.area) x.variable ≡ Some (OfValue kinds.Int) → FitsSigned w16 limit → FitsSigned w16 z → has_reached way limit z ≡ t
-      → step p c cells ≡ cond t (Goes exit cells) (Goes next (written cells (addr_of x) (held_of (item.Int (next_number way z)))))
-      → Comes p (free c) (scene_of w cells) (finish (branch t (Gives false) (λ w. Gives true (assign x (item.Int (next_number way z) ∷ []) w)) w) k l)
-  stepped true way limit z x b c next exit k l hk w le cells few room h is f g t e = on_step p c exit (scene_of w cells) cells _ e (hk false w tt le cells h)
-  stepped {U} false way limit z x b c next exit k l hk w le cells few room h is f g t e =
-      write_ends p c next w x kinds.Int (item.Int (next_number way z)) _ cells few room is (next_fits way limit z f g t) h e
+      → w.marks ≤ b → (memory : Mem) → length (P p) ≤ CELLS → length U ≤ CELLS → Keeps (P p) U w memory
+      → IsFound (P p) (kinds.Int ∷ []) U w x → FitsSigned w16 limit → FitsSigned w16 z → has_reached way limit z ≡ t
+      → Does p (free c) (scene_of w memory) (cond t (Goes exit memory)
+      (Goes next (with_cells (written memory.cells (addr_of x) (held_of (item.Int (next_number way z)))) memory)))
+      → Comes p (free c) (scene_of w memory) (finish (branch t (Gives false) (λ w. Gives true (assign x (item.Int (next_number way z) ∷ []) w)) w) k l)
+  stepped true way limit z x b c next exit k l hk w le memory few room h is f g t e =
+      does_go p (free c) exit (scene_of w memory) memory _ e (hk false w tt le memory h)
+  stepped {U} false way limit z x b c next exit k l hk w le memory few room h is f g t e =
+      write_ends p c next w x kinds.Int (item.Int (next_number way z)) _ memory few room is (next_fits way limit z f g t) h e
       (hk true (assign x (item.Int (next_number way z) ∷ []) w) tt le)
 
   pub step_to_is : {q : Run Place} (x : PlaceCode) (way : Way) (limit : ℤ) → IsPlace p body (Cell kinds.Int) q (x (Cell kinds.Int)) → FitsSigned w16 limit
@@ -280,32 +284,38 @@ module _ (p : Program) (body : Option ℕ) where
             let to = λ (on : Bool). cond on (at c (q1 + 1) ops) (at c end ops) in
             let rest = has_rest p.lines pc f.size (f.lines ks m pc) _ (j.sized ks m pc) has in
             exits_at b c (q1 + 1) (pc + (f.size + 1)) ops end (step_to q way limit r) (at c pc ops) (omega arith)
-            (then_carries p b (at c pc ops) (q r) (λ x. at c q1 (keep_place x ops)) (λ x w. step_from x way limit (number_of (fetch x w)) w) to
+            (then_carries p b (at c pc ops) (q r) (λ x. at c q1 (keep_place x ops)) (λ x. load kinds.Int x (λ v. step_from x way limit (number_of v))) to
             (j.goes calls n b pc U ks m c ops home le (has_front p.lines pc (f.lines ks m pc) _ has)) (λ x at_x. record {
-              by = λ k e hk hl w le' cells h.
+              by = λ k e hk hl w le' memory h.
                   let now = at c q1 (keep_place x ops) in
                   let next = at c (q1 + 1) ops in
                   let exit = at c end ops in
-                  let z = number_of (fetch x w) in
                   let at_one_x = at_one (P p) kinds.Int U x at_x in
                   let go =
                   λ (lim z : ℤ).
-                  cond (has_reached way lim z) (Goes exit cells)
-                  (Goes next (written cells (addr_of x) (held_of (item.Int (next_number way z))))) in
-                  let read = reads_one (P p) U w cells x kinds.Int (λ v. go limit (number_of v)) h at_one_x in
-                  let more = reached (has_reached way limit z) x (next_number way z) w in
-                  subst (λ o. Comes p (free now) (scene_of w cells) (finish o k e)) (sym more)
-                  (stepped (has_reached way limit z) way limit z x b now next exit k e hk w le' cells le.stands.packets le.stands.room h at_one_x fits (number_fits (fetch x w) read.0) refl
-                  (here p q1 (Step way end) (f.leaves ks) m rest.0 c (keep_place x ops) cells
-                  ∙ limit_read limit U now w.store cells (λ lim. on_number (cells (addr_of x)) (go lim)) l le.stands.used h.command ∙ read.1));
+                  cond (has_reached way lim z) (Goes exit memory)
+                  (Goes next (with_cells (written memory.cells (addr_of x) (held_of (item.Int (next_number way z)))) memory)) in
+                  let looks_on = λ (lim : ℤ). looks (kinds.Int ∷ []) (addr_of x) memory (on_number (memory.cells (addr_of x)) (go lim)) in
+                  there_ends p (free now) (kinds.Int ∷ []) x (λ (w : World). step_from x way limit (number_of (fetch x w)) w)
+                  (on_number (memory.cells (addr_of x)) (go limit)) k e w memory h
+                  (does p now (scene_of w memory) _ (here p q1 (Step way end) (f.leaves ks) m rest.0 c (keep_place x ops) memory
+                  ∙ limit_read limit U now w.store memory.cells looks_on l le.stands.used h.command)) (λ there looked.
+                  let z = number_of (fetch x w) in
+                  let is = found (P p) (kinds.Int ∷ []) U w x at_one_x there in
+                  let read = reads_one (P p) U w memory x kinds.Int (λ v. go limit (number_of v)) h is in
+                  let more = reached (has_reached way limit z) x (next_number way z) w there in
+                  subst (λ o. Comes p (free now) (scene_of w memory) (finish o k e)) (sym more)
+                  (stepped (has_reached way limit z) way limit z x b now next exit k e hk w le' memory le.stands.packets le.stands.room h is fits
+                  (number_fits (fetch x w) read.0) refl (looked ∙ ap (λ m. move_stage m (free now) (scene_of w memory)) read.1)));
             }));
       }
     where
-      -- a number has no text, so its store needs no room
-      reached : (t : Bool) (x : Place) (z : ℤ) (w : World)
+      -- it was looked already whether its cell is there, and a number has no text, so its store needs no room
+      reached : (t : Bool) (x : Place) (z : ℤ) (w : World) → is_there (kinds.Int ∷ []) x w ≡ true
           → branch t (Gives false) (save x (item.Int z ∷ []) (Gives true)) w ≡ branch t (Gives false) (λ w. Gives true (assign x (item.Int z ∷ []) w)) w
-      reached true x z w = refl
-      reached false x z w = ap (λ n. branch (texts_fit n (store_blocks (slots_in x.area (assign x (item.Int z ∷ []) w)))) (λ w. Gives true (assign x (item.Int z ∷ []) w)) (Stopped TextRoom) w) none
-        where
-          none : values_blocks (item.Int z ∷ []) ≡ 0
-          none = omega arith
+      reached true x z w there = refl
+      reached false x z w there =
+          let store = λ (n : ℕ) (w : World).
+          branch (texts_fit n (store_blocks (slots_in x.area (assign x (item.Int z ∷ []) w)))) (λ w. Gives true (assign x (item.Int z ∷ []) w)) (Stopped TextRoom) w in
+          let none : values_blocks (item.Int z ∷ []) ≡ 0 = omega arith in
+          ap (λ (t : Bool). branch t (store (values_blocks (item.Int z ∷ []))) (Stopped NoSpace) w) there ∙ ap (λ n. store n w) none

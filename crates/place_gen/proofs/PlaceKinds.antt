@@ -96,7 +96,7 @@ items_are count cells qs k ks e =
 pub row_kinds : (n : ℕ) (s : Shape) → cell_kinds (shape.Row n s) ≡ joined (replicate n (cell_kinds s))
 row_kinds n s = ap cell_kinds (sym (shape.rolls-Row n s)) ∙ fold-roll-Shape _ _ (open_shape.Row n s)
 
-copies_length : (n : ℕ) (ks : List Kind) → length (joined (replicate n ks)) ≡ n * length ks
+pub copies_length : (n : ℕ) (ks : List Kind) → length (joined (replicate n ks)) ≡ n * length ks
 copies_length zero ks = omega arith
 copies_length (suc n) ks =
     let e = ap length (flat_map-cons (λ l. l) ks (replicate n ks)) in

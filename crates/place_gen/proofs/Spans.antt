@@ -1,30 +1,33 @@
 -- Values of several cells in the cells of the machine: how they are read and written, and their parts.
 use Rattle.std.proofs.Common.{◌≡◌, ℕ, zero, suc, ◌+◌, ◌*◌, ◌<◌, ◌≤◌, ◌%◌, List, [], ◌∷◌, ◌++◌, map, length, take, drop, Some, Bool, true, false, cond}
-use Rattle.std.proofs.Common.{◌&&◌, ◌-◌, replicate, None, nat_le, refl, sym, ap, ◌∙◌, subst, arith}
-use Rattle.std.specs.Prelude.{slice_get, ℤ, pos, negsuc}
+use Rattle.std.proofs.Common.{◌&&◌, ◌-◌, replicate, Option, None, nat_le, refl, sym, ap, ◌∙◌, subst, arith}
+use Rattle.std.specs.Prelude.{◌==◌, slice_get, option_map, ℤ, pos, negsuc}
 use Rattle.std.proofs.lemmas.Bool.Decides.{nat_tests}
 use Rattle.std.proofs.lemmas.List.Concat.{flat_map-cons}
-use Rattle.std.proofs.lemmas.List.{get_or_append_left}
+use Rattle.std.proofs.lemmas.List.{get_or_append_left, length-map}
 use Rattle.eu_base.specs.Shapes.{joined}
 use Rattle.eu_base.specs.Operations.{in_row}
 use Rattle.elan_types.specs.Typing.{Held, OfKind, OfPlace, values_held, begins}
 use Rattle.elan_types.proofs.Shapes.{kind_is}
 use Rattle.place_gen.proofs.Homes.{both, use_of}
-use Rattle.std.proofs.lemmas.Option.{slice_get_within}
+use Rattle.std.proofs.lemmas.Option.{slice_get_within, slice_get-map}
+use Rattle.place_gen.proofs.PlaceKinds.{first_behind, copies_length}
 use Rattle.eu_base.specs.declared.address.TheConstants.{CELLS}
 use Rattle.eu_base.specs.declared.value.Kind.{Kind}
 use Rattle.eu_base.specs.declared.value.Value.{Value}
-use Rattle.eu_base.specs.declared.value.Value.TheVariants.{Int, Truth, Text, Task}
+use Rattle.eu_base.specs.declared.value.Value.TheVariants.{Int, Truth, Text, Task, Space}
 use Rattle.eu_base.specs.Values.{IsOf}
+use Rattle.eu_base.specs.DataSpaces.{Heads, heads_of, is_live}
+use Rattle.eu_base.specs.SpacePlaces.{kinds_of, begin_with, is_in}
 use Rattle.eu_base.specs.Room.{value_bytes, values_bytes}
 use Rattle.eu_base.specs.declared.address.Area.{Area}
 use Rattle.eu_base.specs.declared.address.Area.TheVariants.{Run, Packets}
-use Rattle.eu_base.specs.Cells.{Cells, held_of, area_cell, run_cell, packet_cell, written}
-use Rattle.code_form.specs.Machine.{Move, on_cell, on_cells, takes_all, written_all, next}
-use Rattle.elan_types.specs.Eval.{Place, Slot, Taken, World, slots_in, fetch, fetch_all, beyond, assign, stored_from, value_of, slot_at}
+use Rattle.eu_base.specs.declared.address.Area.TheVariants as areas
+use Rattle.eu_base.specs.Cells.{Cells, held_of, area_cell, same_area, written}
+use Rattle.code_form.specs.Machine.{Mem, Move, on_cell, on_cells, takes_all, written_all, next}
+use Rattle.elan_types.specs.Eval.{Place, Slot, Taken, World, slots_in, is_there, fetch, fetch_all, beyond, stored_from, value_of, slot_at}
 use Rattle.place_gen.specs.Correct.{addr_of}
-use Rattle.place_gen.proofs.Cells.{Uses, OfValue, AtKinds, AtPlace, uses_in, KeepsIn, Keeps, kept_in, room_in, reads, writes, takes_value}
-use Rattle.place_gen.proofs.Cells.{packets_stay, command_stays}
+use Rattle.place_gen.proofs.Cells.{Uses, OfValue, AtKinds, StandsIn, AtPlace, uses_in, KeepsIn, Keeps, kept_in, room_in, reads, writes, takes_value}
 
 -- values of these kinds, one each
 abbrev pub AreOf : List Kind → List Value → Type 0
@@ -38,8 +41,53 @@ AreOf-length [] (v ∷ vs) h = absurd h
 AreOf-length (k ∷ ks) [] h = absurd h
 AreOf-length (k ∷ ks) (v ∷ vs) h = ap suc (AreOf-length ks vs h.1)
 
+-- cells for values of these kinds stand from one on; of none of them, nothing is said
+abbrev pub AreIn : List Kind → Uses → ℕ → Type 0
+AreIn [] L x = Unit {0}
+AreIn (k ∷ ks) L x = (slice_get L x ≡ Some (OfValue k)) × AreIn ks L (x + 1)
+
+pub kinds_in : (ks : List Kind) (L : Uses) (x : ℕ) → AtKinds ks L x → AreIn ks L x
+kinds_in [] L x h = tt
+kinds_in (k ∷ ks) L x h = (h.0, kinds_in ks L (x + 1) h.1)
+
+-- so it is where a test of the kinds of a data space says so
+drop_more : {A : Type 0} (x : ℕ) (xs : List A) (y : A) (ys : List A) → drop x xs ≡ y ∷ ys → drop (suc x) xs ≡ ys
+drop_more zero [] y ys e = let f : ⊥ = cc in absurd f
+drop_more zero (a ∷ xs) y ys e = let f : xs ≡ ys = cc in f
+drop_more (suc x) [] y ys e = let f : ⊥ = cc in absurd f
+drop_more (suc x) (a ∷ xs) y ys e = drop_more x xs y ys e
+
+pub tested_in : (ks all : List Kind) (x : ℕ) → begin_with ks (drop x all) ≡ true → AreIn ks (map OfValue all) x
+tested_in [] all x e = tt
+tested_in (k ∷ ks) all x e = by (drop x all) refl e (tested_in ks all (x + 1))
+  where
+    by : (js : List Kind) → drop x all ≡ js → begin_with (k ∷ ks) js ≡ true
+        → (begin_with ks (drop (x + 1) all) ≡ true → AreIn ks (map OfValue all) (x + 1)) → AreIn (k ∷ ks) (map OfValue all) x
+    by [] is e more = let f : ⊥ = cc in absurd f
+    by (j ∷ js) is e more =
+        let b = both _ _ e in
+        let next : x + 1 ≡ suc x = omega arith in
+        let here : slice_get all x ≡ Some k = first_behind x all j js is ∙ ap (λ (k : Kind). Some k) (sym (kind_is k j b.0)) in
+        let rest : drop (x + 1) all ≡ js = ap (λ n. drop n all) next ∙ drop_more x all j js is in (
+          slice_get-map OfValue all x ∙ ap (option_map OfValue) here,
+          more (subst (λ l. begin_with ks l ≡ true) (sym rest) b.1),
+        )
+
+-- values of these kinds stand at a place, where a look at it found them
+abbrev pub IsFound : List Kind → List Kind → Uses → World → Place → Type 0
+IsFound P ks L w x = AreIn ks (uses_in P L (heads_of w.spaces) x.area) x.variable
+
+pub found : (P ks : List Kind) (L : Uses) (w : World) (x : Place) → AtPlace P ks L x → is_there ks x w ≡ true → IsFound P ks L w x
+found P ks L w x at_x there = by x.area x.variable at_x.0 there
+  where
+    by : (area : Area) (n : ℕ) → StandsIn P ks L area n → is_in ks area n (heads_of w.spaces) ≡ true
+        → AreIn ks (uses_in P L (heads_of w.spaces) area) n
+    by Run n at_n e = kinds_in ks L n at_n
+    by Packets n at_n e = kinds_in ks (map OfValue P) n at_n
+    by (areas.Space s) n at_n e = tested_in ks (kinds_of s (heads_of w.spaces)) n (both _ _ e).1
+
 -- the cell behind one is the next, where there are more
-next_is : (area : Area) (ks : List Kind) (L : Uses) (x : ℕ) (cells : Cells) (go : List Value → Move) → length L ≤ CELLS → AtKinds ks L (x + 1)
+next_is : (area : Area) (ks : List Kind) (L : Uses) (x : ℕ) (cells : Cells) (go : List Value → Move) → length L ≤ CELLS → AreIn ks L (x + 1)
     → on_cells ks (next (area_cell area x)) cells go ≡ on_cells ks (area_cell area (x + 1)) cells go
 next_is area [] L x cells go room h = refl
 next_is area (k ∷ ks) L x cells go room h =
@@ -56,7 +104,7 @@ fetched_is [] x w = refl
 fetched_is (k ∷ ks) x w = ap (λ vs. fetch x w ∷ vs) (fetched_is ks (beyond x 1) w)
 
 reads_there : (area : Area) (P : List Kind) (ks : List Kind) (L : Uses) (slots : List Slot) (cells : Cells) (x : ℕ) (go : List Value → Move) → length L ≤ CELLS
-    → KeepsIn area P L slots cells → AtKinds ks L x
+    → KeepsIn area P L slots cells → AreIn ks L x
     → AreOf ks (fetched ks x slots) × (on_cells ks (area_cell area x) cells go ≡ go (fetched ks x slots))
 reads_there area P [] L slots cells x go room h at = (tt, refl)
 reads_there area P (k ∷ ks) L slots cells x go room h at =
@@ -67,19 +115,22 @@ reads_there area P (k ∷ ks) L slots cells x go room h at =
     ((one.0, rest.0), one.1 ∙ next_is area ks L x cells go' room at.1 ∙ rest.1)
 
 -- the value at a place is read out of its cells
-pub reads_all : (P : List Kind) (ks : List Kind) (L : Uses) (w : World) (cells : Cells) (x : Place) (go : List Value → Move) → length P ≤ CELLS
-    → length L ≤ CELLS → Keeps P L w cells → AtPlace P ks L x → AreOf ks (fetch_all ks x w) × (on_cells ks (addr_of x) cells go ≡ go (fetch_all ks x w))
-reads_all P ks L w cells x go few room h at =
-    subst (λ vs. AreOf ks vs × (on_cells ks (addr_of x) cells go ≡ go vs)) (fetched_is ks x w)
-    (reads_there x.area P ks (uses_in P L x.area) (slots_in x.area w) cells x.variable go (room_in x.area P L few room) (kept_in x.area P L w cells h) at.0)
+pub reads_all : (P : List Kind) (ks : List Kind) (L : Uses) (w : World) (m : Mem) (x : Place) (go : List Value → Move) → length P ≤ CELLS
+    → length L ≤ CELLS → Keeps P L w m → IsFound P ks L w x
+    → AreOf ks (fetch_all ks x w) × (on_cells ks (addr_of x) m.cells go ≡ go (fetch_all ks x w))
+reads_all P ks L w m x go few room h at =
+    subst (λ vs. AreOf ks vs × (on_cells ks (addr_of x) m.cells go ≡ go vs)) (fetched_is ks x w)
+    (reads_there x.area P ks (uses_in P L (heads_of w.spaces) x.area) (slots_in x.area w) m.cells x.variable go (room_in x.area P L w m few room h)
+    (kept_in x.area P L w m h) at)
 
 -- the value of one cell
-pub reads_one : (P : List Kind) (L : Uses) (w : World) (cells : Cells) (x : Place) (k : Kind) (go : Value → Move) → Keeps P L w cells
-    → slice_get (uses_in P L x.area) x.variable ≡ Some (OfValue k) → IsOf k (fetch x w) × (on_cell k (cells (addr_of x)) go ≡ go (fetch x w))
-reads_one P L w cells x k go h is = reads x.area P (uses_in P L x.area) (slots_in x.area w) cells x.variable k go (kept_in x.area P L w cells h) is
+pub reads_one : (P : List Kind) (L : Uses) (w : World) (m : Mem) (x : Place) (k : Kind) (go : Value → Move) → Keeps P L w m
+    → IsFound P (k ∷ []) L w x → IsOf k (fetch x w) × (on_cell k (m.cells (addr_of x)) go ≡ go (fetch x w))
+reads_one P L w m x k go h is =
+    reads x.area P (uses_in P L (heads_of w.spaces) x.area) (slots_in x.area w) m.cells x.variable k go (kept_in x.area P L w m h) is.0
 
 -- the same with what is written and taken
-written_next : (area : Area) (ks : List Kind) (vs : List Value) (L : Uses) (x : ℕ) (cells : Cells) → length L ≤ CELLS → AtKinds ks L (x + 1) → AreOf ks vs
+written_next : (area : Area) (ks : List Kind) (vs : List Value) (L : Uses) (x : ℕ) (cells : Cells) → length L ≤ CELLS → AreIn ks L (x + 1) → AreOf ks vs
     → written_all cells (next (area_cell area x)) vs ≡ written_all cells (area_cell area (x + 1)) vs
 written_next area [] [] L x cells room h ok = refl
 written_next area [] (v ∷ vs) L x cells room h ok = absurd ok
@@ -87,7 +138,7 @@ written_next area (k ∷ ks) vs L x cells room h ok =
     let small : (x + 1) % CELLS ≡ x + 1 = omega (arith, slice_get_within L (x + 1) (OfValue k) h.0, room) in
     ap (λ n. written_all cells (area_cell area n) vs) small
 
-takes_next : (area : Area) (ks : List Kind) (vs : List Value) (L : Uses) (x : ℕ) (cells : Cells) → length L ≤ CELLS → AtKinds ks L (x + 1) → AreOf ks vs
+takes_next : (area : Area) (ks : List Kind) (vs : List Value) (L : Uses) (x : ℕ) (cells : Cells) → length L ≤ CELLS → AreIn ks L (x + 1) → AreOf ks vs
     → takes_all vs (next (area_cell area x)) cells ≡ takes_all vs (area_cell area (x + 1)) cells
 takes_next area [] [] L x cells room h ok = refl
 takes_next area [] (v ∷ vs) L x cells room h ok = absurd ok
@@ -95,8 +146,8 @@ takes_next area (k ∷ ks) vs L x cells room h ok =
     let small : (x + 1) % CELLS ≡ x + 1 = omega (arith, slice_get_within L (x + 1) (OfValue k) h.0, room) in
     ap (λ n. takes_all vs (area_cell area n) cells) small
 
-writes_there : (area : Area) (P : List Kind) (ks : List Kind) (vs : List Value) (L : Uses) (slots : List Slot) (cells : Cells) (x : ℕ) → length L ≤ CELLS
-    → KeepsIn area P L slots cells → AtKinds ks L x → AreOf ks vs → KeepsIn area P L (stored_from x vs slots) (written_all cells (area_cell area x) vs)
+pub writes_there : (area : Area) (P : List Kind) (ks : List Kind) (vs : List Value) (L : Uses) (slots : List Slot) (cells : Cells) (x : ℕ) → length L ≤ CELLS
+    → KeepsIn area P L slots cells → AreIn ks L x → AreOf ks vs → KeepsIn area P L (stored_from x vs slots) (written_all cells (area_cell area x) vs)
 writes_there area P [] [] L slots cells x room h at ok = h
 writes_there area P [] (v ∷ vs) L slots cells x room h at ok = absurd ok
 writes_there area P (k ∷ ks) [] L slots cells x room h at ok = absurd ok
@@ -106,33 +157,16 @@ writes_there area P (k ∷ ks) (v ∷ vs) L slots cells x room h at ok =
     (sym (written_next area ks vs L x (written cells (area_cell area x) (held_of v)) room at.1 ok.1))
     (writes_there area P ks vs L _ _ (x + 1) room one at.1 ok.1)
 
--- what is written in one area changes nothing of the other
-beside_command : (vs : List Value) (x y : ℕ) (cells : Cells) → written_all cells (run_cell x) vs (packet_cell y) ≡ cells (packet_cell y)
-beside_command [] x y cells = refl
-beside_command (v ∷ vs) x y cells = beside_command vs ((x + 1) % CELLS) y (written cells (run_cell x) (held_of v))
-
-beside_packets : (vs : List Value) (x y : ℕ) (cells : Cells) → written_all cells (packet_cell x) vs (run_cell y) ≡ cells (run_cell y)
-beside_packets [] x y cells = refl
-beside_packets (v ∷ vs) x y cells = beside_packets vs ((x + 1) % CELLS) y (written cells (packet_cell x) (held_of v))
-
--- a value of these kinds is written to a place
-pub writes_all : (P : List Kind) (ks : List Kind) (vs : List Value) (L : Uses) (w : World) (cells : Cells) (x : Place) → length P ≤ CELLS → length L ≤ CELLS
-    → Keeps P L w cells → AtPlace P ks L x → AreOf ks vs → Keeps P L (assign x vs w) (written_all cells (addr_of x) vs)
-writes_all P ks vs L w cells x few room h at ok = by x.area x.variable at.0
-  where
-    by : (area : Area) (n : ℕ) → AtKinds ks (uses_in P L area) n
-        → Keeps P L (assign (record { area = area; variable = n }) vs w) (written_all cells (area_cell area n) vs)
-    by Run n at_n = record {
-      command = writes_there Run P ks vs L w.store cells n room h.command at_n ok;
-      packets = packets_stay P (map OfValue P) w.packets cells (written_all cells (run_cell n) vs) (λ y. beside_command vs n y cells) h.packets;
-    }
-    by Packets n at_n = record {
-      command = command_stays P L w.store cells (written_all cells (packet_cell n) vs) (λ y. beside_packets vs n y cells) h.command;
-      packets = writes_there Packets P ks vs (map OfValue P) w.packets cells n (room_in Packets P L few room) h.packets at_n ok;
-    }
+-- what is written in one area changes nothing of another
+pub beside_area : (a b : Area) (vs : List Value) (x y : ℕ) (cells : Cells) → same_area b a ≡ false
+    → written_all cells (area_cell a x) vs (area_cell b y) ≡ cells (area_cell b y)
+beside_area a b [] x y cells apart = refl
+beside_area a b (v ∷ vs) x y cells apart =
+    beside_area a b vs ((x + 1) % CELLS) y (written cells (area_cell a x) (held_of v)) apart
+    ∙ ap (λ (t : Bool). cond (t && (y == x)) (held_of v) (cells (area_cell b y))) apart
 
 takes_there : (area : Area) (P : List Kind) (ks : List Kind) (vs : List Value) (L : Uses) (slots : List Slot) (cells : Cells) (x : ℕ) → length L ≤ CELLS
-    → KeepsIn area P L slots cells → AtKinds ks L x → AreOf ks vs → takes_all vs (area_cell area x) cells ≡ true
+    → KeepsIn area P L slots cells → AreIn ks L x → AreOf ks vs → takes_all vs (area_cell area x) cells ≡ true
 takes_there area P [] [] L slots cells x room h at ok = refl
 takes_there area P [] (v ∷ vs) L slots cells x room h at ok = absurd ok
 takes_there area P (k ∷ ks) [] L slots cells x room h at ok = absurd ok
@@ -141,10 +175,11 @@ takes_there area P (k ∷ ks) (v ∷ vs) L slots cells x room h at ok =
     ∙ takes_next area ks vs L x cells room at.1 ok.1 ∙ takes_there area P ks vs L slots cells (x + 1) room h at.1 ok.1
 
 -- its cells take each value of these kinds
-pub takes_values : (P : List Kind) (ks : List Kind) (vs : List Value) (L : Uses) (w : World) (cells : Cells) (x : Place) → length P ≤ CELLS
-    → length L ≤ CELLS → Keeps P L w cells → AtPlace P ks L x → AreOf ks vs → takes_all vs (addr_of x) cells ≡ true
-takes_values P ks vs L w cells x few room h at ok =
-    takes_there x.area P ks vs (uses_in P L x.area) (slots_in x.area w) cells x.variable (room_in x.area P L few room) (kept_in x.area P L w cells h) at.0 ok
+pub takes_values : (P : List Kind) (ks : List Kind) (vs : List Value) (L : Uses) (w : World) (m : Mem) (x : Place) → length P ≤ CELLS
+    → length L ≤ CELLS → Keeps P L w m → IsFound P ks L w x → AreOf ks vs → takes_all vs (addr_of x) m.cells ≡ true
+takes_values P ks vs L w m x few room h at ok =
+    takes_there x.area P ks vs (uses_in P L (heads_of w.spaces) x.area) (slots_in x.area w) m.cells x.variable (room_in x.area P L w m few room h)
+    (kept_in x.area P L w m h) at ok
 
 -- a value of these kinds takes at least eight bytes a cell
 one_bytes : (v : Value) → 8 ≤ value_bytes v
@@ -152,6 +187,7 @@ one_bytes (Int z) = omega arith
 one_bytes (Truth b) = omega arith
 one_bytes (Text t) = omega arith
 one_bytes (Task n) = omega arith
+one_bytes (Space s) = omega arith
 
 pub most_cells : (ks : List Kind) (vs : List Value) → AreOf ks vs → 8 * length ks ≤ values_bytes vs
 most_cells [] [] h = omega arith
@@ -257,21 +293,62 @@ in_row_low n (pos m) i e = by (nat_le 1 m) (nat_le m n) refl refl e
     by false t a b e = let f : ⊥ = cc in absurd f
 in_row_low n (negsuc m) i e = let f : ⊥ = cc in absurd f
 
--- the same at a place
-pub place_this : (P : List Kind) (k : Kind) (L : Uses) (x : Place) → length P ≤ CELLS → length L ≤ CELLS → slice_get (uses_in P L x.area) x.variable ≡ Some (OfValue k)
-    → AtPlace P (k ∷ []) L x
-place_this P k L x few room e =
-    let U = uses_in P L x.area in
-    (at_this k U x.variable e, omega (arith, slice_get_within U x.variable (OfValue k) e, room_in x.area P L few room))
+-- the same of what stands in an area; of a data space, that it can have such cells
+pub begins_length : (ks js : List Kind) → begins ks js ≡ true → length ks ≤ length js
+begins_length [] js e = omega arith
+begins_length (k ∷ ks) [] e = let f : ⊥ = cc in absurd f
+begins_length (k ∷ ks) (j ∷ js) e = let rest = begins_length ks js (both _ _ e).1 in omega (arith, rest)
+
+dropped_length : (n : ℕ) (ks js : List Kind) (k : Kind) → drop n ks ≡ k ∷ js → n + length (k ∷ js) ≤ length ks
+dropped_length zero ks js k e = let f = ap length e in omega (arith, f)
+dropped_length (suc n) [] js k e = let f : ⊥ = cc in absurd f
+dropped_length (suc n) (i ∷ ks) js k e = let rest = dropped_length n ks js k e in omega (arith, rest)
+
+item_below : (i count n all : ℕ) → i < count → count * n ≤ all → i * n + n ≤ all
+item_below i zero n all lt le = absurd (omega (arith, lt))
+item_below zero (suc count) n all lt le = omega (arith, le)
+item_below (suc i) (suc count) n all lt le =
+    let e : suc count * n ≡ count * n + n = omega arith in
+    let rest = item_below i count n (count * n) (omega (arith, lt)) (omega arith) in
+    omega (arith, rest, le, e)
+
+pub stands_begins : (P ks js : List Kind) (L : Uses) (area : Area) (x : ℕ) → begins ks js ≡ true → StandsIn P js L area x → StandsIn P ks L area x
+stands_begins P ks js L Run x e h = at_begins ks js L x e h
+stands_begins P ks js L Packets x e h = at_begins ks js (map OfValue P) x e h
+stands_begins P ks js L (areas.Space s) x e h = let le = begins_length ks js e in omega (arith, le, h)
+
+pub stands_dropped : (P : List Kind) (n : ℕ) (ks : List Kind) (k : Kind) (js : List Kind) (L : Uses) (area : Area) (x : ℕ) → drop n ks ≡ k ∷ js
+    → StandsIn P ks L area x → StandsIn P (k ∷ js) L area (x + n)
+stands_dropped P n ks k js L Run x e h = at_dropped n ks k js L x e h
+stands_dropped P n ks k js L Packets x e h = at_dropped n ks k js (map OfValue P) x e h
+stands_dropped P n ks k js L (areas.Space s) x e h = let le = dropped_length n ks js k e in omega (arith, le, h)
+
+pub stands_item : (P ks : List Kind) (count cells i : ℕ) (k : Kind) (js : List Kind) (L : Uses) (area : Area) (x : ℕ) → length (k ∷ js) ≡ cells
+    → begins (joined (replicate count (k ∷ js))) ks ≡ true → i < count → StandsIn P ks L area x → StandsIn P (k ∷ js) L area (x + i * cells)
+stands_item P ks count cells i k js L Run x size fits lt h = at_item ks count cells i k js L x size fits lt h
+stands_item P ks count cells i k js L Packets x size fits lt h = at_item ks count cells i k js (map OfValue P) x size fits lt h
+stands_item P ks count cells i k js L (areas.Space s) x size fits lt h =
+    let all = begins_length (joined (replicate count (k ∷ js))) ks fits in
+    let long = copies_length count (k ∷ js) ∙ ap (λ n. count * n) size in
+    let low = item_below i count cells (length ks) lt (omega (arith, all, long)) in
+    omega (arith, low, h, size)
+
+-- the number of its first cell is one of a cell
+pub stands_low : (P : List Kind) (k : Kind) (js : List Kind) (L : Uses) (area : Area) (x : ℕ) → length P ≤ CELLS → length L ≤ CELLS
+    → StandsIn P (k ∷ js) L area x → x < CELLS
+stands_low P k js L Run x few room h = omega (arith, slice_get_within L x (OfValue k) h.0, room)
+stands_low P k js L Packets x few room h = omega (arith, slice_get_within (map OfValue P) x (OfValue k) h.0, few, length-map P OfValue)
+stands_low P k js L (areas.Space s) x few room h = omega (arith, h)
 
 -- a value stands where it stood, with more slots behind
-pub fetch_wider : (P : List Kind) (L : Uses) (w : World) (cells : Cells) (x : Place) (k : Kind) (more : List Slot) → Keeps P L w cells
-    → slice_get (uses_in P L x.area) x.variable ≡ Some (OfValue k) → fetch x (record w { store = w.store ++ more }) ≡ fetch x w
-fetch_wider P L w cells x k more h is = by x.area x.variable is
+pub fetch_wider : (P : List Kind) (L : Uses) (w : World) (m : Mem) (x : Place) (k : Kind) (more : List Slot) → Keeps P L w m
+    → IsFound P (k ∷ []) L w x → fetch x (record w { store = w.store ++ more }) ≡ fetch x w
+fetch_wider P L w m x k more h is = by x.area x.variable is.0
   where
-    by : (area : Area) (n : ℕ) → slice_get (uses_in P L area) n ≡ Some (OfValue k)
+    by : (area : Area) (n : ℕ) → slice_get (uses_in P L (heads_of w.spaces) area) n ≡ Some (OfValue k)
         → fetch (record { area = area; variable = n }) (record w { store = w.store ++ more }) ≡ fetch (record { area = area; variable = n }) w
     by Run n e =
         let within : n < length w.store = omega (arith, slice_get_within L n (OfValue k) e, h.command.as_many) in
         ap value_of (get_or_append_left w.store more Taken n within)
     by Packets n e = refl
+    by (areas.Space s) n e = refl

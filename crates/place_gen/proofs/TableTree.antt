@@ -10,6 +10,7 @@ use Rattle.eu_base.specs.Shapes.{cell_kinds}
 use Rattle.eu_base.specs.declared.operation.Way.{Way}
 use Rattle.eu_base.specs.Operations.{operand_kinds, result_kind, change_kind}
 use Rattle.eu_base.specs.Requests.{request_kinds, request_places, request_result}
+use Rattle.eu_base.specs.SpaceOperations.{space_operand_kinds}
 use Rattle.code_form.specs.declared.operand.OperandKind.{OperandKind}
 use Rattle.code_form.specs.declared.operand.OperandKind.TheVariants.{Value as OfShape}
 use Rattle.code_form.specs.declared.instr.Instr.TheVariants.{Back}
@@ -46,10 +47,11 @@ use Rattle.place_gen.specs.Layouts.{parameter_kind}
 use Rattle.place_gen.proofs.Homes.{Delivers, Agrees, IsHome, agree_is, held_cell, proc_is, part_is, left_is, only_if_is, both}
 use Rattle.place_gen.proofs.PlaceKinds.{starts_is, one_starts, first_behind, held_behind, place_held_is, if_true_is, items_are, first_of_drop, row_items}
 use Rattle.place_gen.proofs.PlaceKinds.{part_known}
-use Rattle.place_gen.proofs.Homes.{has_is, has_shape_is, takes_is, delivers_none, delivers_some, formals_take, without_is, with_is, none_is}
+use Rattle.place_gen.proofs.Homes.{has_is, has_shape_is, takes_is, delivers_none, delivers_some, gives_none, gives_some, formals_take, without_is, with_is, none_is}
 use Rattle.place_gen.proofs.Lines.{HasAt, IsSized, join_sized}
 use Rattle.place_gen.proofs.Tables.{Each, ends_good, leave_fine, Table, ValueTable, PlaceTable, ActionTable, above, none_table, join_table, mark_table, number_table}
 use Rattle.place_gen.proofs.Tables.{truth_table, text_table, outer_table, packet_table, local_table, parameter_table, item_table, field_table, pick_table, take_table, load_table, store_table, modify_table, apply_table, ask_table, answer_table, error_stop_table}
+use Rattle.place_gen.proofs.Tables.{content_table, perform_table, consult_table, copy_table, bind_table}
 use Rattle.place_gen.proofs.Tables.{call_table, refer_table, leave_table, leave_with_table}
 use Rattle.place_gen.proofs.LoopTables.{if_table, otherwise_table, arm_table, ExitTable, stays_table, while_table, until_table, step_table, AtLeastOne}
 use Rattle.place_gen.proofs.LoopTables.{step_to_table, turn_table, loop_table, never_table, counted_none_table, counted_some_table}
@@ -288,6 +290,10 @@ module _ (p : Program) (outside : Outside) (bodies : List Body) (agrees : Agrees
       of_shape (Cell g.0) u g.2
       (answer_table p home name g.0 g.1 (subst (λ ks. T keeps (pushed_operands ks) (all_code (map actual_code (map fst as'))))
       (formals_take (request_kinds name) (request_places name)) j.table))
+  value_parts (t.Consult op es) u e =
+      let f = only_if_is _ _ u e in
+      let g = gives_some op u f.1 in
+      of_shape (Cell g.0) u g.2 (consult_table p home op g.0 g.1 (values_are (space_operand_kinds op) es f.0))
 
   abbrev WLayer : Type 0
   WLayer = PlacePhrase-F ((a : Action) × Q a) ((a : Actual) × N a) ((q : PlacePhrase) × W q) ((e : ValuePhrase) × P e) ((a : Arm) × R a) ((a : ValueArm) × S a)
@@ -312,6 +318,10 @@ module _ (p : Program) (outside : Outside) (bodies : List Body) (agrees : Agrees
   place_parts (t.Field q before) k ks e s =
       let i = first_of_drop before (place_here q.0) k ks e in
       field_table p home before s (q.1 i.first i.rest i.is s)
+  place_parts (t.Content q of) k ks e s =
+      let f = if_true_is _ _ k ks e in
+      let g = both _ _ f.0 in
+      content_table p home s (one_place q kinds.Space g.0)
 
   abbrev NLayer : Type 0
   NLayer = Actual-F ((a : Action) × Q a) ((a : Actual) × N a) ((q : PlacePhrase) × W q) ((e : ValuePhrase) × P e) ((a : Arm) × R a) ((a : ValueArm) × S a)
@@ -393,6 +403,15 @@ module _ (p : Program) (outside : Outside) (bodies : List Body) (agrees : Agrees
   action_parts (t.LeaveWith x u a) e =
       let f = both _ _ e in
       leave_with_table p home x u (left_is p outside bodies agrees x home (Some u) is_home (with_is u _ f.1)) (a.1 u (has_shape_is u _ f.0))
+  action_parts (t.Perform op es) e =
+      let f = both _ _ e in
+      perform_table p home op (gives_none op f.1) (values_are (space_operand_kinds op) es f.0)
+  action_parts (t.Copy q a) e =
+      let f = both _ _ e in
+      copy_table p home (one_place q kinds.Space f.0) (a.1 (Cell kinds.Space) (has_is kinds.Space _ f.1))
+  action_parts (t.Bind q u a) e =
+      let f = both _ _ e in
+      bind_table p home u (one_place q kinds.Space f.0) (a.1 (Cell kinds.Space) (has_is kinds.Space _ f.1))
 
   arm_parts : (y : Arm-F ((a : Action) × Q a) ((a : Actual) × N a) ((q : PlacePhrase) × W q) ((e : ValuePhrase) × P e) ((a : Arm) × R a) ((a : ValueArm) × S a))
       → arm_typed_step outside bodies home

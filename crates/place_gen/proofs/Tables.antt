@@ -13,10 +13,12 @@ use Rattle.eu_base.specs.declared.operation.Change.{Change}
 use Rattle.eu_base.specs.Operations.{operand_kinds, result_kind, change_kind}
 use Rattle.eu_base.specs.Requests.{request_kinds, request_places, request_result, request_size}
 use Rattle.eu_base.specs.declared.request.RequestName.{RequestName}
+use Rattle.eu_base.specs.declared.space_operation.SpaceOperation.{SpaceOperation}
+use Rattle.eu_base.specs.SpaceOperations.{space_operand_kinds, space_result_kind}
 use Rattle.code_form.specs.declared.operand.OperandKind.{OperandKind}
 use Rattle.code_form.specs.declared.operand.OperandKind.TheVariants.{Value as OfShape, Place as AtShape}
 use Rattle.code_form.specs.declared.instr.Instr.{Instr}
-use Rattle.code_form.specs.declared.instr.Instr.TheVariants.{Mark, Number, Truth, Text, Outer, Packet, Local, Param, Index, Field, Pick, Take, Load, Store, Do, Modify}
+use Rattle.code_form.specs.declared.instr.Instr.TheVariants.{Mark, Number, Truth, Text, Outer, Packet, Local, Param, Index, Field, Content, Pick, Take, Load, Store, Do, OnSpaces, Copy, Bind, Modify}
 use Rattle.code_form.specs.declared.instr.Instr.TheVariants.{Ask, ErrorStop, Call, Refer, Back, Out}
 use Rattle.code_form.specs.declared.code.Line.{Line}
 use Rattle.code_form.specs.declared.code.Spot.{Spot}
@@ -44,6 +46,11 @@ drop_operands [] ks n = let e : 0 + n ≡ n = omega arith in ap (λ n. drop n ks
 drop_operands (k ∷ more) ks n =
     let e : suc (length more) + n ≡ length more + suc n = omega arith in
     ap (λ n. drop n (pushed_operands more (k ∷ ks))) e ∙ drop_operands more (k ∷ ks) (suc n)
+
+kinds_dropped : (more : List Kind) (ks : List OperandKind) → drop (length more) (pushed_kinds more ks) ≡ ks
+kinds_dropped more ks =
+    let f : length more ≡ length more + 0 = omega arith in
+    ap (λ n. drop n (pushed_kinds more ks)) f ∙ drop_kinds more ks 0
 
 all_dropped : (more ks : List OperandKind) (n : ℕ) → n ≡ length more → drop n (pushed_operands more ks) ≡ ks
 all_dropped more ks n e =
@@ -174,6 +181,11 @@ module _ (p : Program) (body : Option ℕ) where
       join_table i (one_table (Field before) (λ ks. AtShape s ∷ drop 1 ks) (pushes (AtShape s)) (pushes (AtShape s)) (λ ks. refl)
       (λ pc ks m home n. record { shape = s; given = s; rest = ks; taken = refl; next = n }))
 
+  pub content_table : {f : Stretch} (s : Shape) → PlaceTable (Cell kinds.Space) f → PlaceTable s (join f (one Content (λ ks. AtShape s ∷ drop 1 ks)))
+  content_table s i =
+      join_table i (one_table Content (λ ks. AtShape s ∷ drop 1 ks) (pushes (cell_place kinds.Space)) (pushes (AtShape s)) (λ ks. refl)
+      (λ pc ks m home n. record { shape = Cell kinds.Space; given = s; rest = ks; taken = refl; next = n }))
+
   pub load_table : {f : Stretch} (s : Shape) → PlaceTable s f → ValueTable s (join f (one (Load s) (λ ks. OfShape s ∷ drop 1 ks)))
   load_table s i =
       join_table i
@@ -238,6 +250,37 @@ module _ (p : Program) (body : Option ℕ) where
       (λ ks. ap (λ o. with_answer o (drop (request_size name) (pushed_operands (request_operands name) ks))) is
       ∙ ap (λ ks. cell_value k ∷ ks) (all_dropped (request_operands name) ks (request_size name) (size_is name)))
       (λ pc ks m home n. (ks, refl, subst (λ o. Next p.lines (pc + 1) (with_answer o ks) m) (sym is) n)))
+
+  -- a call on data spaces
+  pub perform_table : {f : Stretch} (op : SpaceOperation) → space_result_kind op ≡ None → Table keeps (pushed_kinds (space_operand_kinds op)) f
+      → ActionTable (join f (one (OnSpaces op) (drop (length (space_operand_kinds op)))))
+  perform_table op is i =
+      join_table i (one_table (OnSpaces op) (drop (length (space_operand_kinds op))) (pushed_kinds (space_operand_kinds op)) keeps
+      (λ ks. kinds_dropped (space_operand_kinds op) ks)
+      (λ pc ks m home n. (ks, refl, subst (λ o. Next p.lines (pc + 1) (with_answer o ks) m) (sym is) n)))
+
+  -- one that delivers a value leaves it there
+  pub consult_table : {f : Stretch} (op : SpaceOperation) (k : Kind) → space_result_kind op ≡ Some k → Table keeps (pushed_kinds (space_operand_kinds op)) f
+      → ValueTable (Cell k) (join f (one (OnSpaces op) (λ ks. with_answer (space_result_kind op) (drop (length (space_operand_kinds op)) ks))))
+  consult_table op k is i =
+      let given = space_operand_kinds op in
+      let leaves = λ (ks : List OperandKind). with_answer (space_result_kind op) (drop (length given) ks) in
+      join_table i (one_table (OnSpaces op) leaves (pushed_kinds given) (pushes (cell_value k))
+      (λ ks. ap (λ o. with_answer o (drop (length given) (pushed_kinds given ks))) is ∙ ap (λ ks. cell_value k ∷ ks) (kinds_dropped given ks))
+      (λ pc ks m home n. (ks, refl, subst (λ o. Next p.lines (pc + 1) (with_answer o ks) m) (sym is) n)))
+
+  pub copy_table : {e f : Stretch} → PlaceTable (Cell kinds.Space) e → ValueTable (Cell kinds.Space) f → ActionTable (join e (join f (one Copy (drop 2))))
+  copy_table j i =
+      join_table j
+      (join_table (above (pushes (cell_place kinds.Space)) i)
+      (one_table Copy (drop 2) (λ ks. cell_value kinds.Space ∷ cell_place kinds.Space ∷ ks) keeps (λ ks. refl) (λ pc ks m home n. (ks, refl, n))))
+
+  pub bind_table : {e f : Stretch} (s : Shape) → PlaceTable (Cell kinds.Space) e → ValueTable (Cell kinds.Space) f
+      → ActionTable (join e (join f (one (Bind s) (drop 2))))
+  bind_table s j i =
+      join_table j
+      (join_table (above (pushes (cell_place kinds.Space)) i)
+      (one_table (Bind s) (drop 2) (λ ks. cell_value kinds.Space ∷ cell_place kinds.Space ∷ ks) keeps (λ ks. refl) (λ pc ks m home n. (ks, refl, n))))
 
   -- a call finds what its parameters take, and leaves what the PROC delivers
   pub call_table : (q : ℕ) (e : Entry) (taken : List OperandKind) (vs : List Kind) (d : Option Shape) (fs : List Stretch) → slice_get p.bodies q ≡ Some e

@@ -1,5 +1,5 @@
 -- The code of a well typed phrase does what the phrase does. One induction over the phrases, so it stands in one file.
-use Rattle.std.proofs.Common.{◌≡◌, List, [], ◌∷◌, map, length, drop, replicate, Option, Some, None, Bool, true, ◌&&◌, refl, sym, ap, ◌∙◌, subst}
+use Rattle.std.proofs.Common.{◌≡◌, ◌≤◌, List, [], ◌∷◌, map, length, drop, replicate, Option, Some, None, Bool, true, ◌&&◌, refl, sym, ap, ◌∙◌, subst}
 use Rattle.std.specs.Prelude.{ℤ, option_map, slice_get}
 use Rattle.std.proofs.lemmas.Bool.{eqb-true}
 use Rattle.eu_base.specs.Shapes.{joined}
@@ -16,6 +16,8 @@ use Rattle.std.proofs.lemmas.Bool.{leb-true}
 use Rattle.eu_base.specs.declared.value.TheConstants.{TEXT_BYTES}
 use Rattle.eu_base.specs.Operations.{operand_kinds, result_kind, change_kind}
 use Rattle.eu_base.specs.Requests.{request_kinds, request_places, request_result}
+use Rattle.eu_base.specs.SpaceOperations.{space_operand_kinds}
+use Rattle.eu_base.specs.declared.address.TheConstants.{CELLS}
 use Rattle.eu_base.proofs.Results.{fits_in_range}
 use Rattle.code_form.specs.declared.operand.Operand.{Operand}
 use Rattle.code_form.specs.Program.{Program}
@@ -54,11 +56,12 @@ use Rattle.place_gen.proofs.Choices.{if_is, IsChoice, otherwise_is, arm_is, sele
 use Rattle.place_gen.proofs.Calls.{IsActual, AreActuals, value_actual, place_actual, no_actuals_are, more_actuals_are, call_value_is, call_action_is}
 use Rattle.place_gen.proofs.Calls.{refer_value_is, refer_action_is, leave_is, leave_with_is}
 use Rattle.place_gen.proofs.Requests.{ask_is, answer_is}
+use Rattle.place_gen.proofs.OnSpaces.{content_is, perform_is, consult_is, copy_is, bind_is}
 use Rattle.place_gen.proofs.Loops.{IsExit, Under, while_none, while_some, until_none, until_some, go_on_is, turn_is, loop_is, never_is, step_is, step_to_is}
 use Rattle.place_gen.proofs.Limits.{counted_none_is, counted_some_is}
 use Rattle.place_gen.proofs.Homes.{Agrees, IsHome, held_use, proc_is, part_is, left_is, only_if_is, both, has_is, has_shape_is, agree_is, takes_is}
 use Rattle.place_gen.proofs.PlaceKinds.{starts_is, one_starts, first_behind, held_behind, place_held_is, if_true_is, items_are, first_of_drop, row_items, part_known}
-use Rattle.place_gen.proofs.Homes.{delivers_none, delivers_some, formals_take, without_is, with_is, none_is}
+use Rattle.place_gen.proofs.Homes.{delivers_none, delivers_some, gives_none, gives_some, formals_take, without_is, with_is, none_is}
 
 abbrev fst : {A : Type 0} {B : A → Type 0} → (a : A) × B a → A
 fst x = x.0
@@ -336,6 +339,10 @@ module _ (p : Program) (outside : Outside) (bodies : List Body) (agrees : Agrees
       of_shape (Cell g.0) u g.2
       (answer_is p home xs name g.0 g.1 (subst (λ ks. AreActuals p home ks xs (all_code (map actual_code (map fst as'))))
       (formals_take (request_kinds name) (request_places name)) (actuals_are (request_formals name) as' f.0)))
+  value_parts (t.Consult op es) u e =
+      let f = only_if_is _ _ u e in
+      let g = gives_some op u f.1 in
+      of_shape (Cell g.0) u g.2 (consult_is p home (map value (map fst es)) op g.0 g.1 (values_are (space_operand_kinds op) es f.0))
 
   place_parts : (y : Known PlacePhrase-F) (k : Kind) (ks : List Kind)
       → place_kinds_step outside bodies home
@@ -363,6 +370,11 @@ module _ (p : Program) (outside : Outside) (bodies : List Body) (agrees : Agrees
   place_parts (t.Field q before) k ks e s =
       let i = first_of_drop before (place_here q.0) k ks e in
       field_is p home (i.first ∷ i.rest) before k ks s (q.1 i.first i.rest i.is s) (ap (drop before) (sym i.is) ∙ e)
+  place_parts (t.Content q of) k ks e s =
+      let f = if_true_is _ _ k ks e in
+      let g = both _ _ f.0 in
+      content_is p home (k ∷ ks) s (one_place q kinds.Space g.0)
+      (subst (λ (js : List Kind). length js ≤ CELLS) f.1 (leb-true (length (cell_kinds of)) CELLS g.1))
 
   given_is : (access : Access) (a : Typed) (f : Formal) → given_as access a ≡ Some f → (u : Shape) × (a ≡ Some u) × (formal access u ≡ f)
   given_is access None f e = let g : ⊥ = cc in absurd g
@@ -444,6 +456,15 @@ module _ (p : Program) (outside : Outside) (bodies : List Body) (agrees : Agrees
   action_parts (t.LeaveWith x u a) e =
       let f = both _ _ e in
       leave_with_is p home x u (left_is p outside bodies agrees x home (Some u) is_home (with_is u _ f.1)) (a.1 u (has_shape_is u _ f.0))
+  action_parts (t.Perform op es) e =
+      let f = both _ _ e in
+      perform_is p home (map value (map fst es)) op (gives_none op f.1) (values_are (space_operand_kinds op) es f.0)
+  action_parts (t.Copy q a) e =
+      let f = both _ _ e in
+      copy_is p home (one_place q kinds.Space f.0) (a.1 (Cell kinds.Space) (has_is kinds.Space _ f.1))
+  action_parts (t.Bind q u a) e =
+      let f = both _ _ e in
+      bind_is p home u (one_place q kinds.Space f.0) (a.1 (Cell kinds.Space) (has_is kinds.Space _ f.1))
 
   arm_parts : (y : Known Arm-F)
       → arm_typed_step outside bodies home

@@ -1,17 +1,22 @@
 -- What it means that cells hold a store, and that the machine comes to rest as an ending says.
-use Rattle.std.specs.Prelude.{◌≡◌, ℕ, ◌≤◌, true, List, length, Some, slice_get}
+use Rattle.std.specs.Prelude.{◌≡◌, ℕ, ◌<◌, ◌≤◌, true, List, [], ◌∷◌, map, length, Some, slice_get}
 use Rattle.eu_base.specs.declared.value.Kind.{Kind}
-use Rattle.eu_base.specs.Values.{IsOf}
+use Rattle.eu_base.specs.Values.{SpaceNo, IsOf}
 use Rattle.eu_base.specs.declared.value.Value.{Value}
 use Rattle.eu_base.specs.Room.{cells_fit}
+use Rattle.eu_base.specs.DataSpaces.{Head, Heads, Spaces, heads_of}
+use Rattle.eu_base.specs.SoundSpaces.{AreSpaces}
+use Rattle.eu_base.specs.declared.address.TheConstants.{CELLS}
+use Rattle.eu_base.specs.SpacePlaces.{kinds_of, values_of, shaped_kinds}
+use Rattle.std.specs.List.{AllByRecursion}
 use Rattle.eu_base.specs.declared.address.Area.{Area}
-use Rattle.eu_base.specs.declared.address.Area.TheVariants.{Run, Packets}
+use Rattle.eu_base.specs.declared.address.Area.TheVariants.{Run, Packets, Space}
 use Rattle.eu_base.specs.declared.address.Addr.{Addr}
 use Rattle.eu_base.specs.Cells.{Cell, Free, Word, Cells, held_of, area_cell, place_number}
 use Rattle.code_form.specs.declared.halt.Halt.{Halt}
 use Rattle.code_form.specs.declared.halt.Halt.TheVariants as halts
 use Rattle.code_form.specs.Program.{Program, kinds_in_packets, start_kinds}
-use Rattle.code_form.specs.Machine.{Control, Scene, Rest, exec}
+use Rattle.code_form.specs.Machine.{Control, Mem, Scene, Rest, exec}
 use Rattle.elan_types.specs.Eval.{Place, Slot, Holds, Refers, Taken, World}
 use Rattle.elan_types.specs.Command.{Ending, Ended, Stopped, OutOfMarks, Asks}
 
@@ -37,21 +42,42 @@ pub record HasVariables (area : Area) (variables : List Kind) (slots : List Slot
   pub image : Image area slots cells
   pub beyond : (x : ℕ) → length variables ≤ x → cells (area_cell area x) ≡ Free
 
--- so it is with the cells that a command has at its start, and with the variables of packets
-pub record HasSlots (p : Program) (store others : List Slot) (cells : Cells) : Type 0 where
-  pub command : HasVariables Run (start_kinds p) store cells
-  pub packets : HasVariables Packets (kinds_in_packets p) others cells
+-- the numbers of what lives rise, from above this one to at most the last that was given
+abbrev pub Rises : ℕ → List (ℕ × Head) → ℕ → Type 0
+Rises low [] last = low ≤ last
+Rises low (e ∷ live) last = (low < e.0) × Rises e.0 live last
 
-abbrev pub HasAll : Program → World → Cells → Type 0
-HasAll p w cells = HasSlots p w.store w.packets cells
+-- no number is given twice, and the cells of each space have numbers of cells
+pub record AreGiven (heads : Heads) : Type 0 where
+  pub rise : Rises 0 heads.live heads.last
+  pub fit : AllByRecursion (λ e. length (shaped_kinds e.1.shape) ≤ CELLS) heads.live
 
--- a run rests so, with the same marks and replies left, and with all variables in the cells, those of packets each with a value of its kind
+-- the memory has these data spaces: type numbers have 16 bits and numbers of spaces 32, each has a value of its kind for each cell of its shape, and
+-- nothing is known of the cells of others
+pub record HasSpaces (spaces : Spaces) (m : Mem) : Type 0 where
+  pub heads : m.heads ≡ heads_of spaces
+  pub sound : AreSpaces spaces
+  pub given : AreGiven (heads_of spaces)
+  pub each : (s : SpaceNo) → HasVariables (Space s) (kinds_of s (heads_of spaces)) (map Holds (values_of s spaces)) m.cells
+
+-- so it is with the cells that a command has at its start, with the variables of packets, and with the data spaces
+pub record HasSlots (p : Program) (store others : List Slot) (all : Spaces) (m : Mem) : Type 0 where
+  pub command : HasVariables Run (start_kinds p) store m.cells
+  pub packets : HasVariables Packets (kinds_in_packets p) others m.cells
+  pub spaces : HasSpaces all m
+
+abbrev pub HasAll : Program → World → Mem → Type 0
+HasAll p w m = HasSlots p w.store w.packets w.spaces m
+
+-- a run rests so, with the same marks and replies left, and with all variables in the cells and all data spaces, those of packets each with a
+-- value of its kind
 pub record RestsAs (p : Program) (h : Halt) (w : World) (r : Rest) : Type 0 where
   pub how : r.how ≡ h
   pub marks : r.scene.marks ≡ w.marks
   pub replies : r.scene.replies ≡ w.replies
-  pub command : Image Run w.store r.scene.cells
-  pub packets : HasVariables Packets (kinds_in_packets p) w.packets r.scene.cells
+  pub command : Image Run w.store r.scene.mem.cells
+  pub packets : HasVariables Packets (kinds_in_packets p) w.packets r.scene.mem.cells
+  pub spaces : HasSpaces w.spaces r.scene.mem
 
 abbrev pub Shows : Program → Ending → Rest → Type 0
 Shows p (Ended w) r = RestsAs p halts.Ended w r
@@ -66,5 +92,5 @@ pub record Comes (p : Program) (c : Control) (s : Scene) (e : Ending) : Type 0 w
   pub comes : exec p steps c s ≡ Some rest
   pub shows : Shows p e rest
 
-abbrev pub scene_of : World → Cells → Scene
-scene_of w cells = record { cells = cells; marks = w.marks; replies = w.replies }
+abbrev pub scene_of : World → Mem → Scene
+scene_of w m = record { mem = m; marks = w.marks; replies = w.replies }

@@ -1,5 +1,5 @@
 -- The code of a counter's step, of a counted loop, and of what leads into other bodies and out of them.
-use Rattle.std.specs.Prelude.{map, drop, option_map, Option, None, Some}
+use Rattle.std.specs.Prelude.{map, drop, length, option_map, Option, None, Some}
 use Rattle.eu_base.specs.declared.value.Kind.TheVariants as kinds
 use Rattle.eu_base.specs.declared.shape.Shape.TheVariants.{Cell}
 use Rattle.eu_base.specs.declared.operation.Way.{Way}
@@ -12,6 +12,8 @@ use Rattle.elan_types.specs.declared.core_phrase.Action.{Action, out-Action}
 use Rattle.elan_types.specs.declared.core_phrase.Action.TheOpen as t
 use Rattle.elan_types.specs.declared.core_phrase.Action.TheOpen.{Action-F}
 use Rattle.place_gen.specs.Stretch.{Stretch, none, one, keeps, join, all_code, Exit, stays, step_code, step_to_code, turn_code, turns_code, store_code}
+use Rattle.eu_base.specs.SpaceOperations.{space_operand_kinds}
+use Rattle.code_form.specs.declared.instr.Instr.TheVariants.{OnSpaces, Copy, Bind}
 use Rattle.place_gen.specs.Stretch.{counted_code, call_code, refer_code, leave_instr, PlaceCode, place_code, value_code, action_code, actual_code}
 
 abbrev pub Layer : Type 0
@@ -70,3 +72,13 @@ transfer_step _ = none
 
 abbrev pub transfer_code : Action → Stretch
 transfer_code a = transfer_step (out-Action a)
+
+-- what is done with data spaces; nothing for another action
+abbrev pub spaces_step : Layer → Stretch
+spaces_step (t.Perform op as') = join (all_code (map value_code as')) (one (OnSpaces op) (drop (length (space_operand_kinds op))))
+spaces_step (t.Copy p a) = join (place_code p (Cell kinds.Space)) (join (value_code a) (one Copy (drop 2)))
+spaces_step (t.Bind p s a) = join (place_code p (Cell kinds.Space)) (join (value_code a) (one (Bind s) (drop 2)))
+spaces_step _ = none
+
+abbrev pub spaces_code : Action → Stretch
+spaces_code a = spaces_step (out-Action a)

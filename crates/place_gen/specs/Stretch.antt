@@ -8,10 +8,11 @@ use Rattle.eu_base.specs.declared.operation.Change.TheVariants.{Increase}
 use Rattle.eu_base.specs.declared.operation.Way.{Way}
 use Rattle.eu_base.specs.Operations.{operand_kinds, result_kind, change_kind}
 use Rattle.eu_base.specs.Requests.{request_result, request_size}
+use Rattle.eu_base.specs.SpaceOperations.{space_operand_kinds, space_result_kind}
 use Rattle.code_form.specs.declared.operand.OperandKind.{OperandKind}
 use Rattle.code_form.specs.declared.operand.OperandKind.TheVariants.{Value, Place}
 use Rattle.code_form.specs.declared.instr.Instr.{Instr}
-use Rattle.code_form.specs.declared.instr.Instr.TheVariants.{Mark, Number, Truth, Text, Outer, Packet, Local, Param, Index, Field, Pick, Take, Load, Store, Do, Modify}
+use Rattle.code_form.specs.declared.instr.Instr.TheVariants.{Mark, Number, Truth, Text, Outer, Packet, Local, Param, Index, Field, Content as ContentAt, Pick, Take, Load, Store, Do, OnSpaces, Copy, Bind, Modify}
 use Rattle.code_form.specs.declared.instr.Instr.TheVariants.{Jump, False, When, Drop, Limit, Unlimit, Step, Ask, ErrorStop, Call, Refer, Back, Out}
 use Rattle.code_form.specs.declared.code.Line.{Line}
 use Rattle.code_form.specs.declared.code.Spot.{Spot}
@@ -188,6 +189,7 @@ place_code_step (t.Packet k) s = one (Packet k) (pushes (Place s))
 place_code_step (t.Local k) s = one (Local k) (pushes (Place s))
 place_code_step (t.Parameter k) s = one (Param k) (pushes (Place s))
 place_code_step (t.Item p a items) s = join (p s) (join a (one (Index items.count items.cells) (λ ks. Place s ∷ drop 2 ks)))
+place_code_step (t.Content p of) s = join (p (Cell kinds.Space)) (one ContentAt (λ ks. Place s ∷ drop 1 ks))
 place_code_step (t.Field p before) s = join (p s) (one (Field before) (λ ks. Place s ∷ drop 1 ks))
 
 abbrev pub value_code_step : Layer ValuePhrase-F → Stretch
@@ -207,6 +209,8 @@ value_code_step (t.Pick a i items s) = join a (join i (one (Pick items.count ite
 value_code_step (t.Take a part s) = join a (one (Take part.of part.before part.cells) (λ ks. Value s ∷ drop 1 ks))
 value_code_step (t.ValuePhrase::Ask name as') =
     join (all_code as') (one (Ask name) (λ ks. with_answer (request_result name) (drop (request_size name) ks)))
+value_code_step (t.Consult op as') =
+    join (all_code as') (one (OnSpaces op) (λ ks. with_answer (space_result_kind op) (drop (length (space_operand_kinds op)) ks)))
 
 abbrev pub actual_code_step : Layer Actual-F → Stretch
 actual_code_step (t.Value a) = a
@@ -230,6 +234,9 @@ action_code_step (t.Action::Call n as') = call_code n None as'
 action_code_step (t.Action::Refer n) = refer_code n None
 action_code_step (t.Leave e) = one (leave_instr e None) keeps
 action_code_step (t.LeaveWith e s a) = join a (one (leave_instr e (Some s)) (drop 1))
+action_code_step (t.Perform op as') = join (all_code as') (one (OnSpaces op) (drop (length (space_operand_kinds op))))
+action_code_step (t.Copy p a) = join (p (Cell kinds.Space)) (join a (one Copy (drop 2)))
+action_code_step (t.Bind p s a) = join (p (Cell kinds.Space)) (join a (one (Bind s) (drop 2)))
 
 abbrev pub arm_code_step : Layer Arm-F → Labelled Stretch
 arm_code_step arm = record { labels = arm.labels; part = all_code arm.units }

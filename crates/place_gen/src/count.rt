@@ -25,7 +25,9 @@ pub fn count_value(v: &ValuePhrase) -> usize
         ValuePhrase::Truth(_) => 1,
         ValuePhrase::Text(_) => 1,
         ValuePhrase::Load(place, _) => count_place(place).saturating_add(1),
-        ValuePhrase::Apply(_, operands) => count_values(operands.as_slice()).saturating_add(1),
+        ValuePhrase::Apply(_, operands) | ValuePhrase::Consult(_, operands) => {
+            count_values(operands.as_slice()).saturating_add(1)
+        }
         ValuePhrase::If(c, a, b) => count_if(
             count_value(c.get()),
             count_value(a.get()),
@@ -64,7 +66,9 @@ fn count_place(place: &PlacePhrase) -> usize
         PlacePhrase::Item(row, index, _) => count_place(row.get())
             .saturating_add(count_value(index.get()))
             .saturating_add(1),
-        PlacePhrase::Field(structure, _) => count_place(structure.get()).saturating_add(1),
+        PlacePhrase::Field(whole, _) | PlacePhrase::Content(whole, _) => {
+            count_place(whole.get()).saturating_add(1)
+        }
     }
 }
 
@@ -119,7 +123,10 @@ fn count_action(action: &Action) -> usize
 {
     match action {
         Action::Unit(units) => count_actions(units.as_slice()).saturating_add(1),
-        Action::Store(place, _, value) | Action::Modify(_, place, value) => count_place(place)
+        Action::Store(place, _, value)
+        | Action::Modify(_, place, value)
+        | Action::Copy(place, value)
+        | Action::Bind(place, _, value) => count_place(place)
             .saturating_add(count_value(value))
             .saturating_add(1),
         Action::If(c, first, second) => count_if(
@@ -140,6 +147,7 @@ fn count_action(action: &Action) -> usize
         Action::Refer(_) => 1,
         Action::Leave(_) => 1,
         Action::LeaveWith(_, _, value) => count_value(value).saturating_add(1),
+        Action::Perform(_, operands) => count_values(operands.as_slice()).saturating_add(1),
     }
 }
 

@@ -5,14 +5,14 @@ ghost use Rattle.place_gen.specs.Stretch.{all_code, while_code, until_code, limi
 ghost use Rattle.place_gen.specs.Stretch.{content_code, value_arm_code, arm_code_of, value_parts, action_parts};
 ghost use Rattle.place_gen.specs.Adds.{Adds};
 ghost use Rattle.place_gen.specs.Makes.{Makes, MakesExit, MakesArm};
-ghost use Rattle.place_gen.specs.Steps.{loop_code, turn_of, step_of, count_code, transfer_code};
+ghost use Rattle.place_gen.specs.Steps.{loop_code, turn_of, step_of, count_code, transfer_code, spaces_code};
 
 use crate::count::{count_actions, count_arms, count_loop, count_value, count_value_arms};
 use crate::draft::Draft;
 use crate::put::{
-    put_else, put_jump, put_leave, put_leave_with, put_load, put_never, put_number, put_operation,
-    put_place, put_request, put_store, put_test, put_text, put_truth, put_value, put_whens,
-    without_first,
+    put_bind, put_else, put_jump, put_leave, put_leave_with, put_load, put_never, put_number,
+    put_on_spaces, put_operation, put_place, put_request, put_store, put_test, put_text, put_truth,
+    put_value, put_whens, without_first,
 };
 use code_form::{Instr, OperandKind};
 use elan_types::{Action, Actual, Arm, Content, Exit, PlacePhrase, ValueArm, ValuePhrase};
@@ -105,6 +105,10 @@ fn add_value(out: &mut Draft, phrase: &ValuePhrase)
             add_actuals(out, actuals.as_slice());
             put_request(out, *name, name.result_kind());
         }
+        ValuePhrase::Consult(operation, operands) => {
+            add_values(out, operands.as_slice());
+            put_on_spaces(out, *operation, operation.result_kind());
+        }
     }
 }
 
@@ -126,6 +130,10 @@ fn add_place(out: &mut Draft, place: &PlacePhrase, shape: &Shape)
         PlacePhrase::Field(structure, before) => {
             add_place(out, structure.get(), shape);
             put_place(out, Instr::Field(*before), 1, shape);
+        }
+        PlacePhrase::Content(bound, _) => {
+            add_place(out, bound.get(), &Shape::Cell(Kind::Space));
+            put_place(out, Instr::Content, 1, shape);
         }
     }
 }
@@ -244,6 +252,33 @@ fn add_action(out: &mut Draft, action: &Action)
         Action::Call(_, _) | Action::Refer(_) | Action::Leave(_) | Action::LeaveWith(_, _, _) => {
             add_transfer(out, action)
         }
+        Action::Perform(_, _) | Action::Copy(_, _) | Action::Bind(_, _, _) => {
+            add_on_spaces(out, action)
+        }
+    }
+}
+
+// What is done with data spaces; nothing for another action.
+#[cycle(emit)]
+fn add_on_spaces(out: &mut Draft, action: &Action)
+    ensures { Makes (spaces_code action.now) out.old out.new }
+{
+    match action {
+        Action::Perform(operation, operands) => {
+            add_values(out, operands.as_slice());
+            put_on_spaces(out, *operation, None);
+        }
+        Action::Copy(place, space) => {
+            add_place(out, place, &Shape::Cell(Kind::Space));
+            add_value(out, space);
+            out.add(Instr::Copy, 2, None);
+        }
+        Action::Bind(place, shape, space) => {
+            add_place(out, place, &Shape::Cell(Kind::Space));
+            add_value(out, space);
+            put_bind(out, shape);
+        }
+        _ => {}
     }
 }
 

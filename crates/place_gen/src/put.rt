@@ -2,6 +2,7 @@
 ghost use Rattle.std.specs.Prelude.{◌≡◌, ◌∷◌, ◌+◌, ℕ, length, drop};
 ghost use Rattle.eu_base.specs.Operations.{operand_kinds, result_kind};
 ghost use Rattle.eu_base.specs.Requests.{request_size};
+ghost use Rattle.eu_base.specs.SpaceOperations.{space_operand_kinds};
 ghost use Rattle.eu_base.specs.declared.value.Kind.TheVariants as kinds;
 ghost use Rattle.code_form.specs.declared.operand.OperandKind.TheVariants as operand;
 ghost use Rattle.code_form.specs.declared.instr.Instr.TheVariants as instrs;
@@ -13,7 +14,7 @@ ghost use Rattle.place_gen.specs.Makes.{Makes, MakesTurn};
 use crate::draft::Draft;
 use code_form::{Instr, OperandKind};
 use elan_types::Exit;
-use eu_base::{Bytes, Kind, NoMemory, Operation, RequestName, Shape};
+use eu_base::{Bytes, Kind, NoMemory, Operation, RequestName, Shape, SpaceOperation};
 
 // A value of one cell, as it is pending.
 fn cell_value(kind: Kind) -> OperandKind
@@ -162,6 +163,25 @@ pub fn put_request(out: &mut Draft, name: RequestName, answer: Option<Kind>)
         Some(kind) => out.add(Instr::Ask(name), name.size(), Some(cell_value(kind))),
         None => out.add(Instr::Ask(name), name.size(), None),
     }
+}
+
+/// A call on data spaces with the operands on top, which delivers a value of this kind or nothing.
+pub fn put_on_spaces(out: &mut Draft, operation: SpaceOperation, answer: Option<Kind>)
+    ensures { Makes (one (instrs.OnSpaces operation) (λ ks. with_answer answer (drop (length (space_operand_kinds operation)) ks))) out.old out.new }
+{
+    let taken = operation.operand_kinds().len();
+    match answer {
+        Some(kind) => out.add(Instr::OnSpaces(operation), taken, Some(cell_value(kind))),
+        None => out.add(Instr::OnSpaces(operation), taken, None),
+    }
+}
+
+/// A BOUND variable is bound to the data space on top, whose content has this shape then.
+pub fn put_bind(out: &mut Draft, shape: &Shape)
+    ensures { Makes (one (instrs.Bind shape.now) (drop 2)) out.old out.new }
+{
+    let shape = out.copied(shape);
+    out.add(Instr::Bind(shape), 2, None);
 }
 
 /// Tests of labels, each of which jumps there where the number on top is the label.

@@ -1,6 +1,6 @@
 -- What a phrase does depends on calls only at the bodies that it names. One induction over the phrases.
 use Rattle.std.proofs.Common.{◌≡◌, ℕ, ◌+◌, Bool, List, [], ◌∷◌, ◌++◌, map, Option, Some, None, refl, ap, ◌∙◌}
-use Rattle.std.specs.Prelude.{ℤ, Contains, option_map}
+use Rattle.std.specs.Prelude.{ℤ, Contains, option_map, Ok, Err}
 use Rattle.std.proofs.Math.Path.{fun_ext}
 use Rattle.std.proofs.lemmas.List.Elements.{Contains-append_left, Contains-append_right, Contains-push}
 use Rattle.eu_base.specs.declared.value.Value.{Value}
@@ -8,6 +8,8 @@ use Rattle.eu_base.specs.declared.operation.Way.{Way}
 use Rattle.eu_base.specs.Values.{number_of, truth_of}
 use Rattle.eu_base.specs.Room.{values_bytes, place_bytes}
 use Rattle.eu_base.specs.Operations.{result_of}
+use Rattle.eu_base.specs.DataSpaces.{heads_of}
+use Rattle.eu_base.specs.SpaceOperations.{Plan, planned}
 use Rattle.elan_types.specs.declared.core_phrase.Content.{Content}
 use Rattle.elan_types.specs.declared.core_phrase.Content.TheVariants as contents
 use Rattle.elan_types.specs.declared.core_phrase.PlacePhrase.{PlacePhrase}
@@ -25,6 +27,7 @@ use Rattle.elan_types.specs.declared.core_phrase.Action.TheFolds.{fold-roll-Arm,
 use Rattle.elan_types.specs.Eval.{World, Outcome, Gives, Place, Calls, Reach, Run, Passed, AsValue, AsPlace, Labelled, bind, branch, or_stop, deliver}
 use Rattle.elan_types.specs.Eval.{holding_passed, the, all_slots, delivered, holds, selected, turns, while_true, until_true, then_on}
 use Rattle.elan_types.specs.Eval.{done, turn, go_on, step, step_to, limited, counted, stored, request, request_value, all, values, actuals, spend, content}
+use Rattle.elan_types.specs.Eval.{consult, or_refused}
 use Rattle.elan_types.specs.Eval.{act, value, action_step, actual_step, place_step, value_step, arm_step, value_arm_step}
 use Rattle.reached_bodies.specs.Names as names
 use Rattle.reached_bodies.specs.Names.{Names}
@@ -248,6 +251,12 @@ module _ (c d : Calls) where
       ap2 (λ (x : Fixed Place) (y : Fixed (List Value)). at' c (place_step (t.Item (run x) (run y) items)))
       (p.1 (left (names.in_place p.0) (names.in_value a.0) h)) (a.1 (right (names.in_place p.0) (names.in_value a.0) h))
   place_here (t.Field p before) h = ap (λ (x : Fixed Place). at' c (place_step (t.Field (run x) before))) (p.1 h)
+  place_here (t.Content p s) h = ap (λ (x : Fixed Place). at' c (place_step (t.Content (run x) s))) (p.1 h)
+
+  -- what is planned on data spaces is delivered, whatever calls do
+  consulted_same : (plan : Plan (Option Value)) (t b k : ℕ) (w : World) → consult plan (reach c t b k) w ≡ consult plan (reach d t b k) w
+  consulted_same (Ok plan) t b k w = refl
+  consulted_same (Err s) t b k w = refl
 
   value_here : (y : Below ValuePhrase-F)
       → AllAgree (names.value_step (map-ValuePhrase _ _ _ _ _ _ _ _ _ _ _ _ names.in_action names.in_actual names.in_place names.in_value names.in_arm names.in_value_arm
@@ -287,6 +296,11 @@ module _ (c d : Calls) where
   value_here (t.Take a part s) h = ap (λ (x : Fixed (List Value)). at' c (value_step (t.Take (run x) part s))) (a.1 h)
   value_here (t.ValuePhrase::Ask name as') h =
       ap {B = Fixed (List Value)} (λ x t b k w. bind (x t b k w) (λ xs. request_value name xs (reach c t b k))) (actuals_same as' h)
+  value_here (t.Consult op as') h =
+      ap {B = Fixed (List Value)} (λ x t b k w. bind (x t b k w) (λ vs w. consult (planned op vs (heads_of w.spaces)) (reach c t b k) w)) (values_same as' h)
+      ∙ fun_ext (λ t. fun_ext (λ b. fun_ext (λ k. fun_ext (λ w.
+      ap (λ (g : List Value → World → Outcome (List Value)). bind (values (map value (map fst as')) (reach d t b k) w) g)
+      (fun_ext (λ vs. fun_ext (λ w. consulted_same (planned op vs (heads_of w.spaces)) t b k w)))))))
 
   actual_here : (y : Below Actual-F)
       → AllAgree (names.actual_step (map-Actual _ _ _ _ _ _ _ _ _ _ _ _ names.in_action names.in_actual names.in_place names.in_value names.in_arm names.in_value_arm
@@ -355,6 +369,14 @@ module _ (c d : Calls) where
   action_here (t.Action::Refer p) h = ap {B = Fixed (Unit {0})} (λ refer t b k w. bind (refer b k w) (λ _. Gives tt)) (head p [] h).1
   action_here (t.Leave e) h = refl
   action_here (t.LeaveWith e s a) h = ap (λ (x : Fixed (List Value)). at' c (action_step (t.LeaveWith e s (run x)))) (a.1 h)
+  action_here (t.Perform op as') h =
+      ap {B = Fixed (Unit {0})} (λ x t b k w. bind (x t b k w) (λ vs w. or_refused (planned op vs (heads_of w.spaces)) (λ _. Gives tt) w)) (values_same as' h)
+  action_here (t.Copy p a) h =
+      ap2 (λ (x : Fixed Place) (y : Fixed (List Value)). at' c (action_step (t.Copy (run x) (run y))))
+      (p.1 (left (names.in_place p.0) (names.in_value a.0) h)) (a.1 (right (names.in_place p.0) (names.in_value a.0) h))
+  action_here (t.Bind p s a) h =
+      ap2 (λ (x : Fixed Place) (y : Fixed (List Value)). at' c (action_step (t.Bind (run x) s (run y))))
+      (p.1 (left (names.in_place p.0) (names.in_value a.0) h)) (a.1 (right (names.in_place p.0) (names.in_value a.0) h))
 
   action_same : (a : Action) → Q a
   action_same = ind-Action Q O W P R S

@@ -62,6 +62,7 @@ module _ (made bodies : List Body) (alike : SeenAlike made bodies) where
     place_here (t.Parameter n) = ap (λ (hs : List Held). place_held (slice_get hs n)) frame_here_same
     place_here (t.Item p a items) = refl
     place_here (t.Field p before) = refl
+    place_here (t.Content p s) = refl
 
     value_here : (y : ValuePhrase-F Bool Taken (List Kind) Typed Bool Typed) → value_kind_step outside made home y ≡ value_kind_step outside bodies home y
     value_here (t.ValuePhrase::Call p as' s) = ap2 (λ o d. only_if (taken_by o as' && has_shape s d) (Some s)) (alike.scopes p) (alike.delivers p)

@@ -36,6 +36,7 @@ place_step (t.Local k) = []
 place_step (t.Parameter k) = []
 place_step (t.Item p a items) = p ++ a
 place_step (t.Field p before) = p
+place_step (t.Content p s) = p
 
 abbrev pub value_step : Layer ValuePhrase-F → Names
 value_step (t.Number z) = []
@@ -53,6 +54,7 @@ value_step (t.ValuePhrase::Refer p s) = p ∷ []
 value_step (t.Pick a i items s) = a ++ i
 value_step (t.Take a part s) = a
 value_step (t.ValuePhrase::Ask _ as') = all as'
+value_step (t.Consult op as') = all as'
 
 abbrev pub actual_step : Layer Actual-F → Names
 actual_step (t.Value a) = a
@@ -76,6 +78,9 @@ action_step (t.Action::Call p as') = p ∷ all as'
 action_step (t.Action::Refer p) = p ∷ []
 action_step (t.Leave e) = []
 action_step (t.LeaveWith e s a) = a
+action_step (t.Perform op as') = all as'
+action_step (t.Copy p a) = p ++ a
+action_step (t.Bind p s a) = p ++ a
 
 abbrev pub arm_step : Layer Arm-F → Names
 arm_step arm = all arm.units

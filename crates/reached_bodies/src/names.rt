@@ -57,7 +57,9 @@ fn in_value(found: Found, value: &ValuePhrase) -> Found
     match value {
         ValuePhrase::Number(_) | ValuePhrase::Truth(_) | ValuePhrase::Text(_) => found,
         ValuePhrase::Load(place, _) => in_place(found, place),
-        ValuePhrase::Apply(_, operands) => in_values(found, operands.as_slice()),
+        ValuePhrase::Apply(_, operands) | ValuePhrase::Consult(_, operands) => {
+            in_values(found, operands.as_slice())
+        }
         ValuePhrase::If(c, a, b) => {
             let found = in_value(found, c.get());
             let found = in_value(found, a.get());
@@ -121,7 +123,7 @@ fn in_place(found: Found, place: &PlacePhrase) -> Found
             let found = in_place(found, row.get());
             in_value(found, index.get())
         }
-        PlacePhrase::Field(structure, _) => in_place(found, structure.get()),
+        PlacePhrase::Field(of, _) | PlacePhrase::Content(of, _) => in_place(found, of.get()),
     }
 }
 
@@ -172,7 +174,10 @@ fn in_action(found: Found, action: &Action) -> Found
 {
     match action {
         Action::Unit(units) => in_actions(found, units.as_slice()),
-        Action::Store(place, _, value) | Action::Modify(_, place, value) => {
+        Action::Store(place, _, value)
+        | Action::Modify(_, place, value)
+        | Action::Copy(place, value)
+        | Action::Bind(place, _, value) => {
             let found = in_place(found, place);
             in_value(found, value)
         }
@@ -220,6 +225,7 @@ fn in_action(found: Found, action: &Action) -> Found
         Action::Refer(number) => found.with(*number),
         Action::Leave(_) => found,
         Action::LeaveWith(_, _, value) => in_value(found, value),
+        Action::Perform(_, operands) => in_values(found, operands.as_slice()),
     }
 }
 

@@ -4,10 +4,4 @@ pub mod Beside
 pub mod Numbered
 pub mod Serving
 pub mod Slicing
-pub mod Paired
-pub mod Settled
-pub mod Calming
-pub mod Monitoring
-pub mod Events
 pub mod Standing
-pub mod Staying

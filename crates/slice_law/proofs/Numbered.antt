@@ -1,18 +1,15 @@
 -- The numbers of the tasks rise, so what stands beside a task stays there where another is gone.
-use Rattle.std.proofs.Common.{◌≡◌, ℕ, zero, suc, ◌+◌, ◌<◌, ◌≤◌, Bool, true, false, not, ◌||◌, cond, List, [], ◌∷◌, ◌++◌, length, filter, get_or, Option, Some, None, refl, sym, ap, ◌∙◌, subst, arith, ◌⊎◌, ⊎_elim}
+use Rattle.std.proofs.Common.{◌≡◌, ℕ, zero, suc, ◌+◌, ◌<◌, ◌≤◌, Bool, true, false, not, ◌||◌, cond, List, [], ◌∷◌, ◌++◌, length, filter, get_or, Option, Some, None, refl, sym, ap, ◌∙◌, subst, arith}
 use Rattle.std.specs.Prelude.{All, AllPairs}
 use Rattle.std.specs.Option.{option_map}
 use Rattle.std.specs.List.{list_any, position, remove}
-use Rattle.std.proofs.lemmas.Bool.{false≢true, or_cases, ne_eqb, eqb-true}
-use Rattle.std.proofs.lemmas.Bool.Decides.{nat_tests}
-use Rattle.std.proofs.lemmas.List.Folds.{list_any-append}
+use Rattle.std.proofs.lemmas.Bool.{ne_eqb, eqb-true}
 use Rattle.std.proofs.lemmas.Option.{none-some, same_Some}
 use Rattle.task_numbers.specs.declared.number.TaskNo.{TaskNo}
 use Rattle.task_numbers.specs.Numbers.{is_task}
 use Rattle.task_tree.specs.declared.task.Task.{Task}
 use Rattle.task_tree.specs.Tree.{Tree, has_number, number}
 use Rattle.task_tree.specs.Trees.{IsTree, IsYounger, IsGiven}
-use Rattle.slicer.specs.Rotation.{is_ready}
 use Rattle.slice_law.proofs.Beside.{beside, position_more}
 
 -- numbers above n rise, and none is above the last that was given
@@ -130,13 +127,3 @@ stays_gone p q (x ∷ xs) e = by (q x) (stays_gone p q xs (neither_right (p x) (
 
 pub same_number : (v w : TaskNo) → is_task v w ≡ true → v ≡ w
 same_number v w e = ap number (eqb-true v.0 w.0 e)
-
-pub is_task_back : (v w : TaskNo) → is_task v w ≡ is_task w v
-is_task_back v w = grind (arith, nat_tests)
-
-pub in_one : (w : TaskNo) (xs ys : List TaskNo) → is_ready w (xs ++ ys) ≡ true → (is_ready w xs ≡ true) ⊎ (is_ready w ys ≡ true)
-in_one w xs ys e = or_cases (is_ready w xs) (is_ready w ys) (sym (list_any-append (λ v. is_task v w) xs ys) ∙ e)
-
--- the only one
-pub is_one : (w t : TaskNo) → is_ready w (t ∷ []) ≡ true → t ≡ w
-is_one w t e = ⊎_elim (λ same. same_number t w same) (λ none. absurd (false≢true none)) (or_cases (is_task t w) false e)

@@ -1,18 +1,16 @@
 -- A run that rests at a request has paid a mark for it, and for each reply that it took.
-use Rattle.std.proofs.Common.{◌≡◌, ℕ, zero, suc, ◌+◌, ◌≤◌, Bool, true, false, cond, List, [], ◌∷◌, length, Some, refl, sym, ap, ◌∙◌, subst, arith}
+use Rattle.std.proofs.Common.{◌≡◌, ℕ, zero, suc, ◌+◌, ◌≤◌, List, [], ◌∷◌, length, Some, refl, sym, ap, ◌∙◌, subst, arith}
 use Rattle.std.specs.Prelude.{slice_get}
 use Rattle.eu_base.specs.declared.request.Request.{Request}
 use Rattle.eu_base.specs.declared.request.Reply.{Reply}
 use Rattle.eu_base.specs.declared.request.Reply.TheVariants as replies
-use Rattle.eu_base.specs.declared.stop.Stop.TheVariants.{CellRoom}
-use Rattle.eu_base.specs.Cells.{Cells}
 use Rattle.code_form.specs.declared.halt.Halt.TheVariants as halts
 use Rattle.code_form.specs.declared.waits.Waits.{Waits}
 use Rattle.code_form.specs.declared.waits.Waits.TheVariants.{Nothing, Asked, Given, Refused}
 use Rattle.code_form.specs.Program.{Program, instr_of}
-use Rattle.code_form.specs.Machine.{Position, Control, After, To, Stops, Unsaid, Move, Goes, Spends, Halts, Refuses, Ends, Unknown, Stuck, Scene, Rest, step}
+use Rattle.code_form.specs.Machine.{Position, Control, After, To, Stops, Unsaid, Move, Goes, Spends, Halts, Refuses, Ends, Unknown, Stuck, Mem, Scene, Rest, step}
 use Rattle.code_form.specs.Machine.{free, given, answered, takes_reply, Stage, On, Over, Lost}
-use Rattle.code_form.specs.Machine.{after_stage, mark_stage, move_stage, reply_stage, stage_at, advance, carry_on, exec, rest_at, have_room, start}
+use Rattle.code_form.specs.Machine.{after_stage, mark_stage, move_stage, reply_stage, stage_at, advance, carry_on, exec, rest_at}
 use Rattle.code_form.specs.Machine as machine
 use Rattle.code_form.specs.Runs.{Rests}
 
@@ -36,13 +34,13 @@ Pays n k (Over r) = (q : Request) → r.how ≡ halts.Asks q → RestsAsking q n
 Pays n k Lost = Unit {0}
 
 after_pays : (n : ℕ) (a : After) (d : Control) (s : Scene) → Pays (suc n) (length s.replies) (after_stage a d (record s { marks = n }))
-after_pays n (To c' cells) d s = omega arith
-after_pays n (machine.Asks c' q cells) d s = omega arith
+after_pays n (To c' x) d s = omega arith
+after_pays n (machine.Asks c' q x) d s = omega arith
 after_pays n (Stops stop) d s = λ q is. absurd (cc is)
 after_pays n Unsaid d s = tt
 
 move_pays : (m : Move) (d : Control) (s : Scene) → Pays (s.marks + 0) (length s.replies) (move_stage m d s)
-move_pays (Goes c' cells) d s = omega arith
+move_pays (Goes c' x) d s = omega arith
 move_pays (Spends a) d s = by s.marks
   where
     by : (n : ℕ) → Pays (n + 0) (length s.replies) (mark_stage n a d s)
@@ -65,8 +63,8 @@ answered_owes q (replies.Truth b) c = refl
 answered_owes q (replies.Stopped stop) c = refl
 
 stage_pays : (p : Program) (w : Waits) (c : Position) (s : Scene) → Pays (s.marks + owed w) (length s.replies) (stage_at w p c s)
-stage_pays p Nothing c s = move_pays (step p c s.cells) (free c) s
-stage_pays p (Given r) c s = move_pays (takes_reply (instr_of (slice_get p.lines c.pc)) r c s.cells) (given c r) s
+stage_pays p Nothing c s = move_pays (step p c s.mem) (free c) s
+stage_pays p (Given r) c s = move_pays (takes_reply (instr_of (slice_get p.lines c.pc)) r c s.mem) (given c r) s
 stage_pays p (Asked q) c s = by s.replies refl
   where
     by : (rs : List Reply) → s.replies ≡ rs → Pays (s.marks + 1) (length rs) (reply_stage rs q c s)
@@ -92,70 +90,12 @@ asks_pay p (suc n) c s r q e is = by (advance p c s) (λ c s e. asks_pay p n c s
     by Lost ih f e = absurd (cc e)
 
 -- what waits for a reply rests at once where it has none
-pub rests_asking : (p : Program) (c : Control) (cells : Cells) (marks : ℕ) (q : Request) → c.waits ≡ Asked q
-    → (r : Rest) × Rests p c (record { cells = cells; marks = marks; replies = [] }) r × (r.how ≡ halts.Asks q)
-rests_asking p c cells marks q is =
-    subst (λ (w : Waits). (r : Rest) × Rests p (record { position = c.position; waits = w }) (record { cells = cells; marks = marks; replies = [] }) r × (r.how ≡ halts.Asks q))
+pub rests_asking : (p : Program) (c : Control) (mem : Mem) (marks : ℕ) (q : Request) → c.waits ≡ Asked q
+    → (r : Rest) × Rests p c (record { mem = mem; marks = marks; replies = [] }) r × (r.how ≡ halts.Asks q)
+rests_asking p c mem marks q is =
+    subst (λ (w : Waits). (r : Rest) × Rests p (record { position = c.position; waits = w }) (record { mem = mem; marks = marks; replies = [] }) r × (r.how ≡ halts.Asks q))
     (sym is) (
-      rest_at (halts.Asks q) (machine.asking c.position q) (record { cells = cells; marks = marks; replies = [] }),
+      rest_at (halts.Asks q) (machine.asking c.position q) (record { mem = mem; marks = marks; replies = [] }),
       (1, refl),
       refl,
     )
-
--- ---- a run that rests for want of marks
-
--- what has no replies gets none; and it waits for none where a mark is due
-abbrev IsWaiting : Stage → Type 0
-IsWaiting (On c s) = s.replies ≡ []
-IsWaiting (Over r) = (r.scene.replies ≡ []) × (r.how ≡ halts.Marked → owed r.control.waits ≡ 0)
-IsWaiting Lost = Unit {0}
-
-after_waits : (a : After) (d : Control) (s : Scene) → s.replies ≡ [] → IsWaiting (after_stage a d s)
-after_waits (To c' cells) d s none = none
-after_waits (machine.Asks c' q cells) d s none = none
-after_waits (Stops stop) d s none = (none, λ is. absurd (cc is))
-after_waits Unsaid d s none = tt
-
-mark_waits : (n : ℕ) (a : After) (d : Control) (s : Scene) → owed d.waits ≡ 0 → s.replies ≡ [] → IsWaiting (mark_stage n a d s)
-mark_waits zero a d s free none = (none, λ is. free)
-mark_waits (suc n) a d s free none = after_waits a d (record s { marks = n }) none
-
-move_waits : (m : Move) (d : Control) (s : Scene) → owed d.waits ≡ 0 → s.replies ≡ [] → IsWaiting (move_stage m d s)
-move_waits (Goes c' cells) d s free none = none
-move_waits (Spends a) d s free none = mark_waits s.marks a d s free none
-move_waits (Halts stop) d s free none = (none, λ is. absurd (cc is))
-move_waits (Refuses stop c') d s free none = none
-move_waits Ends d s free none = (none, λ is. absurd (cc is))
-move_waits Unknown d s free none = tt
-move_waits Stuck d s free none = tt
-
-stage_waits : (p : Program) (w : Waits) (c : Position) (s : Scene) → s.replies ≡ [] → IsWaiting (stage_at w p c s)
-stage_waits p Nothing c s none = move_waits (step p c s.cells) (free c) s refl none
-stage_waits p (Given r) c s none = move_waits (takes_reply (instr_of (slice_get p.lines c.pc)) r c s.cells) (given c r) s refl none
-stage_waits p (Asked q) c s none = by s.replies none
-  where
-    by : (rs : List Reply) → rs ≡ [] → IsWaiting (reply_stage rs q c s)
-    by [] e = (none, λ is. absurd (cc is))
-    by (r ∷ rs) e = absurd (cc e)
-stage_waits p (Refused stop) c s none = (none, λ is. absurd (cc is))
-
-pub waits_not : (p : Program) (n : ℕ) (c : Control) (s : Scene) (r : Rest) → exec p n c s ≡ Some r → s.replies ≡ []
-    → (r.scene.replies ≡ []) × (r.how ≡ halts.Marked → owed r.control.waits ≡ 0)
-waits_not p zero c s r e none = absurd (cc e)
-waits_not p (suc n) c s r e none = by (advance p c s) (λ c s e none. waits_not p n c s r e none) (stage_waits p c.waits c.position s none) e
-  where
-    by : (st : Stage) → ((c : Control) (s : Scene) → exec p n c s ≡ Some r → s.replies ≡ [] → (r.scene.replies ≡ []) × (r.how ≡ halts.Marked → owed r.control.waits ≡ 0))
-        → IsWaiting st → carry_on st (exec p n) ≡ Some r → (r.scene.replies ≡ []) × (r.how ≡ halts.Marked → owed r.control.waits ≡ 0)
-    by (On c' s') ih f e = ih c' s' e f
-    by (Over x) ih f e =
-        let same : x ≡ r = cc e in
-        subst (λ (y : Rest). (y.scene.replies ≡ []) × (y.how ≡ halts.Marked → owed y.control.waits ≡ 0)) same f
-    by Lost ih f e = absurd (cc e)
-
--- nothing is waited for at the start
-pub start_owes : (p : Program) → owed (start p).waits ≡ 0
-start_owes p = by (have_room p)
-  where
-    by : (t : Bool) → owed (cond t Nothing (Refused CellRoom)) ≡ 0
-    by true = refl
-    by false = refl

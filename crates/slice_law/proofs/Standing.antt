@@ -1,11 +1,11 @@
 -- A run stands for the command of each task of a system that a machine stands for.
-use Rattle.std.proofs.Common.{◌≡◌, ℕ, Option, Some, None, sym, ap, ◌∙◌, subst}
-use Rattle.std.specs.Option.{option_map, option_and_then}
+use Rattle.std.proofs.Common.{◌≡◌, ℕ, Option, Some, None, ap, ◌∙◌, subst}
+use Rattle.std.specs.Option.{option_and_then}
 use Rattle.std.specs.Prelude.{slice_get}
 use Rattle.std.proofs.lemmas.Option.{none-some}
 use Rattle.task_numbers.specs.declared.number.TaskNo.{TaskNo}
-use Rattle.slice_law.specs.Below.source_machine.specs.Tasks.{Command, Doing, Running, Own, request_of}
-use Rattle.slice_law.specs.Below.source_machine.specs.Systems.{System, Moment, place, own, command, requested}
+use Rattle.slice_law.specs.Below.source_machine.specs.Tasks.{Command, Doing, Own}
+use Rattle.slice_law.specs.Below.source_machine.specs.Systems.{System, Moment, place, own, command}
 use Rattle.slice_law.specs.Below.source_machine.specs.Whole.{IsSystem}
 use Rattle.slice_law.specs.Below.live_task.specs.Stands.{DoesAs}
 use Rattle.slice_law.specs.Below.live_tasks.proofs.Standing.{as_long, stands_at}
@@ -14,7 +14,7 @@ use Rattle.slice_law.specs.Below.live_packets.specs.Packets.{kinds_in}
 use Rattle.slice_law.specs.Below.task_desk.specs.Desks.{system}
 use Rattle.live_system.specs.Machines.{Machine, StandsAt}
 use Rattle.slice_law.proofs.Numbered.{tree_numbered}
-use Rattle.slice_law.proofs.Commands.{IsRun, owed_once, owes_none}
+use Rattle.slice_law.proofs.Commands.{IsRun, owes_once}
 use Rattle.slice_law.proofs.Slicing.{Goes, has_own}
 
 own_place : (t : TaskNo) (s : System) (o : Own) → own t s ≡ Some o → (k : ℕ) × (slice_get s.owns k ≡ Some o)
@@ -25,7 +25,7 @@ own_place t s o has = by (place t s) has
     by (Some k) e = (k, e)
 
 module _ (now : Machine) (m : Moment) (h : StandsAt now m) (t : TaskNo) where
-  pub runs : (c : Command) → command t m.system ≡ Some c → IsRun 1 c
+  runs : (c : Command) → command t m.system ≡ Some c → IsRun 1 c
   runs c is =
       let s = system now.desk now.library h.owns in
       let o = has_own (own t s) c (ap (λ (n : Moment). command t n.system) h.is ∙ is) in
@@ -33,22 +33,8 @@ module _ (now : Machine) (m : Moment) (h : StandsAt now m) (t : TaskNo) where
       let task = found_other now.live.tasks h.owns at.0 o.0 (as_long (kinds_in now.library) now.live.pages now.live.tasks h.owns h.stand) at.1 in
       let stands = stands_at (kinds_in now.library) now.live.pages now.live.tasks h.owns at.0 task.0 o.0 h.stand task.1 at.1 in
       let does = subst (λ (d : Doing). DoesAs (kinds_in now.library o.0.packets) now.live.pages task.0 d) o.2 stands.does in
-      let run = does.2.reaches in
-      record { code = does.0.code; run = does.0.run; now = run.now; reaches = run.reaches; few = owed_once does.0.run.waits }
+      owes_once c does.0.code does.0.run _ does.2.reaches.reaches
 
-  -- one that makes no request
-  pub quiet : requested t m.system ≡ None → (c : Command) → command t m.system ≡ Some c → request_of (Running c) ≡ None
-  quiet none c is =
-      let o = has_own (own t m.system) c is in
-      let same : requested t m.system ≡ request_of (Running c) =
-      ap (λ (p : Option Own). option_and_then request_of (option_map (λ (o : Own). o.doing) p)) o.1 ∙ ap request_of o.2 in
-      sym same ∙ none
-
-  pub waiting_goes : IsSystem m.system → Goes t 1 m
-  waiting_goes whole = record { numbers = tree_numbered m.system.shared.tree whole.tree; runs = runs }
-
-  pub quiet_goes : IsSystem m.system → requested t m.system ≡ None → Goes t 0 m
-  quiet_goes whole none = record {
-    numbers = tree_numbered m.system.shared.tree whole.tree;
-    runs = λ c is. owes_none 1 c (runs c is) (quiet none c is);
-  }
+  -- it owes a mark at most: one that waits has paid for its first request before
+  pub goes : IsSystem m.system → Goes t 1 m
+  goes whole = record { numbers = tree_numbered m.system.shared.tree whole.tree; runs = runs }

@@ -1,8 +1,6 @@
-//! Laws of the slices of a turn: more evaluations than a slice may have would change nothing, and no ready task waits for a reply.
+//! A law of the slices of a turn: more evaluations than a slice may have would change nothing.
 #![tactic(auto)]
 
-mod calm;
 mod slices;
 
-pub use calm::stays_calm;
 pub use slices::enough;

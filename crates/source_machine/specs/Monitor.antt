@@ -69,7 +69,7 @@ abbrev pub names_told : TaskNo → List (List ℕ) → Moment → Moment
 names_told t names m = fold (λ m name. tell t name m) m names
 
 abbrev pub directory_of : Store → List (List ℕ)
-directory_of store = map (λ entry. entry.0) store.names
+directory_of store = map (λ entry. entry.0) store.spaces.names
 
 -- a line that is entered: `.` ends the text, which becomes a space under its name
 abbrev pub is_last : List ℕ → Bool
@@ -189,4 +189,4 @@ module _ (read : Env → Bool → List ℕ → Reading) where
   over_as (Some i) stop t c m = insertion_over stop (is_full m.system.shared.library) t c i m
 
   abbrev pub over : TaskNo → Command → Option Stop → World → Moment → Moment
-  over t c stop w m = over_as c.unit.shown stop t c (on_system (does t (Idle (store_in c w))) m)
+  over t c stop w m = over_as c.unit.shown stop t c (on_system (does t (Idle (store_in w))) m)

@@ -110,7 +110,7 @@ abbrev pub told : ℕ → List (List ℕ) → Moment → Moment
 told c lines m = fold (λ m line. say c line m) m lines
 
 abbrev pub spaces_of : Own → ℕ
-spaces_of o = length (now o.doing).spaces
+spaces_of o = length (now o.doing).spaces.live
 
 abbrev pub storage_info : System → List ℕ
 storage_info s =

@@ -36,7 +36,7 @@ with_reply r c = record c { replies = c.replies ++ r ∷ [] }
 
 -- how a command stands with so many marks more than it has spent
 abbrev pub ending : Command → ℕ → Ending
-ending c left = evaluate c.unit.core c.before.variables (c.marks + left) c.replies
+ending c left = evaluate c.unit.core c.before.variables c.before.spaces (c.marks + left) c.replies
 
 abbrev pub world_of : Ending → World
 world_of (Ended w) = w
@@ -45,8 +45,8 @@ world_of (OutOfMarks w) = w
 world_of (Asks q w) = w
 
 -- what is kept in a world: of the variables those of a packet that is being inserted stand last
-abbrev pub store_in : Command → World → Store
-store_in c w = record c.before { variables = w.packets }
+abbrev pub store_in : World → Store
+store_in w = record { variables = w.packets; spaces = w.spaces }
 
 -- without the variables of a packet that is being inserted
 abbrev pub settled : ℕ → Store → Store
@@ -59,7 +59,7 @@ own_variables c = length c.before.variables
 abbrev pub now : Doing → Store
 now (Idle s) = s
 now (Entering name lines s) = s
-now (Running c) = settled (own_variables c) (store_in c (world_of (ending c 0)))
+now (Running c) = settled (own_variables c) (store_in (world_of (ending c 0)))
 
 -- a command that was evaluated with so many marks more: those that are left were not spent
 abbrev pub spent : ℕ → World → Command → Command

@@ -13,9 +13,9 @@ use Rattle.source_machine.specs.Monitor.{Reading, over}
 unfoldable pub turn_marks : ℕ
 turn_marks = 100
 
--- a request costs a mark, so there is one evaluation more than marks
+-- a request costs a mark, so there is one evaluation more than marks; one more yet where a request that was paid before is waited for
 unfoldable pub most_evaluations : ℕ
-most_evaluations = 101
+most_evaluations = 102
 
 -- where a request is answered, the task goes on with the reply
 abbrev pub served : Served → (Moment → Moment) → TaskNo → Moment

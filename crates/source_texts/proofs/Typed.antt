@@ -49,6 +49,7 @@ text_there (suc n) [] h k low = elim h [ ]
 text_there (suc n) (values.Int z ∷ row) (one is rest) k low = absurd is
 text_there (suc n) (values.Truth b ∷ row) (one is rest) k low = absurd is
 text_there (suc n) (values.Task m ∷ row) (one is rest) k low = absurd is
+text_there (suc n) (values.Space s ∷ row) (one is rest) k low = absurd is
 text_there (suc n) (values.Text t ∷ row) (one is rest) zero low = record { text = t; is = refl }
 text_there (suc n) (values.Text t ∷ row) (one is rest) (suc k) low =
     let h = text_there n row rest k (omega (arith, low)) in record { text = h.text; is = h.is }
@@ -67,6 +68,7 @@ two_parts ks (values.Int z ∷ row) same (one is rest) = record { number = z; ro
 two_parts ks (values.Truth b ∷ row) same (one is rest) = absurd is
 two_parts ks (values.Text t ∷ row) same (one is rest) = absurd is
 two_parts ks (values.Task m ∷ row) same (one is rest) = absurd is
+two_parts ks (values.Space s ∷ row) same (one is rest) = absurd is
 
 pub parts_of : (vs : List Value) → AreOf (cell_kinds source_shape) vs → Parts vs
 parts_of vs h = two_parts (replicate most_lines kinds.Text) vs refl (subst (λ ks. AreOf ks vs) kinds_source h)

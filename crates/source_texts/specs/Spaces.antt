@@ -1,31 +1,14 @@
--- Data spaces as values, and how they lie in pages.
-use Rattle.std.specs.Prelude.{◌≡◌, List, [], ◌∷◌, Option, Some, None, slice_get, ℤ}
+-- How data spaces lie in pages.
+use Rattle.std.specs.Prelude.{◌≡◌, List, Option, Some, None, slice_get}
 use Rattle.eu_base.specs.declared.address.Area.TheVariants.{Run}
-use Rattle.eu_base.specs.declared.value.Kind.{Kind}
 use Rattle.eu_base.specs.declared.value.Value.{Value}
-use Rattle.eu_base.specs.declared.shape.Shape.{Shape}
-use Rattle.eu_base.specs.Shapes.{cell_kinds}
-use Rattle.eu_base.specs.Values.{IsOf}
 use Rattle.eu_base.specs.Cells.{Cell, Free, Cells, held_of}
+pub use Rattle.eu_base.specs.DataSpaces.{Space}
+pub use Rattle.eu_base.specs.SoundSpaces.{shape_kinds, AreOf, none, one}
 use Rattle.page_pool.specs.Pool.{Pages}
 use Rattle.page_table.specs.Frames.{content_at}
 use Rattle.text_heap.specs.Held.{HoldsCells}
 use Rattle.data_space.specs.Data.{SpaceData}
-
--- its type number, and its shape with a value for each cell of it; an empty one has neither shape nor values
-pub record Space : Type 0 where
-  pub kind : ℤ
-  pub shape : Option Shape
-  pub values : List Value
-
-abbrev pub shape_kinds : Option Shape → List Kind
-shape_kinds None = []
-shape_kinds (Some shape) = cell_kinds shape
-
--- one value of its kind for each cell
-pub data AreOf : List Kind → List Value → Type 0 where
-  none : AreOf [] []
-  one : {k : Kind} {v : Value} {ks : List Kind} {vs : List Value} → IsOf k v → AreOf ks vs → AreOf (k ∷ ks) (v ∷ vs)
 
 -- the values stand in the cells from 0 on, and nothing is known of the cells behind
 abbrev pub held : Option Value → Cell

@@ -1,5 +1,5 @@
 -- A memory over a pool, after a call on one of its spaces: that of the command, that of the packets, and the live ones.
-use Rattle.std.proofs.Common.{nat_eq, cond, Bool, true, false, ℤ, Some, List, ◌≡◌, ◌+◌, ◌≤◌, ℕ, [], ◌∷◌, ◌++◌, length, Option, None, refl, sym, ap, ◌∙◌, subst, arith}
+use Rattle.std.proofs.Common.{nat_eq, cond, Bool, true, false, ℤ, Some, List, ◌≡◌, ◌+◌, ◌-◌, ◌<◌, ◌≤◌, ℕ, [], ◌∷◌, ◌++◌, length, Option, None, refl, sym, ap, ◌∙◌, subst, arith}
 use Rattle.std.specs.Map.{lookup, set_value}
 use Rattle.std.specs.Option.{IfSome}
 use Rattle.eu_base.specs.Spaces.{IsKept}
@@ -10,13 +10,14 @@ use Rattle.page_table.specs.Sharing.{Agree}
 use Rattle.page_table.proofs.Framing.{Same, same_self, frames_same, frames_more, frames_nil, frames_none, frames_then, stands_same, stands_first, stands_after, beside}
 use Rattle.page_table.proofs.Counting.{occ-append}
 use Rattle.std.proofs.lemmas.List.{length-append, append-nil}
+use Rattle.std.proofs.lemmas.Map.{length-set_value}
 use Rattle.live_spaces.specs.Kept.{KeepsBytes, IsOfKind}
 use Rattle.live_spaces.proofs.Roots.{all_named, flip, last_one, apart}
 use Rattle.data_space.specs.Data.{SpaceData}
-use Rattle.live_spaces.specs.Live.{no_space, space_roots, IsLive, IsNumbered, the_space, without, with_space}
+use Rattle.live_spaces.specs.Live.{LiveData, no_space, space_roots, IsLive, IsNumbered, the_space, without, with_space}
 use Rattle.live_spaces.proofs.Numbers.{live_is}
-use Rattle.space_memory.specs.Memories.{MemoryData, roots, KeepsSpace, with_new, forgotten}
-use Rattle.space_memory.specs.Changes.{OnlyRun, OnlyPackets, run_room}
+use Rattle.space_memory.specs.Memories.{MemoryData, roots, with_new, forgotten, most_roots, StandsWhole}
+use Rattle.space_memory.specs.Changes.{OnlyRun, OnlyPackets, OnlySpace}
 
 -- how many spaces there are
 pub roots_long : (es : List (ℕ × SpaceData)) → length (space_roots es) ≡ length es
@@ -123,25 +124,6 @@ module _ (v m : MemoryData) (is : v ≡ m) where
       kind = kind;
       keeps = packets_keep old new _ _ later.root _ f (subst (λ (u : MemoryData). Stands old (roots u) 0) (sym is) s);
     })
-
--- the memory stands after a call that changes only the space of the command
-pub run_after : (old new : Pages) (m n : MemoryData) → OnlyRun old new m n → Frames old new (roots m) (roots n) → Stands old (roots m) 0 → Stands new (roots n) 0
-run_after old new m n only f s = stands_after old new (roots m) (roots n) 0 0 (omega (arith, run_room m n only.memory)) f s
-
-packets_room : (m n : MemoryData) → n ≡ record m { packets = n.packets } → length (roots n) ≡ length (roots m)
-packets_room m n is = ap (λ (u : MemoryData). length (roots u)) is
-
-pub packets_after : (old new : Pages) (m n : MemoryData) → OnlyPackets old new m n → Frames old new (roots m) (roots n) → Stands old (roots m) 0
-    → Stands new (roots n) 0
-packets_after old new m n only f s = stands_after old new (roots m) (roots n) 0 0 (omega (arith, packets_room m n only.memory)) f s
-
--- the space of the other area is as it was
-pub packets_kept : (old new : Pages) (m n : MemoryData) → OnlyRun old new m n → KeepsSpace old new m.packets n.packets
-packets_kept old new m n only =
-    subst (λ (s : SpaceData). KeepsSpace old new m.packets s) (sym (ap (λ (u : MemoryData). u.packets) only.memory)) only.keeps.each.0
-
-pub command_kept : (old new : Pages) (m n : MemoryData) → OnlyPackets old new m n → KeepsSpace old new m.run n.run
-command_kept old new m n only = subst (λ (s : SpaceData). KeepsSpace old new m.run s) (sym (ap (λ (u : MemoryData). u.run) only.memory)) only.keeps.each.0
 
 -- the space of the command is emptied
 module _ (v m : MemoryData) (is : v ≡ m) (old new : Pages) (f : Frames old new (v.run.root ∷ []) []) where
@@ -288,3 +270,44 @@ pub given_frames : (v m : MemoryData) → v ≡ m → (space : SpaceData) (pages
 given_frames v m is space pages =
     subst (λ (u : MemoryData). Frames pages pages (space.root ∷ roots u) (roots (with_new space v))) is
     (frames_same pages pages _ _ _ _ (same_self (space.root ∷ roots v)) (flip _ _ (given_same space v)) (frames_none pages (space.root ∷ roots v)))
+
+-- the memory with its data spaces as they are now
+abbrev pub with_live : MemoryData → LiveData → MemoryData
+with_live v later = record v { spaces = later.spaces; last = later.last }
+
+with_length : (n : ℕ) (w : SpaceData) (es : List (ℕ × SpaceData)) → length (with_space n w es) ≡ length es
+with_length n w es = length-set_value (nat_eq n) es w
+
+-- only the space under a number changes
+pub only_space : (v m : MemoryData) → v ≡ m → (old new : Pages) (n : ℕ) (later : LiveData)
+    → later ≡ record { spaces = with_space n (the_space n later.spaces) v.spaces; last = v.last }
+    → IsOfKind (the_space n v.spaces) (the_space n later.spaces) → Frames old new (space_roots v.spaces) (space_roots later.spaces)
+    → KeepsBytes old new (space_roots (without n v.spaces)) → Stands old (roots m) 0 → OnlySpace n old new m (with_live v later)
+only_space v m is old new n later others kind f keeps s = subst (λ (u : MemoryData). OnlySpace n old new u (with_live v later)) is (record {
+  memory = ap (λ (live : LiveData). with_live v live) others;
+  kind = kind;
+  keeps = left_keep v m is old new later.spaces f 0
+      (omega (arith, ap (λ (live : LiveData). length live.spaces) others ∙ with_length n (the_space n later.spaces) v.spaces)) s (space_roots (without n v.spaces)) keeps;
+})
+
+-- ---- a whole memory has room
+
+pub stands_now : (pages : Pages) (names : Names) → StandsWhole pages names → Stands pages names 0
+stands_now pages names s = stands_after pages pages names names (most_roots - length names) 0 (omega (arith, s.few)) (frames_none pages names) s.stands
+
+pub stands_one : (pages : Pages) (names : Names) → length names < most_roots → StandsWhole pages names → Stands pages names 1
+stands_one pages names few s = stands_after pages pages names names (most_roots - length names) 1 (omega (arith, few)) (frames_none pages names) s.stands
+
+pub whole_after : (old new : Pages) (a b : Names) → length b ≤ most_roots → Frames old new a b → StandsWhole old a → StandsWhole new b
+whole_after old new a b few f s = record {
+  few = few;
+  stands = stands_after old new a b (most_roots - length a) (most_roots - length b) (omega (arith, few, s.few)) f s.stands;
+}
+
+-- where there is room for a memory in the place of this one
+pub whole_of : (pages : Pages) (names : Names) (more : ℕ) → length names ≤ most_roots → most_roots ≤ length names + more → Stands pages names more
+    → StandsWhole pages names
+whole_of pages names more few room s = record {
+  few = few;
+  stands = stands_after pages pages names names more (most_roots - length names) (omega (arith, few, room)) (frames_none pages names) s;
+}

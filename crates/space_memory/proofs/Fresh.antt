@@ -1,15 +1,19 @@
 -- A new memory over a pool, and one that was emptied.
-use Rattle.std.proofs.Common.{◌≡◌, ℕ, ◌%◌, [], ◌∷◌, None, get_or, replicate, inl, inr, arith}
+use Rattle.std.proofs.Common.{◌≡◌, ℕ, ◌%◌, [], ◌∷◌, None, get_or, replicate, inl, inr, List, true, true≢false, refl, sym, ap, ◌∙◌, subst, arith}
+use Rattle.std.specs.Option.{is_some}
 use Rattle.std.proofs.lemmas.Bool.{cases_lt}
 use Rattle.std.proofs.lemmas.List.{get_or-replicate, get_or_past, length-replicate}
 use Rattle.page_pool.specs.Pool.{Pages}
 use Rattle.page_table.specs.Frames.{content_at, Stands}
 use Rattle.page_table.proofs.Framing.{nil_agree, stands_of}
 use Rattle.eu_base.specs.declared.address.Area.{Area}
+use Rattle.eu_base.specs.declared.address.Area.TheVariants.{Run, Packets, Space}
 use Rattle.eu_base.specs.Cells.{Free}
 use Rattle.text_heap.specs.Held.{HoldsCells}
 use Rattle.text_heap.proofs.Kept.{zeros_held}
-use Rattle.space_memory.specs.Memories.{new_memory, roots}
+use Rattle.space_memory.specs.Memories.{MemoryData, HoldsAll, new_memory, roots, is_there, bytes_in}
+use Rattle.data_space.specs.Data.{SpaceData}
+use Rattle.live_spaces.specs.Live.{no_space, space_at}
 
 pub new_stands : Stands [] (roots new_memory) 0
 new_stands = stands_of [] (None ∷ None ∷ []) [] 0 (omega arith) ∣ nil_agree (None ∷ None ∷ []) (λ p. omega arith) (omega arith) ∣₁
@@ -23,3 +27,14 @@ zeros n i = elim (cases_lt i n) [
 
 pub nothing_held : (area : Area) (pages : Pages) → HoldsCells area (content_at pages None) (λ _. Free)
 nothing_held area pages = zeros_held area (content_at pages None) (λ n. zeros 512 (n % 512))
+
+-- of a memory without bytes and spaces nothing need be known
+pub new_held : (pages : Pages) (memory : MemoryData) → memory.run ≡ no_space → memory.packets ≡ no_space → memory.spaces ≡ []
+    → HoldsAll pages memory (λ _. Free)
+new_held pages memory run packets spaces = record { there = there; gone = λ area not k. refl }
+  where
+    there : (area : Area) → is_there area memory ≡ true → HoldsCells area (bytes_in area pages memory) (λ _. Free)
+    there Run is = subst (λ (s : SpaceData). HoldsCells Run (content_at pages s.root) (λ _. Free)) (sym run) (nothing_held Run pages)
+    there Packets is = subst (λ (s : SpaceData). HoldsCells Packets (content_at pages s.root) (λ _. Free)) (sym packets) (nothing_held Packets pages)
+    there (Space s) is =
+        absurd (true≢false (sym is ∙ ap (λ (es : List (ℕ × SpaceData)). is_some (space_at s.0 es)) spaces))

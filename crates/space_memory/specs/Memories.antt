@@ -1,16 +1,19 @@
 -- What a contract sees of the memory of a task.
-use Rattle.std.specs.Prelude.{◌+◌, ℕ, List, [], ◌∷◌, ◌++◌, Option, None, Some}
+use Rattle.std.specs.Prelude.{◌≡◌, ◌+◌, ◌-◌, ◌≤◌, ℕ, Bool, true, false, is_some, List, [], ◌∷◌, ◌++◌, length, Option, None, Some}
 use Rattle.std.specs.List.{AllByRecursion}
 use Rattle.task_numbers.specs.declared.number.SpaceNo.{SpaceNo}
-use Rattle.eu_base.specs.declared.address.Area.TheVariants.{Run, Packets}
-use Rattle.eu_base.specs.Cells.{Cells}
-use Rattle.eu_base.specs.Spaces.{IsKept}
+use Rattle.eu_base.specs.declared.address.Area.{Area}
+use Rattle.eu_base.specs.declared.address.Area.TheVariants.{Run, Packets, Space}
+use Rattle.eu_base.specs.Cells.{Free, Cells, area_cell}
+use Rattle.eu_base.specs.Spaces.{Content, IsKept}
+use Rattle.eu_base.specs.DataSpaces.{Head, Heads, heads_in}
 use Rattle.page_pool.specs.Pool.{Pages}
 use Rattle.page_table.specs.Entries.{Names}
-use Rattle.page_table.specs.Frames.{content_at}
+use Rattle.page_table.specs.Frames.{content_at, Stands, KeepsHomes, Framed}
+use Rattle.page_table.specs.Sharing.{most_spaces, Agree}
 use Rattle.text_heap.specs.Held.{HoldsCells}
 use Rattle.data_space.specs.Data.{SpaceData}
-use Rattle.live_spaces.specs.Live.{no_space, the_space, IsLive, without, with_space, space_roots}
+use Rattle.live_spaces.specs.Live.{no_space, space_at, the_space, IsLive, without, with_space, space_roots}
 use Rattle.space_names.specs.Directory as directory
 
 -- its spaces: that of the command that runs, that of the packets' variables, and the live ones by number; the last number that
@@ -55,10 +58,46 @@ changed n space memory = record memory { spaces = with_space n space memory.spac
 abbrev pub forgotten : ℕ → MemoryData → MemoryData
 forgotten n memory = record memory { spaces = without n memory.spaces; names = directory.without_space n memory.names }
 
--- what is known of the cells of each area
+-- an area is there, and its space
+abbrev pub is_there : Area → MemoryData → Bool
+is_there Run memory = true
+is_there Packets memory = true
+is_there (Space s) memory = is_some (space_at s.0 memory.spaces)
+
+abbrev pub space_in : Area → MemoryData → SpaceData
+space_in Run memory = memory.run
+space_in Packets memory = memory.packets
+space_in (Space s) memory = the_space s.0 memory.spaces
+
+abbrev pub bytes_in : Area → Pages → MemoryData → Content
+bytes_in area pages memory = content_at pages (space_in area memory).root
+
+-- what is known of the cells of each area that is there; of those of others nothing is
 pub record HoldsAll (pages : Pages) (memory : MemoryData) (cells : Cells) : Type 0 where
-  pub run : HoldsCells Run (content_at pages memory.run.root) cells
-  pub packets : HoldsCells Packets (content_at pages memory.packets.root) cells
+  pub there : (area : Area) → is_there area memory ≡ true → HoldsCells area (bytes_in area pages memory) cells
+  pub gone : (area : Area) → is_there area memory ≡ false → (k : ℕ) → cells (area_cell area k) ≡ Free
+
+-- its data spaces without their bytes
+abbrev pub head_of : SpaceData → Head
+head_of space = record { kind = space.kind; shape = space.shape }
+
+abbrev pub memory_heads : MemoryData → Heads
+memory_heads memory = record { live = heads_in head_of memory.spaces; last = memory.last; names = memory.names }
+
+-- so many root pages it has at most: 16 live spaces, that of the command and that of the packets
+abbrev pub most_roots : ℕ
+most_roots = 18
+
+-- the pool agrees with some spaces, these among them, and there is room for the most that a memory can have in the place of these
+pub record StandsWhole (pages : Pages) (mine : Names) : Type 0 where
+  pub few : length mine ≤ most_roots
+  pub stands : Stands pages mine (most_roots - length mine)
+
+-- The spaces of a memory become others. Whatever the rest is, where a whole memory has room beside it, pool and spaces agree, and no byte
+-- of the rest changes.
+pub record MemoryFrames (old new : Pages) (before after : Names) : Type 0 where
+  pub homes : KeepsHomes old new
+  pub frame : (rest : Names) → Agree old (before ++ rest) → length rest + most_roots ≤ most_spaces → Framed old new after rest
 
 -- a space is the one that it was, with each byte
 abbrev pub KeepsSpace : Pages → Pages → SpaceData → SpaceData → Type 0

@@ -1,24 +1,24 @@
 //! A memory that is lent with its pool.
 ghost use Rattle.std.specs.Prelude.{◌≡◌};
-ghost use Rattle.page_table.specs.Frames.{Stands};
-ghost use Rattle.space_memory.specs.Memories.{roots};
+ghost use Rattle.space_memory.specs.Memories.{StandsWhole, roots};
 
 use crate::space_memory::SpaceMemory;
-use eu_base::{Addr, Area, Bytes, MemFault, Memory, Set};
+use eu_base::{Addr, Area, Bytes, MemFault, Memory, Set, Shape};
 use page_pool::Pool;
+use task_numbers::SpaceNo;
 
-/// The cells of a memory, over its pool: each area's in its space.
+/// The cells of a memory, over its pool: each area's in its space. There is room for all data spaces that the memory can have.
 #[derive(Drop)]
 pub struct Lent<'a> {
     pub memory: &'a mut SpaceMemory,
     pub pool: &'a mut Pool,
-    ghost agree: { Stands pool.now (roots memory.now) 0 },
+    ghost agree: { StandsWhole pool.now (roots memory.now) },
 }
 
 impl SpaceMemory {
     /// Its cells, over its pool.
     pub fn over<'a>(&'a mut self, pool: &'a mut Pool) -> Lent<'a>
-        requires agree { Stands pool.old (roots self.old) 0 }
+        requires agree { StandsWhole pool.old (roots self.old) }
         ensures memory_name { result.memory.ghost_name ≡ self.entry.ghost_name }
         ensures pool_name { result.pool.ghost_name ≡ pool.entry.ghost_name }
         ensures memory_same { result.memory.now ≡ self.old }
@@ -29,11 +29,13 @@ impl SpaceMemory {
 }
 
 impl<'a> Memory for Lent<'a> {
-    ghost use Rattle.space_memory.specs.Memories.{HoldsAll};
+    ghost use Rattle.space_memory.specs.Memories.{HoldsAll, memory_heads};
     ghost use Rattle.space_memory.specs.Lent.{LentFollows, lent_reflexive, lent_transitive};
     ghost use Rattle.space_memory.specs.Laws.{all_fewer, all_empty, all_room};
 
     ghost holds = { λ lent cells. HoldsAll lent.pool.now lent.memory.now cells };
+
+    ghost heads = { λ lent. memory_heads lent.memory.now };
 
     ghost faults = { λ _. 0 };
 
@@ -54,6 +56,7 @@ impl<'a> Memory for Lent<'a> {
         match at.area {
             Area::Run => self.memory.run_cell(self.pool, at.cell),
             Area::Packets => self.memory.packet_cell(self.pool, at.cell),
+            Area::Space(s) => self.memory.space_cell(self.pool, s, at.cell),
         }
     }
 
@@ -62,6 +65,7 @@ impl<'a> Memory for Lent<'a> {
         match at.area {
             Area::Run => self.memory.set_run_cell(self.pool, at.cell, number),
             Area::Packets => self.memory.set_packet_cell(self.pool, at.cell, number),
+            Area::Space(s) => self.memory.set_space_cell(self.pool, s, at.cell, number),
         }
     }
 
@@ -69,6 +73,7 @@ impl<'a> Memory for Lent<'a> {
         match at.area {
             Area::Run => self.memory.run_text(self.pool, at.cell),
             Area::Packets => self.memory.packet_text(self.pool, at.cell),
+            Area::Space(s) => self.memory.space_text(self.pool, s, at.cell),
         }
     }
 
@@ -76,6 +81,7 @@ impl<'a> Memory for Lent<'a> {
         match at.area {
             Area::Run => self.memory.set_run_text(self.pool, at.cell, t),
             Area::Packets => self.memory.set_packet_text(self.pool, at.cell, t),
+            Area::Space(s) => self.memory.set_space_text(self.pool, s, at.cell, t),
         }
     }
 
@@ -83,6 +89,58 @@ impl<'a> Memory for Lent<'a> {
         match area {
             Area::Run => Ok(u32::from(self.memory.run_rooms(self.pool)?)),
             Area::Packets => Ok(u32::from(self.memory.packet_rooms(self.pool)?)),
+            Area::Space(s) => Ok(u32::from(self.memory.space_rooms(self.pool, s)?)),
         }
+    }
+
+    fn live(&self, s: SpaceNo) -> bool {
+        self.memory.live(s)
+    }
+
+    fn count(&self) -> u32 {
+        self.memory.count()
+    }
+
+    fn last_number(&self) -> u32 {
+        self.memory.last_number()
+    }
+
+    fn make(&mut self, from: Option<SpaceNo>) -> Result<SpaceNo, MemFault> {
+        let number = SpaceNo(self.memory.last_number() + 1);
+        self.memory.make(self.pool, from)?;
+        Ok(number)
+    }
+
+    fn forget(&mut self, s: SpaceNo) {
+        self.memory.forget(self.pool, s);
+    }
+
+    fn kind(&self, s: SpaceNo) -> i16 {
+        self.memory.kind(s)
+    }
+
+    fn set_kind(&mut self, s: SpaceNo, n: i16) {
+        self.memory.set_kind(s, n);
+    }
+
+    fn has_shape(&self, s: SpaceNo) -> Option<&Shape> {
+        self.memory.has_shape(s)
+    }
+
+    fn fill(&mut self, s: SpaceNo, shape: &Shape) -> Result<(), MemFault> {
+        self.memory.fill(self.pool, s, shape)
+    }
+
+    fn name(&mut self, name: &[u8], s: SpaceNo) -> Result<(), MemFault> {
+        self.memory.name(name, s)?;
+        Ok(())
+    }
+
+    fn named(&self, name: &[u8]) -> Option<SpaceNo> {
+        self.memory.named(name)
+    }
+
+    fn unname(&mut self, name: &[u8]) {
+        self.memory.unname(name);
     }
 }

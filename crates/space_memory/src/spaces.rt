@@ -91,6 +91,7 @@ impl SpaceMemory {
     pub fn forget(&mut self, pool: &mut Pool, s: SpaceNo)
         requires agree { Stands pool.old (roots self.old) 0 }
         ensures forgotten { self.new ≡ forgotten s.0 self.old }
+        ensures gone { space_at s.0 self.new.spaces ≡ None }
         ensures frames { Frames pool.old pool.new (roots self.old) (roots self.new) }
         ensures keeps { KeepsBytes pool.old pool.new (roots self.new) }
         ensures frees { FreesOnly pool.old pool.new }

@@ -8,7 +8,6 @@ ghost use Rattle.text_heap.specs.Texts.{Texts, Holds, Sets, KeepsCells, blocks_i
 ghost use Rattle.space_memory.specs.Memories.{roots};
 ghost use Rattle.space_memory.specs.Changes.{OnlyRun, OnlyPackets};
 
-use crate::cells;
 use crate::space_memory::SpaceMemory;
 use eu_base::{Bytes, CELLS, MemFault, Set};
 use page_pool::Pool;
@@ -27,7 +26,7 @@ impl SpaceMemory {
         ensures memory { result ≢ Err NoMemory }
         ensures cause { result ≢ Err Failed }
     {
-        cells::number(&mut self.run, pool, cell)
+        live_spaces::number(&mut self.run, pool, cell)
     }
 
     // Puts a number into a cell of the command that runs.
@@ -46,7 +45,7 @@ impl SpaceMemory {
         ensures frames { Frames pool.old pool.new (roots self.old) (roots self.new) }
         ensures cause { result ≢ Err Failed }
     {
-        cells::set_number(&mut self.run, pool, cell, number)
+        live_spaces::set_number(&mut self.run, pool, cell, number)
     }
 
     // The text in a cell of the command that runs.
@@ -60,7 +59,7 @@ impl SpaceMemory {
         ensures frames { Frames pool.old pool.new (roots self.old) (roots self.new) }
         ensures cause { result ≢ Err Failed }
     {
-        cells::text(self.alloc, &mut self.run, pool, cell)
+        live_spaces::text(self.alloc, &mut self.run, pool, cell)
     }
 
     // Puts a text into a cell of the command that runs, where all its texts then have room.
@@ -79,7 +78,7 @@ impl SpaceMemory {
         ensures frames { Frames pool.old pool.new (roots self.old) (roots self.new) }
         ensures cause { result ≢ Err Failed }
     {
-        cells::set_text(&mut self.run, pool, cell, t)
+        live_spaces::set_text(&mut self.run, pool, cell, t)
     }
 
     // How many blocks no text of the command that runs has.
@@ -92,7 +91,7 @@ impl SpaceMemory {
         ensures memory { result ≢ Err NoMemory }
         ensures cause { result ≢ Err Failed }
     {
-        cells::rooms(&mut self.run, pool)
+        live_spaces::rooms(&mut self.run, pool)
     }
 
     /// The number in a cell of the packets. It stands outside the loop of a run, which is quicker so.
@@ -107,7 +106,7 @@ impl SpaceMemory {
         ensures memory { result ≢ Err NoMemory }
         ensures cause { result ≢ Err Failed }
     {
-        cells::number(&mut self.packets, pool, cell)
+        live_spaces::number(&mut self.packets, pool, cell)
     }
 
     /// Puts a number into a cell of the packets. After a refusal some bytes of the cell may be written.
@@ -126,7 +125,7 @@ impl SpaceMemory {
         ensures frames { Frames pool.old pool.new (roots self.old) (roots self.new) }
         ensures cause { result ≢ Err Failed }
     {
-        cells::set_number(&mut self.packets, pool, cell, number)
+        live_spaces::set_number(&mut self.packets, pool, cell, number)
     }
 
     /// The text in a cell of the packets.
@@ -140,7 +139,7 @@ impl SpaceMemory {
         ensures frames { Frames pool.old pool.new (roots self.old) (roots self.new) }
         ensures cause { result ≢ Err Failed }
     {
-        cells::text(self.alloc, &mut self.packets, pool, cell)
+        live_spaces::text(self.alloc, &mut self.packets, pool, cell)
     }
 
     /// Puts a text into a cell of the packets, where all their texts then have room; else it answers HeapFull and changes
@@ -155,7 +154,7 @@ impl SpaceMemory {
         ensures frames { Frames pool.old pool.new (roots self.old) (roots self.new) }
         ensures cause { result ≢ Err Failed }
     {
-        cells::set_text(&mut self.packets, pool, cell, t)
+        live_spaces::set_text(&mut self.packets, pool, cell, t)
     }
 
     /// How many blocks of 28 bytes no text of the packets has: at most 4,096.
@@ -168,6 +167,6 @@ impl SpaceMemory {
         ensures memory { result ≢ Err NoMemory }
         ensures cause { result ≢ Err Failed }
     {
-        cells::rooms(&mut self.packets, pool)
+        live_spaces::rooms(&mut self.packets, pool)
     }
 }

@@ -2,13 +2,12 @@
 ghost use Rattle.std.specs.Prelude.{◌≡◌, ◌≤◌, true, None, OnOk, IfOk};
 ghost use Rattle.task_numbers.specs.Numbers.{is_nil};
 ghost use Rattle.task_tree.specs.Tree as tree;
-ghost use Rattle.task_lines.specs.Below.source_machine.specs.Stores.{is_name};
 ghost use Rattle.task_lines.specs.Below.source_machine.specs.Systems.{Moment};
 ghost use Rattle.task_lines.specs.Below.source_machine.specs.Supervisor as spec;
 ghost use Rattle.task_lines.specs.Below.live_system.specs.Machines.{StandsAt};
 
 use crate::answers::{refused, say_prompt};
-use eu_base::{Bytes, NoMemory, Stop};
+use eu_base::{Bytes, NoMemory, Stop, is_name};
 use std::alloc::Global;
 use task_lines::System;
 use task_numbers::TaskNo;
@@ -85,10 +84,4 @@ fn father_refusal(
         None => Ok(None),
         Some(stop) => Ok(Some(stop.text(alloc)?)),
     }
-}
-
-fn is_name(name: &[u8]) -> bool
-    ensures { result ≡ is_name name.now }
-{
-    1 <= name.len() && name.len() <= 60
 }

@@ -1,21 +1,26 @@
 -- The variables of packets, once those behind them are freed.
-use Rattle.std.proofs.Common.{◌≡◌, ℕ, zero, suc, ◌+◌, ◌<◌, ◌≤◌, ◌⊎◌, inl, inr, ⊎_elim, true, false, List, [], ◌∷◌, ◌++◌, length, min, take, Some, refl, sym, ap, ◌∙◌, subst, arith}
+use Rattle.std.proofs.Common.{◌≡◌, ℕ, zero, suc, ◌+◌, ◌<◌, ◌≤◌, inl, inr, ⊎_elim, true, false, List, [], ◌∷◌, ◌++◌, map, length, min, take, Some, refl, sym, ap, ◌∙◌, subst, arith}
 use Rattle.std.specs.Prelude.{slice_get, Result, Ok, Err, OnOk}
 use Rattle.std.proofs.lemmas.Bool.{cases_lt, le-leb, lt-leb}
 use Rattle.std.proofs.lemmas.List.{length-append, length-take}
 use Rattle.std.proofs.lemmas.Option.{slice_get_within}
-use Rattle.eu_base.specs.declared.address.Area.TheVariants.{Packets}
+use Rattle.eu_base.specs.declared.address.Area.TheVariants.{Packets, Space}
 use Rattle.eu_base.specs.declared.address.TheConstants.{CELLS}
 use Rattle.eu_base.specs.declared.value.Kind.{Kind}
 use Rattle.eu_base.specs.Room.{cells_fit}
-use Rattle.eu_base.specs.Cells.{Free, Cells, run_cell, packet_cell}
+use Rattle.eu_base.specs.Cells.{Free, Cells, packet_cell}
+use Rattle.eu_base.specs.DataSpaces.{Spaces, heads_of}
+use Rattle.eu_base.specs.SpacePlaces.{kinds_of, values_of}
 use Rattle.page_pool.specs.Pool.{Pages}
-use Rattle.space_memory.specs.Memories.{MemoryData, HoldsAll}
+use Rattle.space_memory.specs.Memories.{MemoryData, HoldsAll, memory_heads}
 use Rattle.place_gen.specs.Correct.{StandsFor, HasVariables}
 use Rattle.elan_types.specs.Eval.{Slot, Holds}
 use Rattle.packet_cells.specs.Freed.{HoldsOf, HoldEach, freed}
 use Rattle.packet_cells.proofs.Freeing.{kept_before, free_there}
-use Rattle.live_task.specs.Below.task_job.specs.Standing.{HasBehind, KeepsVariables}
+use Rattle.live_task.specs.Below.source_machine.specs.Stores.{Store}
+use Rattle.live_task.specs.Below.source_machine.specs.Tasks.{settled}
+use Rattle.live_task.specs.Below.task_job.specs.Standing.{KeepsSpaces, HasBehind, Leaves, Keeps}
+use Rattle.live_task.specs.Below.task_job.proofs.Beginning.{same_variables}
 
 in_first : {A : Type 0} (xs ys : List A) (x : ℕ) (y : A) → slice_get xs x ≡ Some y → slice_get (xs ++ ys) x ≡ Some y
 in_first [] ys x y e = absurd (cc e)
@@ -39,7 +44,7 @@ module _ (kinds inserted : List Kind) (slots : List Slot) (cells : Cells) (h : H
   many = h.all.as_many ∙ length-append kinds inserted
 
   -- what stands behind the variables of the packets are values of the kinds of those that are inserted
-  held_behind : cells_fit (length (kinds ++ inserted)) ≡ true → HoldEach (length kinds) inserted cells
+  pub held_behind : cells_fit (length (kinds ++ inserted)) ≡ true → HoldEach (length kinds) inserted cells
   held_behind room = λ x k is.
       let y = h.all.each (length kinds + x) k (in_second kinds inserted x k is) in
       record {
@@ -49,7 +54,7 @@ module _ (kinds inserted : List Kind) (slots : List Slot) (cells : Cells) (h : H
       }
 
   -- the variables of the packets stand where no cell of theirs changed
-  front_stands : (left : Cells) → ((x : ℕ) → x < length kinds → left (packet_cell x) ≡ cells (packet_cell x))
+  pub front_stands : (left : Cells) → ((x : ℕ) → x < length kinds → left (packet_cell x) ≡ cells (packet_cell x))
       → ((x : ℕ) → length kinds ≤ x → left (packet_cell x) ≡ Free) → HasVariables Packets kinds (take (length kinds) slots) left
   front_stands left same free = record {
     as_many = let e = length-take (length kinds) slots in omega (arith, e, many);
@@ -64,31 +69,50 @@ module _ (kinds inserted : List Kind) (slots : List Slot) (cells : Cells) (h : H
     beyond = free;
   }
 
-  module _ (old new : Pages) (m n : MemoryData) (command : (x : ℕ) → cells (run_cell x) ≡ Free) where
-    -- where all had no room, nothing stands there
-    pub none_behind : cells_fit (length (kinds ++ inserted)) ≡ false → HoldsAll new n cells → KeepsVariables kinds new n (take (length kinds) slots)
-    none_behind full holds = record {
-      cells = cells;
-      holds = holds;
-      packets = front_stands cells (λ x lt. refl) (h.bare full);
-      command = command;
-    }
+-- the data spaces have the cells that they had
+freed_spaces : (from until : ℕ) (m n : MemoryData) (spaces : Spaces) (cells : Cells) → memory_heads n ≡ memory_heads m → KeepsSpaces m spaces cells
+    → KeepsSpaces n spaces (freed from until cells)
+freed_spaces from until m n spaces cells same h = record {
+  heads = same ∙ h.heads;
+  sound = h.sound;
+  given = h.given;
+  each = λ s.
+      same_variables (Space s) (kinds_of s (heads_of spaces)) (map Holds (values_of s spaces)) cells (freed from until cells) (λ x. refl) (h.each s);
+}
 
-    pub freed_behind : cells_fit (length (kinds ++ inserted)) ≡ true → HoldsAll new n (freed (length kinds) (length kinds + length inserted) cells)
-        → KeepsVariables kinds new n (take (length kinds) slots)
-    freed_behind room holds = record {
-      cells = freed (length kinds) (length kinds + length inserted) cells;
-      holds = holds;
-      packets =
-          front_stands (freed (length kinds) (length kinds + length inserted) cells)
-          (λ x lt. kept_before (length kinds) (length kinds + length inserted) x cells (inl lt))
-          (λ x past. ⊎_elim (λ lt. free_there (length kinds) (length kinds + length inserted) x cells past lt)
-          (λ le.
-          let l = length-append kinds inserted in
-          kept_before (length kinds) (length kinds + length inserted) x cells (inr le) ∙ h.all.beyond x (omega (arith, le, l)))
-          (cases_lt x (length kinds + length inserted)));
-      command = command;
-    }
+module _ (kinds inserted : List Kind) (old : Pages) (m : MemoryData) (store : Store) (h : Leaves kinds inserted old m store) where
+  abbrev there : Cells
+  there = h.left.cells
+
+  abbrev end : ℕ
+  end = length kinds + length inserted
+
+  -- where all had no room, nothing stands there
+  pub none_behind : cells_fit (length (kinds ++ inserted)) ≡ false → Keeps kinds old m (settled (length kinds) store)
+  none_behind full = record {
+    cells = there;
+    holds = h.left.holds;
+    packets = front_stands kinds inserted store.variables there h.left.variables there (λ x lt. refl) (h.left.variables.bare full);
+    spaces = h.left.spaces;
+    command = h.command;
+  }
+
+  pub freed_behind : (new : Pages) (n : MemoryData) → cells_fit (length (kinds ++ inserted)) ≡ true → memory_heads n ≡ memory_heads m
+      → HoldsAll new n (freed (length kinds) end there) → Keeps kinds new n (settled (length kinds) store)
+  freed_behind new n room same holds = record {
+    cells = freed (length kinds) end there;
+    holds = holds;
+    packets =
+        front_stands kinds inserted store.variables there h.left.variables (freed (length kinds) end there)
+        (λ x lt. kept_before (length kinds) end x there (inl lt))
+        (λ x past. ⊎_elim (λ lt. free_there (length kinds) end x there past lt)
+        (λ le.
+        let l = length-append kinds inserted in
+        kept_before (length kinds) end x there (inr le) ∙ h.left.variables.all.beyond x (omega (arith, le, l)))
+        (cases_lt x end));
+    spaces = freed_spaces (length kinds) end m n store.spaces there same h.left.spaces;
+    command = h.command;
+  }
 
 -- how many cells there are, as the code counts them
 pub many_before : (kinds inserted : List Kind) (before sum : ℕ) → before ≡ min (length kinds) 18446744073709551615
@@ -109,13 +133,14 @@ few_before kinds inserted before sum is so few =
 -- whether memory was wanting or not
 pub freed_so : {A E : Type 0} (result : Result A E) (kinds inserted shapes : List Kind) (old new : Pages) (m n : MemoryData) (before sum : ℕ)
     → before ≡ min (length kinds) 18446744073709551615 → sum ≡ min (before + length inserted) 18446744073709551615 → sum ≤ CELLS → shapes ≡ inserted
+    → memory_heads n ≡ memory_heads m
     → OnOk result ((cells : Cells) → HoldsAll old m cells → HoldEach before shapes cells → HoldsAll new n (freed before (before + length shapes) cells))
-    → OnOk result ((slots : List Slot) (cells : Cells) → HoldsAll old m cells → ((x : ℕ) → cells (run_cell x) ≡ Free) → HasBehind kinds inserted slots cells
-    → KeepsVariables kinds new n (take (length kinds) slots))
-freed_so (Ok x) kinds inserted shapes old new m n before sum is so few same frees =
-    λ slots cells holds command h.
+    → OnOk result ((store : Store) → Leaves kinds inserted old m store → Keeps kinds new n (settled (length kinds) store))
+freed_so (Ok x) kinds inserted shapes old new m n before sum is so few same heads frees =
+    λ store h.
     let f = few_before kinds inserted before sum is so few in
-    let there = subst (λ b. HoldEach b shapes cells → HoldsAll new n (freed b (b + length shapes) cells)) f.0 (frees cells holds) in
+    let cells = h.left.cells in
+    let there = subst (λ b. HoldEach b shapes cells → HoldsAll new n (freed b (b + length shapes) cells)) f.0 (frees cells h.left.holds) in
     let all = subst (λ (ks : List Kind). HoldEach (length kinds) ks cells → HoldsAll new n (freed (length kinds) (length kinds + length ks) cells)) same there in
-    freed_behind kinds inserted slots cells h old new m n command f.2 (all (held_behind kinds inserted slots cells h f.2))
-freed_so (Err e) kinds inserted shapes old new m n before sum is so few same frees = tt
+    freed_behind kinds inserted old m store h new n f.2 heads (all (held_behind kinds inserted store.variables cells h.left.variables f.2))
+freed_so (Err e) kinds inserted shapes old new m n before sum is so few same heads frees = tt

@@ -1,4 +1,4 @@
 pub mod Fronts
-pub mod Settled
 pub mod Pages
+pub mod Settled
 pub mod Heirs

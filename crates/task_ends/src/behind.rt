@@ -1,14 +1,13 @@
 //! The cells behind those of a task's packets.
-ghost use Rattle.std.specs.Prelude.{◌≡◌, ℕ, ◌+◌, ◌≤◌, List as Lists, length, take, OnOk};
+ghost use Rattle.std.specs.Prelude.{◌≡◌, ◌+◌, ◌≤◌, length, OnOk};
 ghost use Rattle.eu_base.specs.declared.address.TheConstants.{CELLS};
-ghost use Rattle.eu_base.specs.Cells.{Free, Cells, run_cell};
+ghost use Rattle.eu_base.specs.Cells.{Cells};
 ghost use Rattle.cell_kinds.specs.Kinds.{all_kinds, packet_kinds};
-ghost use Rattle.page_table.specs.Frames.{Frames, Stands};
-ghost use Rattle.elan_types.specs.Eval.{Slot};
-ghost use Rattle.space_memory.specs.Memories.{roots, HoldsAll};
-ghost use Rattle.space_memory.specs.Changes.{OnlyVariables};
+ghost use Rattle.space_memory.specs.Memories.{roots, HoldsAll, memory_heads, StandsWhole, MemoryFrames};
 ghost use Rattle.packet_cells.specs.Freed.{HoldEach, freed};
-ghost use Rattle.live_task.specs.Below.task_job.specs.Standing.{HasBehind, KeepsVariables};
+ghost use Rattle.live_task.specs.Below.source_machine.specs.Stores.{Store};
+ghost use Rattle.live_task.specs.Below.source_machine.specs.Tasks.{settled};
+ghost use Rattle.live_task.specs.Below.task_job.specs.Standing.{Keeps, Leaves};
 
 use eu_base::{CELLS, MemFault, NoMemory, Shape};
 use live_task::Compiled;
@@ -25,12 +24,12 @@ pub(crate) fn free_behind(
     pool: &mut Pool,
     unit: &Compiled,
 ) -> Result<(), NoMemory>
-    requires agree { Stands pool.old (roots memory.old) 0 }
-    ensures freed { OnOk result ((slots : Lists Slot) (cells : Cells) → HoldsAll pool.old memory.old cells → ((x : ℕ) → cells (run_cell x) ≡ Free) →
-        HasBehind (packet_kinds unit.now.core.packets) unit.now.core.inserted slots cells →
-        KeepsVariables (packet_kinds unit.now.core.packets) pool.new memory.new (take (length (packet_kinds unit.now.core.packets)) slots)) }
-    ensures rest { OnlyVariables pool.old pool.new memory.old memory.new }
-    ensures frames { Frames pool.old pool.new (roots memory.old) (roots memory.new) }
+    requires agree { StandsWhole pool.old (roots memory.old) }
+    ensures freed { OnOk result ((store : Store) → Leaves (packet_kinds unit.now.core.packets) unit.now.core.inserted pool.old memory.old store →
+        Keeps (packet_kinds unit.now.core.packets) pool.new memory.new (settled (length (packet_kinds unit.now.core.packets)) store)) }
+    ensures heads { memory_heads memory.new ≡ memory_heads memory.old }
+    ensures stands { StandsWhole pool.new (roots memory.new) }
+    ensures frames { MemoryFrames pool.old pool.new (roots memory.old) (roots memory.new) }
 {
     let before = count_cells(unit.core.packets.as_slice());
     let inserted = &unit.core.inserted;
@@ -49,11 +48,11 @@ fn free_over(
     shapes: &[Shape],
 ) -> Result<(), NoMemory>
     requires cells { at + length (all_kinds shapes.now) ≤ CELLS }
-    requires agree { Stands pool.old (roots memory.old) 0 }
+    requires agree { StandsWhole pool.old (roots memory.old) }
     ensures freed { OnOk result ((cells : Cells) → HoldsAll pool.old memory.old cells → HoldEach at (all_kinds shapes.now) cells →
         HoldsAll pool.new memory.new (freed at (at + length (all_kinds shapes.now)) cells)) }
-    ensures rest { OnlyVariables pool.old pool.new memory.old memory.new }
-    ensures frames { Frames pool.old pool.new (roots memory.old) (roots memory.new) }
+    ensures heads { memory_heads memory.new ≡ memory_heads memory.old }
+    ensures frames { MemoryFrames pool.old pool.new (roots memory.old) (roots memory.new) }
 {
     let mut lent = memory.over(pool);
     match free_shapes(alloc, &mut lent, at, shapes) {

@@ -1,8 +1,7 @@
 //! A task whose command is over and was no insertion that is kept.
-ghost use Rattle.std.specs.Prelude.{◌≡◌, List, length, OnOk};
+ghost use Rattle.std.specs.Prelude.{◌≡◌, ◌≤◌, List, length, OnOk};
 ghost use Rattle.eu_base.specs.declared.value.Kind.{Kind};
-ghost use Rattle.page_table.specs.Frames.{Frames, Stands};
-ghost use Rattle.space_memory.specs.Memories.{roots};
+ghost use Rattle.space_memory.specs.Memories.{roots, most_roots, StandsWhole, MemoryFrames};
 ghost use Rattle.elan_types.specs.Eval.{World};
 ghost use Rattle.live_task.specs.Below.source_machine.specs.Tasks.{Command, Own, Idle, own_variables, settled, store_in, with_doing};
 ghost use Rattle.live_task.specs.Stands.{StandsFor, StandsOver, IsSound};
@@ -20,13 +19,13 @@ pub fn settle(
     pool: &mut Pool,
     unit: &Compiled,
 ) -> Result<(), NoMemory>
-    requires agree { Stands pool.old (roots task.old.memory) 0 }
+    requires agree { StandsWhole pool.old (roots task.old.memory) }
     ensures settled { OnOk result ((kinds : List Kind) (own : Own) (c : Command) (w : World) → StandsOver kinds pool.old task.old own c w →
-        c.unit ≡ unit.now → StandsFor kinds pool.new task.new (with_doing (Idle (settled (own_variables c) (store_in c w))) own)) }
+        c.unit ≡ unit.now → StandsFor kinds pool.new task.new (with_doing (Idle (settled (own_variables c) (store_in w))) own)) }
     ensures same { task.new ≡ record task.old { memory = task.new.memory } }
     ensures sound { IsSound task.old → IsSound task.new }
-    ensures as_many { length (roots task.new.memory) ≡ length (roots task.old.memory) }
-    ensures frames { Frames pool.old pool.new (roots task.old.memory) (roots task.new.memory) }
+    ensures few { length (roots task.new.memory) ≤ most_roots }
+    ensures frames { MemoryFrames pool.old pool.new (roots task.old.memory) (roots task.new.memory) }
 {
     free_behind(alloc, &mut task.memory, pool, unit)
 }

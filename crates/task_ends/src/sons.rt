@@ -1,14 +1,14 @@
 //! Sons.
 ghost use Rattle.std.specs.Prelude.{◌≡◌, ◌++◌, List as Lists, length, IfOk, OnErr};
 ghost use Rattle.eu_base.specs.declared.value.Kind.{Kind};
-ghost use Rattle.page_table.specs.Frames.{Frames, Stands};
+ghost use Rattle.page_table.specs.Frames.{Stands};
 ghost use Rattle.live_spaces.specs.Kept.{KeepsBytes};
-ghost use Rattle.space_memory.specs.Memories.{roots};
+ghost use Rattle.space_memory.specs.Memories.{roots, most_roots};
 ghost use Rattle.live_task.specs.Below.source_machine.specs.Stores.{heir};
 ghost use Rattle.live_task.specs.Below.source_machine.specs.Tasks.{Own, Idle, now};
 ghost use Rattle.live_task.specs.Below.task_job.specs.Standing.{Keeps};
 ghost use Rattle.live_task.specs.Stands.{StandsFor, IsSound};
-ghost use Rattle.task_ends.specs.Refused.{Refused};
+ghost use Rattle.task_ends.specs.Refused.{RoomFrames, Refused};
 
 use crate::behind::free_behind;
 use eu_base::{List, NoMemory};
@@ -17,17 +17,17 @@ use page_pool::Pool;
 use space_memory::SpaceMemory;
 use std::alloc::Global;
 
-/// A son, which has the variables of the packets and nothing else, under the same packets. Where there is no memory, all spaces keep
-/// their bytes.
+/// A son, which has the variables of the packets and nothing else, under the same packets. Meanwhile there is room for all data spaces that
+/// a task can have. Where there is no memory, all spaces keep their bytes.
 pub fn son(task: &Task, alloc: Global, pool: &mut Pool) -> Result<Task, NoMemory>
-    requires agree { Stands pool.old (roots task.now.memory) 2 }
+    requires agree { Stands pool.old (roots task.now.memory) most_roots }
     ensures son { IfOk result (λ son. (kinds : Lists Kind) (own : Own) → StandsFor kinds pool.old task.now own →
         StandsFor kinds pool.new son (record { packets = own.packets; doing = Idle (heir (now own.doing)) })) }
     ensures father { (kinds : Lists Kind) (own : Own) → StandsFor kinds pool.old task.now own → StandsFor kinds pool.new task.now own }
     ensures sound { IfOk result IsSound }
     ensures spaces { IfOk result (λ son. length (roots son.memory) ≡ 2) }
-    ensures frames { IfOk result (λ son. Frames pool.old pool.new (roots task.now.memory) (roots task.now.memory ++ roots son.memory)) }
-    ensures err { OnErr result (Refused pool.old pool.new (roots task.now.memory) 2) }
+    ensures frames { IfOk result (λ son. RoomFrames pool.old pool.new (roots task.now.memory) (roots task.now.memory ++ roots son.memory) most_roots) }
+    ensures err { OnErr result (Refused pool.old pool.new (roots task.now.memory) most_roots) }
 {
     let packets = List::from_slice(alloc, task.packets.as_slice())?;
     let memory = son_memory(task, alloc, pool)?;
@@ -40,13 +40,13 @@ pub fn son(task: &Task, alloc: Global, pool: &mut Pool) -> Result<Task, NoMemory
 
 // The memory of a son. Of a father that runs a command, the variables of a packet that is inserted do not come along.
 fn son_memory(task: &Task, alloc: Global, pool: &mut Pool) -> Result<SpaceMemory, NoMemory>
-    requires agree { Stands pool.old (roots task.now.memory) 2 }
+    requires agree { Stands pool.old (roots task.now.memory) most_roots }
     ensures keeps { IfOk result (λ memory. (kinds : Lists Kind) (own : Own) → StandsFor kinds pool.old task.now own →
         Keeps kinds pool.new memory (heir (now own.doing))) }
     ensures kept { KeepsBytes pool.old pool.new (roots task.now.memory) }
     ensures spaces { IfOk result (λ memory. length (roots memory) ≡ 2) }
-    ensures frames { IfOk result (λ memory. Frames pool.old pool.new (roots task.now.memory) (roots task.now.memory ++ roots memory)) }
-    ensures err { OnErr result (Refused pool.old pool.new (roots task.now.memory) 2) }
+    ensures frames { IfOk result (λ memory. RoomFrames pool.old pool.new (roots task.now.memory) (roots task.now.memory ++ roots memory) most_roots) }
+    ensures err { OnErr result (Refused pool.old pool.new (roots task.now.memory) most_roots) }
 {
     let mut memory = task.memory.inherit(pool)?;
     let Doing::Running(job) = &task.doing else {

@@ -1,27 +1,30 @@
 -- What is known of the cells of a command at its start: its variables, and those of a packet that is inserted, hold their first values, those
 -- of the packets of its task what they held, and of other cells nothing is known.
 use Rattle.std.proofs.Common.{◌≡◌, ℕ, zero, suc, ◌+◌, ◌<◌, ◌≤◌, ◌⊎◌, inl, inr, ⊎_elim, Bool, true, false, cond, List, [], ◌∷◌, ◌++◌, map, length, Option, Some, None, refl, sym, ap, ◌∙◌, subst, arith}
-use Rattle.std.specs.Prelude.{slice_get}
+use Rattle.std.specs.Prelude.{◌==◌, ◌&&◌, slice_get}
 use Rattle.std.proofs.lemmas.Bool.{eq-eqb, ne_eqb, leb-true, le-leb}
 use Rattle.std.proofs.lemmas.List.{length-map, length-append}
 use Rattle.std.proofs.lemmas.Option.{slice_get_past, slice_get_within}
 use Rattle.eu_base.specs.declared.address.Area.{Area}
-use Rattle.eu_base.specs.declared.address.Area.TheVariants.{Run, Packets}
+use Rattle.eu_base.specs.declared.address.Area.TheVariants.{Run, Packets, Space}
 use Rattle.eu_base.specs.declared.address.TheConstants.{CELLS}
 use Rattle.eu_base.specs.declared.value.Kind.{Kind}
 use Rattle.eu_base.specs.Room.{cells_fit}
-use Rattle.eu_base.specs.Values.{blank_of}
-use Rattle.eu_base.specs.Cells.{Cell, Free, Cells, held_of, area_cell, run_cell, packet_cell, written, cell_blocks}
+use Rattle.eu_base.specs.Values.{SpaceNo, blank_of}
+use Rattle.eu_base.specs.Cells.{Cell, Free, Cells, held_of, same_area, area_cell, run_cell, packet_cell, space_cell, written, cell_blocks}
+use Rattle.eu_base.specs.DataSpaces.{Heads, Spaces, heads_of}
+use Rattle.eu_base.specs.SpacePlaces.{kinds_of, values_of}
 use Rattle.eu_base.proofs.Places.{same_there}
 use Rattle.cell_kinds.specs.Kinds.{packet_kinds}
 use Rattle.code_form.specs.Program.{Program, start_kinds, kinds_in_packets}
 use Rattle.code_form.specs.Machine.{written_in, made_in, made, CanBeMade, start}
 use Rattle.code_form.specs.Runs.{Rests}
 use Rattle.code_form.proofs.Spent.{stands_first}
+use Rattle.zero_state.specs.Stepping.{mem_of}
 use Rattle.elan_types.specs.declared.core_phrase.Core.{Core}
 use Rattle.elan_types.specs.Eval.{Slot, Holds}
 use Rattle.elan_types.specs.Command.{blanks}
-use Rattle.place_gen.specs.Correct.{StandsFor, Image, HasVariables, HasSlots}
+use Rattle.place_gen.specs.Correct.{StandsFor, Image, HasVariables, HasSpaces, HasSlots}
 use Rattle.code_gen.specs.Correct.{Behaves}
 use Rattle.code_gen.proofs.Plays.{has_blank}
 use Rattle.task_job.specs.Runs.{Reaches}
@@ -183,45 +186,60 @@ module _ (area : Area) where
     beyond = λ x past. same x ∙ h.beyond x past;
   }
 
--- what is put into cells of one area changes none of the other
-beside_packets : (ns : List Cell) (at x : ℕ) (cells : Cells) → written_in Packets at ns cells (run_cell x) ≡ cells (run_cell x)
-beside_packets [] at x cells = refl
-beside_packets (n ∷ ns) at x cells = beside_packets ns (suc at) x (written cells (packet_cell at) n)
+-- what is put into cells of one area changes none of another
+beside : (area other : Area) → same_area other area ≡ false → (ns : List Cell) (at x : ℕ) (cells : Cells)
+    → written_in area at ns cells (area_cell other x) ≡ cells (area_cell other x)
+beside area other apart [] at x cells = refl
+beside area other apart (n ∷ ns) at x cells =
+    beside area other apart ns (suc at) x (written cells (area_cell area at) n)
+    ∙ ap (λ (b : Bool). cond (b && x == at) n (cells (area_cell other x))) apart
 
-beside_command : (ns : List Cell) (at x : ℕ) (cells : Cells) → written_in Run at ns cells (packet_cell x) ≡ cells (packet_cell x)
-beside_command [] at x cells = refl
-beside_command (n ∷ ns) at x cells = beside_command ns (suc at) x (written cells (run_cell at) n)
+-- nor do variables that are made there
+beside_made : (area other : Area) → same_area other area ≡ false → (at : ℕ) (kinds : List Kind) (x : ℕ) (cells : Cells)
+    → made_in area at kinds cells (area_cell other x) ≡ cells (area_cell other x)
+beside_made area other apart at kinds x cells = by (cells_fit (at + length kinds))
+  where
+    by : (b : Bool) → cond b (written_in area at (map (λ k. held_of (blank_of k)) kinds) cells) cells (area_cell other x) ≡ cells (area_cell other x)
+    by true = beside area other apart (map (λ k. held_of (blank_of k)) kinds) at x cells
+    by false = refl
 
-module _ (p : Program) (slots : List Slot) (cells : Cells) (h : HasVariables Packets (packet_kinds p.packets) slots cells)
+module _ (p : Program) (slots : List Slot) (spaces : Spaces) (heads : Heads) (cells : Cells)
+    (h : HasVariables Packets (packet_kinds p.packets) slots cells) (there : HasSpaces spaces (mem_of heads cells))
     (command : (x : ℕ) → cells (run_cell x) ≡ Free) where
   -- the variables of the command are made first
   abbrev own : Cells
   own = made_in Run 0 (start_kinds p) cells
 
   packets_still : (x : ℕ) → own (packet_cell x) ≡ cells (packet_cell x)
-  packets_still x = by (cells_fit (0 + length (start_kinds p)))
-    where
-      by : (b : Bool) → cond b (written_in Run 0 (map (λ k. held_of (blank_of k)) (start_kinds p)) cells) cells (packet_cell x) ≡ cells (packet_cell x)
-      by true = beside_command (map (λ k. held_of (blank_of k)) (start_kinds p)) 0 x cells
-      by false = refl
+  packets_still x = beside_made Run Packets refl 0 (start_kinds p) x cells
 
   command_still : (x : ℕ) → made p cells (run_cell x) ≡ own (run_cell x)
-  command_still x = by (cells_fit (length (packet_kinds p.packets) + length p.inserted))
-    where
-      by : (b : Bool) → cond b (written_in Packets (length (packet_kinds p.packets)) (map (λ k. held_of (blank_of k)) p.inserted) own) own (run_cell x)
-          ≡ own (run_cell x)
-      by true = beside_packets (map (λ k. held_of (blank_of k)) p.inserted) (length (packet_kinds p.packets)) x own
-      by false = refl
+  command_still x = beside_made Packets Run refl (length (packet_kinds p.packets)) p.inserted x own
+
+  space_still : (s : SpaceNo) (x : ℕ) → made p cells (space_cell s x) ≡ cells (space_cell s x)
+  space_still s x =
+      beside_made Packets (Space s) refl (length (packet_kinds p.packets)) p.inserted x own
+      ∙ beside_made Run (Space s) refl 0 (start_kinds p) x cells
 
   packets_first : HasVariables Packets (packet_kinds p.packets) slots own
   packets_first = same_variables Packets (packet_kinds p.packets) slots cells own packets_still h
 
-  has_made : HasSlots p (blanks (start_kinds p)) (slots ++ blanks p.inserted) (made p cells)
+  -- no data space changes
+  spaces_there : HasSpaces spaces (mem_of heads (made p cells))
+  spaces_there = record {
+    heads = there.heads;
+    sound = there.sound;
+    given = there.given;
+    each = λ s. same_variables (Space s) (kinds_of s (heads_of spaces)) (map Holds (values_of s spaces)) cells (made p cells) (space_still s) (there.each s);
+  }
+
+  has_made : HasSlots p (blanks (start_kinds p)) (slots ++ blanks p.inserted) spaces (mem_of heads (made p cells))
   has_made = record {
     command =
         same_variables Run (start_kinds p) (blanks (start_kinds p)) own (made p cells) command_still
         (more_made Run [] (start_kinds p) [] cells (no_variables Run cells command));
     packets = more_made Packets (packet_kinds p.packets) p.inserted slots own packets_first;
+    spaces = spaces_there;
   }
 
   front_held : Image Packets slots (made p cells)
@@ -240,17 +258,17 @@ module _ (p : Program) (slots : List Slot) (cells : Cells) (h : HasVariables Pac
   pub can_be_made : CanBeMade p cells
   can_be_made = (λ k le lt. ap cell_blocks (command k), λ k le lt. ap cell_blocks (h.beyond k le))
 
-  pub begins : (core : Core) → Behaves core p → Reaches core slots 0 [] p (start p) (made p cells)
+  pub begins : (core : Core) → Behaves core p → Reaches core slots spaces 0 [] p (start p) (mem_of heads (made p cells))
   begins core b = record {
     behaves = b;
-    first = made p cells;
+    first = mem_of heads (made p cells);
     has =
-        subst (λ ks. HasSlots p (blanks ks) (slots ++ blanks core.inserted) (made p cells)) b.first
-        (subst (λ ks. HasSlots p (blanks (start_kinds p)) (slots ++ blanks ks) (made p cells)) b.inserted has_made);
+        subst (λ ks. HasSlots p (blanks ks) (slots ++ blanks core.inserted) spaces (mem_of heads (made p cells))) b.first
+        (subst (λ ks. HasSlots p (blanks (start_kinds p)) (slots ++ blanks ks) spaces (mem_of heads (made p cells))) b.inserted has_made);
     front = front_held;
     bare = unmade;
-    stands = stands_first p (start p) (made p cells);
+    stands = stands_first p (start p) (mem_of heads (made p cells));
     comes = λ marks more last g.
         let e : 0 + marks ≡ marks = omega arith in
-        subst (λ n. Rests p (start p) (record { cells = made p cells; marks = n; replies = more }) last) e g;
+        subst (λ n. Rests p (start p) (record { mem = mem_of heads (made p cells); marks = n; replies = more }) last) e g;
   }

@@ -1,37 +1,41 @@
--- What a memory keeps of variables and spaces when the command goes on, and when the cells of the command are cleared.
-use Rattle.std.proofs.Common.{◌≡◌, ℕ, List, ◌++◌, refl, sym, ap, ◌∙◌, subst}
+-- What a memory keeps of variables and data spaces when the cells of the command are cleared.
+use Rattle.std.proofs.Common.{◌≡◌, ℕ, ◌≤◌, true, false, List, [], map, ◌++◌, arith, refl, sym, subst, true≢false}
+use Rattle.eu_base.specs.Values.{SpaceNo}
 use Rattle.eu_base.specs.declared.value.Kind.{Kind}
 use Rattle.eu_base.specs.declared.address.Area.{Area}
-use Rattle.eu_base.specs.declared.address.Area.TheVariants.{Run, Packets}
+use Rattle.eu_base.specs.declared.address.Area.TheVariants.{Run, Packets, Space}
 use Rattle.eu_base.specs.Spaces.{Content, IsKept}
-use Rattle.eu_base.specs.Cells.{Cell, Free, Cells}
+use Rattle.eu_base.specs.Cells.{Cell, Free, Cells, area_cell, space_cell}
+use Rattle.eu_base.specs.DataSpaces.{Heads, Spaces, heads_of, no_spaces, last_number}
+use Rattle.eu_base.specs.SpacePlaces.{kinds_of, values_of}
 use Rattle.page_pool.specs.Pool.{Pages}
 use Rattle.page_table.specs.Frames.{content_at}
 use Rattle.text_heap.specs.Held.{HoldsCells}
-use Rattle.text_heap.proofs.Kept.{kept_held}
-use Rattle.data_space.specs.Data.{SpaceData}
+use Rattle.text_heap.proofs.Kept.{kept_held, moved_held}
 use Rattle.live_spaces.specs.Kept.{KeepsBytes}
-use Rattle.live_spaces.specs.Live.{no_space, space_roots}
-use Rattle.space_memory.specs.Memories.{MemoryData, HoldsAll, roots}
-use Rattle.elan_types.specs.Eval.{Slot}
-use Rattle.source_texts.specs.Spaces.{Space, HoldsSpace, cells_of}
+use Rattle.live_spaces.specs.Live.{no_space, the_space}
+use Rattle.space_memory.specs.Memories.{MemoryData, HoldsAll, roots, is_there, bytes_in, memory_heads}
+use Rattle.space_memory.proofs.Areas.{root_among}
+use Rattle.zero_state.specs.Stepping.{mem_of}
+use Rattle.place_gen.specs.Correct.{HasSpaces}
+use Rattle.elan_types.specs.Eval.{Slot, Holds}
 use Rattle.source_machine.specs.Stores.{Store}
-use Rattle.task_job.specs.Standing.{HoldSpaces, none, one, KeepsSpaces, HasBehind, Keeps, Left, Leaves}
-use Rattle.task_job.proofs.Beginning.{same_variables}
+use Rattle.task_job.specs.Standing.{KeepsSpaces, HasBehind, Keeps, Left, Leaves}
+use Rattle.task_job.proofs.Beginning.{no_variables, same_variables}
 
 -- what is known where nothing is of the cells of a command
 abbrev known_in : Area → Cell → Cell
 known_in Run x = Free
 known_in Packets x = x
+known_in (Space s) x = x
 
 abbrev pub idle : Cells → Cells
 idle cells = λ a. known_in a.area (cells a)
 
-pub idle_run : (content : Content) (cells : Cells) → HoldsCells Run content (λ _. Free) → HoldsCells Run content (idle cells)
-idle_run content cells h = record { words = h.words; texts = h.texts }
-
-pub idle_packets : (content : Content) (cells : Cells) → HoldsCells Packets content cells → HoldsCells Packets content (idle cells)
-idle_packets content cells h = record { words = h.words; texts = h.texts }
+-- of the cells of other areas the same is known
+still_known : (area : Area) (content : Content) (cells : Cells) → ((c : ℕ) → idle cells (area_cell area c) ≡ cells (area_cell area c))
+    → HoldsCells area content cells → HoldsCells area content (idle cells)
+still_known area content cells same h = moved_held area area content cells (idle cells) same h
 
 pub idle_behind : (kinds inserted : List Kind) (slots : List Slot) (cells : Cells) → HasBehind kinds inserted slots cells
     → HasBehind kinds inserted slots (idle cells)
@@ -41,70 +45,80 @@ idle_behind kinds inserted slots cells h = record {
   bare = h.bare;
 }
 
-module _ (old new : Pages) where
-  space_kept : (paged : SpaceData) (space : Space) → HoldsSpace old paged space → IsKept (content_at old paged.root) (content_at new paged.root)
-      → HoldsSpace new paged space
-  space_kept paged space h same = record {
-    kind = h.kind;
-    shape = h.shape;
-    typed = h.typed;
-    holds = kept_held Run (content_at old paged.root) (content_at new paged.root) (cells_of space.values) same h.holds;
+pub idle_spaces : (spaces : Spaces) (heads : Heads) (cells : Cells) → HasSpaces spaces (mem_of heads cells) → HasSpaces spaces (mem_of heads (idle cells))
+idle_spaces spaces heads cells h = record {
+  heads = h.heads;
+  sound = h.sound;
+  given = h.given;
+  each = λ s. same_variables (Space s) (kinds_of s (heads_of spaces)) (map Holds (values_of s spaces)) cells (idle cells) (λ x. refl) (h.each s);
+}
+
+-- the space of the command is empty, and all others keep their bytes
+module _ (old new : Pages) (m : MemoryData) where
+  abbrev rest : MemoryData
+  rest = record m { run = no_space }
+
+  module _ (nothing : HoldsCells Run (content_at new no_space.root) (λ _. Free)) (k : KeepsBytes old new (roots rest)) (cells : Cells) (h : HoldsAll old m cells) where
+    known : (area : Area) → is_there area rest ≡ true → HoldsCells area (bytes_in area new rest) (idle cells)
+    known Run is = moved_held Run Run (content_at new no_space.root) (λ _. Free) (idle cells) (λ c. refl) nothing
+    known Packets is =
+        still_known Packets (content_at new m.packets.root) cells (λ c. refl)
+        (kept_held Packets (content_at old m.packets.root) (content_at new m.packets.root) cells k.each.1.0 (h.there Packets refl))
+    known (Space s) is =
+        still_known (Space s) (content_at new (the_space s.0 m.spaces).root) cells (λ c. refl)
+        (kept_held (Space s) (content_at old (the_space s.0 m.spaces).root) (content_at new (the_space s.0 m.spaces).root) cells
+        (root_among (λ root. IsKept (content_at old root) (content_at new root)) s.0 m.spaces is k.each.1.1) (h.there (Space s) is))
+
+    gone : (area : Area) → is_there area rest ≡ false → (x : ℕ) → idle cells (area_cell area x) ≡ Free
+    gone Run not x = refl
+    gone Packets not x = absurd (true≢false not)
+    gone (Space s) not x = h.gone (Space s) not x
+
+    rest_holds : HoldsAll new rest (idle cells)
+    rest_holds = record { there = known; gone = gone }
+
+module _ (old new : Pages) (m n : MemoryData) (is : n ≡ record m { run = no_space }) (nothing : HoldsCells Run (content_at new n.run.root) (λ _. Free))
+    (k : KeepsBytes old new (roots n)) where
+  cleared_cells : (cells : Cells) → HoldsAll old m cells → HoldsAll new n (idle cells)
+  cleared_cells cells h =
+      subst (λ (u : MemoryData). HoldsAll new u (idle cells)) (sym is)
+      (rest_holds old new m (subst (λ (u : MemoryData). HoldsCells Run (content_at new u.run.root) (λ _. Free)) is nothing)
+      (subst (λ (u : MemoryData). KeepsBytes old new (roots u)) is k) cells h)
+
+  cleared_spaces : (spaces : Spaces) (cells : Cells) → KeepsSpaces m spaces cells → KeepsSpaces n spaces (idle cells)
+  cleared_spaces spaces cells h =
+      subst (λ (u : MemoryData). KeepsSpaces u spaces (idle cells)) (sym is) (idle_spaces spaces (memory_heads m) cells h)
+
+  -- what a command leaves, once its cells are cleared
+  pub cleared : (kinds inserted : List Kind) (store : Store) → Left kinds inserted old m store → Leaves kinds inserted new n store
+  cleared kinds inserted store h = record {
+    left =
+        record {
+          cells = idle h.cells;
+          holds = cleared_cells h.cells h.holds;
+          variables = idle_behind kinds inserted store.variables h.cells h.variables;
+          spaces = cleared_spaces store.spaces h.cells h.spaces;
+        };
+    command = λ x. refl;
   }
-
-  spaces_kept : {paged : List (ℕ × SpaceData)} {spaces : List (ℕ × Space)} → HoldSpaces old paged spaces → KeepsBytes old new (space_roots paged)
-      → HoldSpaces new paged spaces
-  spaces_kept none k = none
-  spaces_kept (one h rest) k = one (space_kept _ _ h k.each.0) (spaces_kept rest (record { each = k.each.1 }))
-
-  module _ (m n : MemoryData) where
-    pub keeps_spaces : (store : Store) → n.spaces ≡ m.spaces → n.last ≡ m.last → n.names ≡ m.names → KeepsBytes old new (space_roots m.spaces)
-        → KeepsSpaces old m store → KeepsSpaces new n store
-    keeps_spaces store spaces last names k h = record {
-      spaces = subst (λ ps. HoldSpaces new ps store.spaces) (sym spaces) (spaces_kept h.spaces k);
-      last = last ∙ h.last;
-      names = names ∙ h.names;
-    }
-
-    module _ (is : n ≡ record m { run = no_space }) (nothing : HoldsCells Run (content_at new n.run.root) (λ _. Free)) (k : KeepsBytes old new (roots n)) where
-      cleared_cells : (cells : Cells) → HoldsAll old m cells → HoldsAll new n (idle cells)
-      cleared_cells cells h = record {
-        run = idle_run (content_at new n.run.root) cells nothing;
-        packets =
-            let same : n.packets ≡ m.packets = ap (λ (u : MemoryData). u.packets) is in
-            idle_packets (content_at new n.packets.root) cells
-            (kept_held Packets (content_at old n.packets.root) (content_at new n.packets.root) cells k.each.1.0
-            (subst (λ (s : SpaceData). HoldsCells Packets (content_at old s.root) cells) (sym same) h.packets));
-      }
-
-      pub cleared_spaces : (store : Store) → KeepsSpaces old m store → KeepsSpaces new n store
-      cleared_spaces store h =
-          let same : n.spaces ≡ m.spaces = ap (λ (u : MemoryData). u.spaces) is in
-          keeps_spaces store same (ap (λ (u : MemoryData). u.last) is) (ap (λ (u : MemoryData). u.names) is)
-          (subst (λ ps. KeepsBytes old new (space_roots ps)) same (record { each = k.each.1.1 })) h
-
-      -- what a command leaves, once its cells are cleared
-      pub cleared : (kinds inserted : List Kind) (store : Store) → Left kinds inserted old m store → Leaves kinds inserted new n store
-      cleared kinds inserted store h = record {
-        left =
-            record {
-              cells = idle h.cells;
-              holds = cleared_cells h.cells h.holds;
-              variables = idle_behind kinds inserted store.variables h.cells h.variables;
-              spaces = cleared_spaces store h.spaces;
-            };
-        command = λ x. refl;
-      }
 
 -- the variables of a packet that was inserted are those of a packet of the task, as its others; and where none was inserted there are none
 pub inserted_keeps : (kinds inserted : List Kind) (pages : Pages) (memory : MemoryData) (store : Store) → Leaves kinds inserted pages memory store
     → Keeps (kinds ++ inserted) pages memory store
 inserted_keeps kinds inserted pages memory store h = record {
-  variables =
-      record {
-        cells = h.left.cells;
-        holds = h.left.holds;
-        packets = h.left.variables.all;
-        command = h.command;
-      };
+  cells = h.left.cells;
+  holds = h.left.holds;
+  packets = h.left.variables.all;
   spaces = h.left.spaces;
+  command = h.command;
+}
+
+-- where no data space lives, nothing is known of a cell of one
+pub none_live : (last : ℕ) (cells : Cells) → last ≤ last_number → ((s : SpaceNo) (x : ℕ) → cells (space_cell s x) ≡ Free)
+    → HasSpaces (record no_spaces { last = last }) (mem_of (record { live = []; last = last; names = [] }) cells)
+none_live last cells few free = record {
+  heads = refl;
+  sound = record { each = tt; given = few; named = tt };
+  given = record { rise = omega arith; fit = tt };
+  each = λ s. no_variables (Space s) cells (free s);
 }

@@ -10,14 +10,15 @@ use Rattle.eu_base.specs.declared.request.Request.{Request}
 use Rattle.eu_base.specs.declared.request.Reply.{Reply}
 use Rattle.eu_base.specs.declared.address.Area.TheVariants.{Packets}
 use Rattle.eu_base.specs.Room.{cells_fit}
-use Rattle.eu_base.specs.Cells.{Free, Cells, packet_cell}
+use Rattle.eu_base.specs.Cells.{Free, packet_cell}
+use Rattle.eu_base.specs.DataSpaces.{Spaces}
 use Rattle.cell_kinds.specs.Kinds.{packet_kinds}
 use Rattle.code_form.specs.declared.halt.Halt.{Halt}
 use Rattle.code_form.specs.declared.halt.Halt.TheVariants as halts
 use Rattle.code_form.specs.declared.waits.Waits.{Waits}
 use Rattle.code_form.specs.declared.waits.Waits.TheVariants.{Nothing, Asked, Refused}
 use Rattle.code_form.specs.Program.{Program, start_kinds, kinds_in_packets}
-use Rattle.code_form.specs.Machine.{Position, Control, asking, answered, refused, Scene, Rest, rest_at, stage_at, carry_on, exec, have_room, start}
+use Rattle.code_form.specs.Machine.{Position, Control, asking, answered, refused, Mem, Scene, Rest, rest_at, stage_at, carry_on, exec, have_room, start}
 use Rattle.code_form.specs.Runs.{IsPaused, Rests, Stands}
 use Rattle.code_form.proofs.Spent.{falls, stands_run, stands_reply}
 use Rattle.place_gen.specs.Correct.{Image, HasVariables, RestsAs, Shows}
@@ -37,14 +38,14 @@ the_some : {A : Type 0} (a b : A) → Some a ≡ Some b → a ≡ b
 the_some a b e = cc
 
 -- the reply that is given is taken
-took : (p : Program) (w : Waits) (c : Position) (q : Request) (r : Reply) (cells : Cells) (marks : ℕ) (more : List Reply) (last : Rest) → w ≡ Asked q
-    → Rests p (record { position = c; waits = w }) (record { cells = cells; marks = marks; replies = r ∷ more }) last
-    → Rests p (answered q r c) (record { cells = cells; marks = marks; replies = more }) last
-took p w c q r cells marks more last is h =
-    by (subst (λ (w : Waits). Rests p (record { position = c; waits = w }) (record { cells = cells; marks = marks; replies = r ∷ more }) last) is h)
+took : (p : Program) (w : Waits) (c : Position) (q : Request) (r : Reply) (mem : Mem) (marks : ℕ) (more : List Reply) (last : Rest) → w ≡ Asked q
+    → Rests p (record { position = c; waits = w }) (record { mem = mem; marks = marks; replies = r ∷ more }) last
+    → Rests p (answered q r c) (record { mem = mem; marks = marks; replies = more }) last
+took p w c q r mem marks more last is h =
+    by (subst (λ (w : Waits). Rests p (record { position = c; waits = w }) (record { mem = mem; marks = marks; replies = r ∷ more }) last) is h)
   where
-    by : Rests p (asking c q) (record { cells = cells; marks = marks; replies = r ∷ more }) last
-        → Rests p (answered q r c) (record { cells = cells; marks = marks; replies = more }) last
+    by : Rests p (asking c q) (record { mem = mem; marks = marks; replies = r ∷ more }) last
+        → Rests p (answered q r c) (record { mem = mem; marks = marks; replies = more }) last
     by (zero, e) = absurd (cc e)
     by (suc n, e) = (n, e)
 
@@ -70,10 +71,10 @@ packets_in (Stopped s w) = w.packets
 packets_in (OutOfMarks w) = w.packets
 packets_in (Asks q w) = w.packets
 
-unfit : (core : Core) (variables : List Slot) (marks : ℕ) (replies : List Reply) → start_fits core ≡ false
-    → packets_in (evaluate core variables marks replies) ≡ variables ++ blanks core.inserted
-unfit core variables marks replies full =
-    ap (λ b. packets_in (ending (outcomes.branch b (run_from core.start core marks) (outcomes.Stopped CellRoom) (at_start core variables marks replies)))) full
+unfit : (core : Core) (variables : List Slot) (spaces : Spaces) (marks : ℕ) (replies : List Reply) → start_fits core ≡ false
+    → packets_in (evaluate core variables spaces marks replies) ≡ variables ++ blanks core.inserted
+unfit core variables spaces marks replies full =
+    ap (λ b. packets_in (ending (outcomes.branch b (run_from core.start core marks) (outcomes.Stopped CellRoom) (at_start core variables spaces marks replies)))) full
 
 second_false : (a b : Bool) → b ≡ false → (a && b) ≡ false
 second_false true b e = e
@@ -93,39 +94,39 @@ front_is : (xs ys : List Slot) → take (length xs) (xs ++ ys) ≡ xs
 front_is [] ys = refl
 front_is (x ∷ xs) ys = ap (λ l. x ∷ l) (front_is xs ys)
 
-module _ (core : Core) (variables : List Slot) (spent : ℕ) (replies : List Reply) (code : Program) (c : Control) (now : Cells)
-    (k : Reaches core variables spent replies code c now) where
+module _ (core : Core) (variables : List Slot) (spaces : Spaces) (spent : ℕ) (replies : List Reply) (code : Program) (c : Control) (now : Mem)
+    (k : Reaches core variables spaces spent replies code c now) where
   abbrev with_marks : ℕ → Scene
-  with_marks left = record { cells = now; marks = left; replies = [] }
+  with_marks left = record { mem = now; marks = left; replies = [] }
 
   -- it comes to rest
-  pub next : (left : ℕ) → (r : Rest) × Rests code c (record { cells = now; marks = left; replies = [] }) r
+  pub next : (left : ℕ) → (r : Rest) × Rests code c (record { mem = now; marks = left; replies = [] }) r
   next left =
-      let e = k.behaves.ends (at_start core variables (spent + left) replies) k.first k.has in (
+      let e = k.behaves.ends (at_start core variables spaces (spent + left) replies) k.first k.has in (
         e.rest,
         k.comes left [] e.rest
-            (subst (λ rs. Rests code (start code) (record { cells = k.first; marks = spent + left; replies = rs }) e.rest) (sym (append-nil replies))
+            (subst (λ rs. Rests code (start code) (record { mem = k.first; marks = spent + left; replies = rs }) e.rest) (sym (append-nil replies))
             (e.steps, e.comes)),
       )
 
   -- and shows what the evaluation gives
-  pub shows : (left : ℕ) (r : Rest) → Rests code c (record { cells = now; marks = left; replies = [] }) r
-      → Shows code (evaluate core variables (spent + left) replies) r
-  shows left r h = plays core code variables k.first now spent left replies c r k.behaves k.has k.stands h
+  pub shows : (left : ℕ) (r : Rest) → Rests code c (record { mem = now; marks = left; replies = [] }) r
+      → Shows code (evaluate core variables spaces (spent + left) replies) r
+  shows left r h = plays core code variables spaces k.first now spent left replies c r k.behaves k.has k.stands h
 
   -- where there is no room its cells are those of the start
-  still_first : (left : ℕ) (r : Rest) → Rests code c (record { cells = now; marks = left; replies = [] }) r → have_room code ≡ false
-      → r.scene.cells ≡ k.first
+  still_first : (left : ℕ) (r : Rest) → Rests code c (record { mem = now; marks = left; replies = [] }) r → have_room code ≡ false
+      → r.scene.mem ≡ k.first
   still_first left r h full =
-      ap (λ (s : Scene). s.cells) (unmoved code (record { cells = k.first; marks = spent + left; replies = replies ++ [] }) r full (k.stands.goes left [] r h))
+      ap (λ (s : Scene). s.mem) (unmoved code (record { mem = k.first; marks = spent + left; replies = replies ++ [] }) r full (k.stands.goes left [] r h))
 
   -- the variables that the packets had stand in their cells
-  pub front_there : (left : ℕ) (r : Rest) → Rests code c (record { cells = now; marks = left; replies = [] }) r
-      → Image Packets (take (length variables) (packets_in (evaluate core variables (spent + left) replies))) r.scene.cells
-  front_there left r h = by (evaluate core variables (spent + left) replies) (shows left r h) (start_fits core) refl
-      (unfit core variables (spent + left) replies)
+  pub front_there : (left : ℕ) (r : Rest) → Rests code c (record { mem = now; marks = left; replies = [] }) r
+      → Image Packets (take (length variables) (packets_in (evaluate core variables spaces (spent + left) replies))) r.scene.mem.cells
+  front_there left r h = by (evaluate core variables spaces (spent + left) replies) (shows left r h) (start_fits core) refl
+      (unfit core variables spaces (spent + left) replies)
     where
-      fits : (h : Halt) (w : World) → RestsAs code h w r → start_fits core ≡ true → Image Packets (take (length variables) w.packets) r.scene.cells
+      fits : (h : Halt) (w : World) → RestsAs code h w r → start_fits core ≡ true → Image Packets (take (length variables) w.packets) r.scene.mem.cells
       fits h w a room = λ fit x s e.
           let many : length w.packets ≡ length (all_packet_kinds core) =
           a.packets.as_many ∙ ap (λ ps. length (packet_kinds ps ++ code.inserted)) k.behaves.packets
@@ -134,14 +135,14 @@ module _ (core : Core) (variables : List Slot) (spent : ℕ) (replies : List Rep
           (front_slot (length variables) w.packets x s e)
 
       unmade : (e : Ending) → start_fits core ≡ false → packets_in e ≡ variables ++ blanks core.inserted
-          → Image Packets (take (length variables) (packets_in e)) r.scene.cells
+          → Image Packets (take (length variables) (packets_in e)) r.scene.mem.cells
       unmade e full is =
-          let same : r.scene.cells ≡ k.first = still_first left r h (room_is core code k.behaves ∙ full) in
+          let same : r.scene.mem ≡ k.first = still_first left r h (room_is core code k.behaves ∙ full) in
           let front : take (length variables) (packets_in e) ≡ variables = ap (take (length variables)) is ∙ front_is variables (blanks core.inserted) in
-          subst (λ slots. Image Packets slots r.scene.cells) (sym front) (subst (Image Packets variables) (sym same) k.front)
+          subst (λ slots. Image Packets slots r.scene.mem.cells) (sym front) (subst (λ (m : Mem). Image Packets variables m.cells) (sym same) k.front)
 
       by : (e : Ending) → Shows code e r → (b : Bool) → start_fits core ≡ b → (start_fits core ≡ false → packets_in e ≡ variables ++ blanks core.inserted)
-          → Image Packets (take (length variables) (packets_in e)) r.scene.cells
+          → Image Packets (take (length variables) (packets_in e)) r.scene.mem.cells
       by e s false full is = unmade e full (is full)
       by (Ended w) s true room is = fits halts.Ended w s room
       by (Stopped stop w) s true room is = fits (halts.Stopped stop) w s room
@@ -149,8 +150,8 @@ module _ (core : Core) (variables : List Slot) (spent : ℕ) (replies : List Rep
       by (Asks q w) s true room is = fits (halts.Asks q) w s room
 
   -- where it comes to rest it stands as the command does with the marks that it spent
-  pub reaches_on : (left : ℕ) (r : Rest) → IsPaused r.how ⊎ (left ≡ 0) → Rests code c (record { cells = now; marks = left; replies = [] }) r
-      → r.scene.replies ≡ [] → Reaches core variables (spent + (left - r.scene.marks)) replies code r.control r.scene.cells
+  pub reaches_on : (left : ℕ) (r : Rest) → IsPaused r.how ⊎ (left ≡ 0) → Rests code c (record { mem = now; marks = left; replies = [] }) r
+      → r.scene.replies ≡ [] → Reaches core variables spaces (spent + (left - r.scene.marks)) replies code r.control r.scene.mem
   reaches_on left r calm h none = record {
     behaves = k.behaves;
     first = k.first;
@@ -161,13 +162,13 @@ module _ (core : Core) (variables : List Slot) (spent : ℕ) (replies : List Rep
     comes = λ marks more last g.
         let e : (spent + (left - r.scene.marks)) + marks ≡ spent + ((left - r.scene.marks) + marks) = omega arith in
         let there = k.comes ((left - r.scene.marks) + marks) more last
-        (subst (λ n. Rests code (start code) (record { cells = k.first; marks = n; replies = replies ++ more }) last) e g) in
-        subst (λ rs. Rests code r.control (record { cells = r.scene.cells; marks = marks; replies = rs ++ more }) last) none
+        (subst (λ n. Rests code (start code) (record { mem = k.first; marks = n; replies = replies ++ more }) last) e g) in
+        subst (λ rs. Rests code r.control (record { mem = r.scene.mem; marks = marks; replies = rs ++ more }) last) none
         ((passes code more h.0 c (with_marks left) r calm h.1).1 marks last there);
   }
 
-  pub still_there : (left : ℕ) (r : Rest) → IsPaused r.how ⊎ (left ≡ 0) → Rests code c (record { cells = now; marks = left; replies = [] }) r
-      → r.scene.replies ≡ [] → IsStill code r.control r.scene.cells
+  pub still_there : (left : ℕ) (r : Rest) → IsPaused r.how ⊎ (left ≡ 0) → Rests code c (record { mem = now; marks = left; replies = [] }) r
+      → r.scene.replies ≡ [] → IsStill code r.control r.scene.mem
   still_there left r calm h none = still code h.0 c (with_marks left) r calm h.1 (⊎_elim (λ paused. inl paused) (λ none. inr (bare none)) calm)
     where
       bare : left ≡ 0 → r.scene ≡ record r.scene { marks = 0; replies = [] }
@@ -178,7 +179,7 @@ module _ (core : Core) (variables : List Slot) (spent : ℕ) (replies : List Rep
 
   -- after a reply
   pub reaches_reply : (q : Request) (reply : Reply) → c.waits ≡ Asked q
-      → Reaches core variables spent (replies ++ reply ∷ []) code (answered q reply c.position) now
+      → Reaches core variables spaces spent (replies ++ reply ∷ []) code (answered q reply c.position) now
   reaches_reply q reply asks = record {
     behaves = k.behaves;
     first = k.first;
@@ -191,16 +192,16 @@ module _ (core : Core) (variables : List Slot) (spent : ℕ) (replies : List Rep
     comes = λ marks more last g.
         took code c.waits c.position q reply now marks more last asks
         (k.comes marks (reply ∷ more) last
-        (subst (λ rs. Rests code (start code) (record { cells = k.first; marks = spent + marks; replies = rs }) last)
+        (subst (λ rs. Rests code (start code) (record { mem = k.first; marks = spent + marks; replies = rs }) last)
         (append_assoc replies (reply ∷ []) more) g));
   }
 
   -- and behind them nothing was made where all together have no room
-  bare_there : (left : ℕ) (r : Rest) → Rests code c (record { cells = now; marks = left; replies = [] }) r
-      → cells_fit (length (kinds_in_packets code)) ≡ false → (x : ℕ) → length variables ≤ x → r.scene.cells (packet_cell x) ≡ Free
+  bare_there : (left : ℕ) (r : Rest) → Rests code c (record { mem = now; marks = left; replies = [] }) r
+      → cells_fit (length (kinds_in_packets code)) ≡ false → (x : ℕ) → length variables ≤ x → r.scene.mem.cells (packet_cell x) ≡ Free
   bare_there left r h full x past =
       let none : have_room code ≡ false = second_false (cells_fit (length (start_kinds code))) (cells_fit (length (kinds_in_packets code))) full in
-      ap (λ (cells : Cells). cells (packet_cell x)) (still_first left r h none) ∙ k.bare full x past
+      ap (λ (m : Mem). m.cells (packet_cell x)) (still_first left r h none) ∙ k.bare full x past
 
   module _ (kinds : List Kind) (is : packet_kinds core.packets ≡ kinds) where
     all_kinds : kinds_in_packets code ≡ kinds ++ core.inserted
@@ -218,20 +219,20 @@ module _ (core : Core) (variables : List Slot) (spent : ℕ) (replies : List Rep
         omega (arith, a, b, d, e)
 
     -- the variables of packets stand in their cells, and behind them those of a packet that is inserted
-    pub behind_there : (left : ℕ) (r : Rest) → Rests code c (record { cells = now; marks = left; replies = [] }) r
-        → HasVariables Packets (kinds ++ core.inserted) (packets_in (evaluate core variables (spent + left) replies)) r.scene.cells
-        × Image Packets (take (length kinds) (packets_in (evaluate core variables (spent + left) replies))) r.scene.cells
-        × (cells_fit (length (kinds ++ core.inserted)) ≡ false → (x : ℕ) → length kinds ≤ x → r.scene.cells (packet_cell x) ≡ Free)
+    pub behind_there : (left : ℕ) (r : Rest) → Rests code c (record { mem = now; marks = left; replies = [] }) r
+        → HasVariables Packets (kinds ++ core.inserted) (packets_in (evaluate core variables spaces (spent + left) replies)) r.scene.mem.cells
+        × Image Packets (take (length kinds) (packets_in (evaluate core variables spaces (spent + left) replies))) r.scene.mem.cells
+        × (cells_fit (length (kinds ++ core.inserted)) ≡ false → (x : ℕ) → length kinds ≤ x → r.scene.mem.cells (packet_cell x) ≡ Free)
     behind_there left r h =
-        let slots = packets_in (evaluate core variables (spent + left) replies) in (
-          subst (λ ks. HasVariables Packets ks slots r.scene.cells) all_kinds (by (evaluate core variables (spent + left) replies) (shows left r h)),
-          subst (λ n. Image Packets (take n slots) r.scene.cells) many_variables (front_there left r h),
+        let slots = packets_in (evaluate core variables spaces (spent + left) replies) in (
+          subst (λ ks. HasVariables Packets ks slots r.scene.mem.cells) all_kinds (by (evaluate core variables spaces (spent + left) replies) (shows left r h)),
+          subst (λ n. Image Packets (take n slots) r.scene.mem.cells) many_variables (front_there left r h),
           λ full x past.
               let le : length variables ≤ x = omega (arith, many_variables, past) in
               bare_there left r h (ap (λ ks. cells_fit (length ks)) all_kinds ∙ full) x le,
         )
       where
-        by : (e : Ending) → Shows code e r → HasVariables Packets (kinds_in_packets code) (packets_in e) r.scene.cells
+        by : (e : Ending) → Shows code e r → HasVariables Packets (kinds_in_packets code) (packets_in e) r.scene.mem.cells
         by (Ended w) s = s.packets
         by (Stopped stop w) s = s.packets
         by (OutOfMarks w) s = s.packets

@@ -6,20 +6,20 @@ use Rattle.eu_base.specs.declared.request.Request.{Request}
 use Rattle.eu_base.specs.declared.request.Reply.{Reply}
 use Rattle.eu_base.specs.declared.address.Area.TheVariants.{Packets}
 use Rattle.eu_base.specs.Cells.{Cells}
+use Rattle.eu_base.specs.DataSpaces.{Heads}
 use Rattle.cell_kinds.specs.Kinds.{packet_kinds}
 use Rattle.page_pool.specs.Pool.{Pages}
-use Rattle.space_memory.specs.Memories.{MemoryData, HoldsAll}
-use Rattle.space_memory.specs.Changes.{OnlyVariables}
+use Rattle.space_memory.specs.Memories.{MemoryData, HoldsAll, memory_heads}
 use Rattle.code_form.specs.declared.halt.Halt.{Halt}
 use Rattle.code_form.specs.declared.halt.Halt.TheVariants as halts
 use Rattle.code_form.specs.declared.waits.Waits.{Waits}
 use Rattle.code_form.specs.declared.waits.Waits.TheVariants.{Nothing, Asked, Given, Refused}
 use Rattle.code_form.specs.Program.{Program}
-use Rattle.code_form.specs.Machine.{Control, Rest, start, made, CanBeMade, answered}
+use Rattle.code_form.specs.Machine.{Control, Mem, Rest, start, made, CanBeMade, answered}
 use Rattle.code_form.specs.Runs.{IsPaused, Rests, asked}
-use Rattle.zero_state.specs.Stepping.{scene_of}
+use Rattle.zero_state.specs.Stepping.{mem_of, scene_of}
 use Rattle.zero_machine.specs.Running.{RestsSo}
-use Rattle.place_gen.specs.Correct.{HasVariables, Shows}
+use Rattle.place_gen.specs.Correct.{HasVariables, HasSpaces, Shows}
 use Rattle.code_gen.specs.Correct.{Behaves}
 use Rattle.elan_types.specs.Eval.{World}
 use Rattle.elan_types.specs.Command.{Ending, Ended, Stopped, OutOfMarks, Asks}
@@ -27,22 +27,15 @@ use Rattle.source_machine.specs.Below.packet_store.specs.declared.unit.Compiled.
 use Rattle.source_machine.specs.Stores.{Store}
 use Rattle.source_machine.specs.Tasks.{Command, ending, world_of, store_in, own_variables, spent, request_in, starting, with_reply}
 use Rattle.task_job.specs.Runs.{asked_by, IsStill, Reaches}
-use Rattle.task_job.specs.Standing.{KeepsSpaces, Keeps, HasBehind, Left, ReachesFor, RunsFor, RestsFor}
+use Rattle.task_job.specs.Standing.{Keeps, HasBehind, Left, ReachesFor, RunsFor, RestsFor}
 use Rattle.task_job.specs.declared.job.Job.{Job}
 use Rattle.task_job.proofs.Beginning.{can_be_made, begins}
-use Rattle.task_job.proofs.Keeping.{keeps_spaces}
 use Rattle.task_job.proofs.Reaching.{packets_in, next, shows, many_variables, behind_there, reaches_on, still_there, reaches_reply}
 
 -- what follows of what a call gives
 pub if_given : {A E : Type 0} (result : Result A E) (P Q : A → Type 0) → ((a : A) → P a → Q a) → IfOk result P → IfOk result Q
 if_given (Ok a) P Q f p = f a p
 if_given (Err e) P Q f p = tt
-
--- other variables alone change
-pub only_keeps : (old new : Pages) (m n : MemoryData) (store : Store) → OnlyVariables old new m n → KeepsSpaces old m store → KeepsSpaces new n store
-only_keeps old new m n store only h =
-    keeps_spaces old new m n store (ap (λ (u : MemoryData). u.spaces) only.memory) (ap (λ (u : MemoryData). u.last) only.memory)
-    (ap (λ (u : MemoryData). u.names) only.memory) only.keeps h
 
 -- a job at another place of its run
 abbrev pub at_run : Job → Control → Job
@@ -60,47 +53,57 @@ shown_request p (Stopped stop w) r h = ap asked_by (sym h.how)
 shown_request p (OutOfMarks w) r h = ap asked_by (sym h.how)
 shown_request p (Asks q w) r h = ap asked_by (sym h.how)
 
+-- the data spaces where it comes to rest
+shown_spaces : (p : Program) (e : Ending) (r : Rest) → Shows p e r → HasSpaces (world_of e).spaces r.scene.mem
+shown_spaces p (Ended w) r h = h.spaces
+shown_spaces p (Stopped stop w) r h = h.spaces
+shown_spaces p (OutOfMarks w) r h = h.spaces
+shown_spaces p (Asks q w) r h = h.spaces
+
 module _ (kinds : List Kind) (pages : Pages) (memory : MemoryData) (job : Job) (c : Command) where
   -- the variables where it comes to rest
   variables_there : (h : ReachesFor kinds pages memory job c) (left : ℕ) (r : Rest)
-      → Rests job.code job.run (record { cells = h.now; marks = left; replies = [] }) r
-      → HasBehind kinds c.unit.core.inserted (world_of (ending c left)).packets r.scene.cells
+      → Rests job.code job.run (record { mem = mem_of (memory_heads memory) h.now; marks = left; replies = [] }) r
+      → HasBehind kinds c.unit.core.inserted (world_of (ending c left)).packets r.scene.mem.cells
   variables_there h left r rests =
-      let b = behind_there c.unit.core c.before.variables c.marks c.replies job.code job.run h.now h.reaches kinds h.kinds_are left r rests in
-      subst (λ slots. HasBehind kinds c.unit.core.inserted slots r.scene.cells) (world_is (ending c left)) (record { all = b.0; front = b.1; bare = b.2 })
+      let b = behind_there c.unit.core c.before.variables c.before.spaces c.marks c.replies job.code job.run (mem_of (memory_heads memory) h.now) h.reaches kinds h.kinds_are left r rests in
+      subst (λ slots. HasBehind kinds c.unit.core.inserted slots r.scene.mem.cells) (world_is (ending c left)) (record { all = b.0; front = b.1; bare = b.2 })
 
   module _ (h : RunsFor kinds pages memory job c) where
     pub many_own : own_variables c ≡ length kinds
     many_own =
-        many_variables c.unit.core c.before.variables c.marks c.replies job.code job.run h.reaches.now h.reaches.reaches kinds h.reaches.kinds_are
+        many_variables c.unit.core c.before.variables c.before.spaces c.marks c.replies job.code job.run (mem_of (memory_heads memory) h.reaches.now) h.reaches.reaches kinds h.reaches.kinds_are
 
     shown_now : Shows job.code (ending c 0) h.still.rest
-    shown_now = shows c.unit.core c.before.variables c.marks c.replies job.code job.run h.reaches.now h.reaches.reaches 0 h.still.rest h.still.rests
+    shown_now = shows c.unit.core c.before.variables c.before.spaces c.marks c.replies job.code job.run (mem_of (memory_heads memory) h.reaches.now) h.reaches.reaches 0 h.still.rest h.still.rests
 
     -- it waits for what the command asks
     pub asks_now : asked job.run.waits ≡ request_in (ending c 0)
     asks_now = h.still.asks ∙ sym (shown_request job.code (ending c 0) h.still.rest shown_now)
 
     -- and leaves what the command leaves that stops here
-    pub left_now : Left kinds c.unit.core.inserted pages memory (store_in c (world_of (ending c 0)))
+    pub left_now : Left kinds c.unit.core.inserted pages memory (store_in (world_of (ending c 0)))
     left_now = record {
       cells = h.reaches.now;
       holds = h.reaches.holds;
       variables =
-          subst (λ cells. HasBehind kinds c.unit.core.inserted (world_of (ending c 0)).packets cells) h.still.cells_are
+          subst (λ (m : Mem). HasBehind kinds c.unit.core.inserted (world_of (ending c 0)).packets m.cells) h.still.mem_is
           (variables_there h.reaches 0 h.still.rest h.still.rests);
-      spaces = record { spaces = h.reaches.spaces.spaces; last = h.reaches.spaces.last; names = h.reaches.spaces.names };
+      spaces = subst (HasSpaces (world_of (ending c 0)).spaces) h.still.mem_is (shown_spaces job.code (ending c 0) h.still.rest shown_now);
     }
 
 -- a run that went on over the memory
 module _ (kinds : List Kind) (old new : Pages) (m n : MemoryData) (job : Job) (c : Command) (h : ReachesFor kinds old m job c) (left left' : ℕ)
     (halt : Halt) (run' : Control)
-    (rests : (cells : Cells) (r : Rest) → HoldsAll old m cells → Rests job.code job.run (scene_of cells left) r
-    → RestsSo (HoldsAll new n) halt run' left' r) (less : left' ≤ left) (only : OnlyVariables old new m n) where
-  there : (r : Rest) × Rests job.code job.run (record { cells = h.now; marks = left; replies = [] }) r
-  there = next c.unit.core c.before.variables c.marks c.replies job.code job.run h.now h.reaches left
+    (rests : (cells : Cells) (r : Rest) → HoldsAll old m cells → Rests job.code job.run (scene_of (mem_of (memory_heads m) cells) left) r
+    → RestsSo (HoldsAll new n) (memory_heads n) halt run' left' r) (less : left' ≤ left) where
+  abbrev at_first : Mem
+  at_first = mem_of (memory_heads m) h.now
 
-  so : RestsSo (HoldsAll new n) halt run' left' there.0
+  there : (r : Rest) × Rests job.code job.run (record { mem = at_first; marks = left; replies = [] }) r
+  there = next c.unit.core c.before.variables c.before.spaces c.marks c.replies job.code job.run at_first h.reaches left
+
+  so : RestsSo (HoldsAll new n) (memory_heads n) halt run' left' there.0
   so = rests h.now there.0 h.holds there.1
 
   how : there.0.how ≡ halt
@@ -112,11 +115,14 @@ module _ (kinds : List Kind) (old new : Pages) (m n : MemoryData) (job : Job) (c
   control_is : there.0.control ≡ run'
   control_is = ap (λ (r : Rest). r.control) so.1
 
+  mem_are : there.0.scene.mem ≡ mem_of (memory_heads n) there.0.scene.mem.cells
+  mem_are = ap (λ (r : Rest). r.scene.mem) so.1
+
   replies_none : there.0.scene.replies ≡ []
   replies_none = ap (λ (r : Rest). r.scene.replies) so.1
 
   shown : Shows job.code (ending c left) there.0
-  shown = shows c.unit.core c.before.variables c.marks c.replies job.code job.run h.now h.reaches left there.0 there.1
+  shown = shows c.unit.core c.before.variables c.before.spaces c.marks c.replies job.code job.run at_first h.reaches left there.0 there.1
 
   -- it stands where the command stands with the marks that it spent
   on : IsPaused there.0.how ⊎ (left ≡ 0) → RunsFor kinds new n (at_run job run') (record c { marks = c.marks + (left - left') })
@@ -125,17 +131,22 @@ module _ (kinds : List Kind) (old new : Pages) (m n : MemoryData) (job : Job) (c
         record {
           unit = h.unit;
           kinds_are = h.kinds_are;
-          now = there.0.scene.cells;
+          now = there.0.scene.mem.cells;
           holds = so.0;
           reaches =
-              subst (λ (d : Control). Reaches c.unit.core c.before.variables (c.marks + (left - left')) c.replies job.code d there.0.scene.cells) control_is
-              (subst (λ k. Reaches c.unit.core c.before.variables (c.marks + (left - k)) c.replies job.code there.0.control there.0.scene.cells) marks_are
-              (reaches_on c.unit.core c.before.variables c.marks c.replies job.code job.run h.now h.reaches left there.0 calm there.1 replies_none));
-          spaces = only_keeps old new m n c.before only h.spaces;
+              subst (Reaches c.unit.core c.before.variables c.before.spaces (c.marks + (left - left')) c.replies job.code run') mem_are
+              (subst (λ (d : Control). Reaches c.unit.core c.before.variables c.before.spaces (c.marks + (left - left')) c.replies job.code d there.0.scene.mem)
+              control_is
+              (subst (λ k. Reaches c.unit.core c.before.variables c.before.spaces (c.marks + (left - k)) c.replies job.code there.0.control there.0.scene.mem)
+              marks_are
+              (reaches_on c.unit.core c.before.variables c.before.spaces c.marks c.replies job.code job.run at_first h.reaches left there.0 calm there.1
+              replies_none)));
         };
     still =
-        subst (λ (d : Control). IsStill job.code d there.0.scene.cells) control_is
-        (still_there c.unit.core c.before.variables c.marks c.replies job.code job.run h.now h.reaches left there.0 calm there.1 replies_none);
+        subst (IsStill job.code run') mem_are
+        (subst (λ (d : Control). IsStill job.code d there.0.scene.mem) control_is
+        (still_there c.unit.core c.before.variables c.before.spaces c.marks c.replies job.code job.run at_first h.reaches left there.0 calm there.1
+        replies_none));
   }
 
   paused : (w : World) → (halts.Marked ≡ halt) ⊎ ((q : Request) × (halts.Asks q ≡ halt)) → left' ≡ w.marks → RunsFor kinds new n (at_run job run') (spent left w c)
@@ -147,21 +158,23 @@ module _ (kinds : List Kind) (old new : Pages) (m n : MemoryData) (job : Job) (c
       by (inl is) = subst IsPaused (is ∙ sym how) tt
       by (inr (q, is)) = subst IsPaused (is ∙ sym how) tt
 
-  over : (w : World) → (world_of (ending c left)).packets ≡ w.packets → Left kinds c.unit.core.inserted new n (store_in c w)
+  over : (w : World) → world_of (ending c left) ≡ w → Left kinds c.unit.core.inserted new n (store_in w)
   over w is = record {
-    cells = there.0.scene.cells;
+    cells = there.0.scene.mem.cells;
     holds = so.0;
     variables =
-        subst (λ slots. HasBehind kinds c.unit.core.inserted slots there.0.scene.cells) is (variables_there kinds old m job c h left there.0 there.1);
+        subst (λ (u : World). HasBehind kinds c.unit.core.inserted u.packets there.0.scene.mem.cells) is
+        (variables_there kinds old m job c h left there.0 there.1);
     spaces =
-        let s = only_keeps old new m n c.before only h.spaces in record { spaces = s.spaces; last = s.last; names = s.names };
+        subst (λ (u : World). HasSpaces u.spaces (mem_of (memory_heads n) there.0.scene.mem.cells)) is
+        (subst (HasSpaces (world_of (ending c left)).spaces) mem_are (shown_spaces job.code (ending c left) there.0 shown));
   }
 
   pub rests_for : RestsFor kinds new n (at_run job run') left left' halt c (ending c left)
-  rests_for = by (ending c left) shown (λ w e. over w (ap (λ (u : World). u.packets) e)) refl
+  rests_for = by (ending c left) shown over refl
     where
       by : (e : Ending) → Shows job.code e there.0
-          → ((w : World) → world_of (ending c left) ≡ w → Left kinds c.unit.core.inserted new n (store_in c w)) → ending c left ≡ e
+          → ((w : World) → world_of (ending c left) ≡ w → Left kinds c.unit.core.inserted new n (store_in w)) → ending c left ≡ e
           → RestsFor kinds new n (at_run job run') left left' halt c e
       by (Ended w) s out is = (sym how ∙ s.how, out w (ap world_of is))
       by (Stopped stop w) s out is = (sym how ∙ s.how, out w (ap world_of is))
@@ -186,34 +199,35 @@ asked_is (Refused stop) some = absurd (cc some)
 -- a job that got a reply
 pub takes_reply : (kinds : List Kind) (old new : Pages) (m n : MemoryData) (job : Job) (c : Command) (q : Request) (reply : Reply) (run' : Control)
     → ReachesFor kinds old m job c → job.run.waits ≡ Asked q → run' ≡ answered q reply job.run.position
-    → ((cells : Cells) → HoldsAll old m cells → HoldsAll new n cells) → OnlyVariables old new m n
+    → ((cells : Cells) → HoldsAll old m cells → HoldsAll new n cells) → memory_heads n ≡ memory_heads m
     → ReachesFor kinds new n (at_run job run') (with_reply reply c)
-takes_reply kinds old new m n job c q reply run' h asks is kept only = record {
+takes_reply kinds old new m n job c q reply run' h asks is kept heads = record {
   unit = h.unit;
   kinds_are = h.kinds_are;
   now = h.now;
   holds = kept h.now h.holds;
   reaches =
-      subst (λ (d : Control). Reaches c.unit.core c.before.variables c.marks (c.replies ++ reply ∷ []) job.code d h.now) (sym is)
-      (reaches_reply c.unit.core c.before.variables c.marks c.replies job.code job.run h.now h.reaches q reply asks);
-  spaces = only_keeps old new m n c.before only h.spaces;
+      subst (λ (hs : Heads). Reaches c.unit.core c.before.variables c.before.spaces c.marks (c.replies ++ reply ∷ []) job.code run' (mem_of hs h.now)) (sym heads)
+      (subst (λ (d : Control). Reaches c.unit.core c.before.variables c.before.spaces c.marks (c.replies ++ reply ∷ []) job.code d (mem_of (memory_heads m) h.now))
+      (sym is)
+      (reaches_reply c.unit.core c.before.variables c.before.spaces c.marks c.replies job.code job.run (mem_of (memory_heads m) h.now) h.reaches q reply asks));
 }
 
 -- a job at its start
 pub starts : (old new : Pages) (m n : MemoryData) (unit : Compiled) (code : Program) (run : Control) (store : Store) → Behaves unit.core code
     → Keeps (packet_kinds unit.core.packets) old m store → run ≡ start code
-    → ((cells : Cells) → HoldsAll old m cells → CanBeMade code cells → HoldsAll new n (made code cells)) → OnlyVariables old new m n
+    → ((cells : Cells) → HoldsAll old m cells → CanBeMade code cells → HoldsAll new n (made code cells)) → memory_heads n ≡ memory_heads m
     → ReachesFor (packet_kinds unit.core.packets) new n (record { unit = unit; code = code; run = run }) (starting unit store)
-starts old new m n unit code run store b h is put only =
-    let packets = subst (λ ps. HasVariables Packets (packet_kinds ps) store.variables h.variables.cells) (sym b.packets) h.variables.packets in
+starts old new m n unit code run store b h is put heads =
+    let packets = subst (λ ps. HasVariables Packets (packet_kinds ps) store.variables h.cells) (sym b.packets) h.packets in
     record {
       unit = refl;
       kinds_are = refl;
-      now = made code h.variables.cells;
+      now = made code h.cells;
       holds =
-          put h.variables.cells h.variables.holds (can_be_made code store.variables h.variables.cells packets h.variables.command);
+          put h.cells h.holds (can_be_made code store.variables store.spaces (memory_heads m) h.cells packets h.spaces h.command);
       reaches =
-          subst (λ (d : Control). Reaches unit.core store.variables 0 [] code d (made code h.variables.cells)) (sym is)
-          (begins code store.variables h.variables.cells packets h.variables.command unit.core b);
-      spaces = only_keeps old new m n store only h.spaces;
+          subst (λ (hs : Heads). Reaches unit.core store.variables store.spaces 0 [] code run (mem_of hs (made code h.cells))) (sym heads)
+          (subst (λ (d : Control). Reaches unit.core store.variables store.spaces 0 [] code d (mem_of (memory_heads m) (made code h.cells))) (sym is)
+          (begins code store.variables store.spaces (memory_heads m) h.cells packets h.spaces h.command unit.core b));
     }

@@ -25,8 +25,8 @@ AsksAs q (Over r) = q ≡ asked_by r.how
 AsksAs q Lost = Unit {0}
 
 after_asks : (a : After) (d : Control) (s : Scene) → AsksAs None (after_stage a d s)
-after_asks (To c cells) d s = tt
-after_asks (Asks c q cells) d s = tt
+after_asks (To c m) d s = tt
+after_asks (Asks c q m) d s = tt
 after_asks (Stops stop) d s = refl
 after_asks Unsaid d s = tt
 
@@ -35,7 +35,7 @@ mark_asks zero a d s = refl
 mark_asks (suc n) a d s = after_asks a d (record s { marks = n })
 
 move_asks : (m : Move) (d : Control) (s : Scene) → AsksAs None (move_stage m d s)
-move_asks (Goes c cells) d s = tt
+move_asks (Goes c m) d s = tt
 move_asks (Spends a) d s = mark_asks s.marks a d s
 move_asks (Halts stop) d s = refl
 move_asks (Refuses stop c) d s = tt
@@ -44,8 +44,8 @@ move_asks Unknown d s = tt
 move_asks Stuck d s = tt
 
 stage_asks : (p : Program) (w : Waits) (c : Position) (s : Scene) → AsksAs (asked w) (stage_at w p c s)
-stage_asks p Nothing c s = move_asks (step p c s.cells) (free c) s
-stage_asks p (Given r) c s = move_asks (takes_reply (instr_of (slice_get p.lines c.pc)) r c s.cells) (given c r) s
+stage_asks p Nothing c s = move_asks (step p c s.mem) (free c) s
+stage_asks p (Given r) c s = move_asks (takes_reply (instr_of (slice_get p.lines c.pc)) r c s.mem) (given c r) s
 stage_asks p (Asked q) c s = by s.replies
   where
     by : (rs : List Reply) → AsksAs (Some q) (reply_stage rs q c s)
@@ -60,8 +60,8 @@ StaysAs (Over r) c s st = IsPaused r.how → st ≡ Over (rest_at r.how c (bare 
 StaysAs Lost c s st = Unit {0}
 
 after_stays : (n : ℕ) (a : After) (d : Control) (s : Scene) (st : Stage) → StaysAs (after_stage a d (record s { marks = n })) d s st
-after_stays n (To c cells) d s st = tt
-after_stays n (Asks c q cells) d s st = tt
+after_stays n (To c m) d s st = tt
+after_stays n (Asks c q m) d s st = tt
 after_stays n (Stops stop) d s st = λ paused. absurd paused
 after_stays n Unsaid d s st = tt
 
@@ -70,7 +70,7 @@ mark_stays zero a d s = λ paused. refl
 mark_stays (suc n) a d s = after_stays n a d s (mark_stage 0 a d (bare s))
 
 move_stays : (m : Move) (d : Control) (s : Scene) → StaysAs (move_stage m d s) d s (move_stage m d (bare s))
-move_stays (Goes c cells) d s = tt
+move_stays (Goes c m) d s = tt
 move_stays (Spends a) d s = mark_stays s.marks a d s
 move_stays (Halts stop) d s = λ paused. absurd paused
 move_stays (Refuses stop c) d s = tt
@@ -79,8 +79,8 @@ move_stays Unknown d s = tt
 move_stays Stuck d s = tt
 
 stage_stays : (p : Program) (w : Waits) (c : Position) (s : Scene) → StaysAs (stage_at w p c s) (record { position = c; waits = w }) s (stage_at w p c (bare s))
-stage_stays p Nothing c s = move_stays (step p c s.cells) (free c) s
-stage_stays p (Given r) c s = move_stays (takes_reply (instr_of (slice_get p.lines c.pc)) r c s.cells) (given c r) s
+stage_stays p Nothing c s = move_stays (step p c s.mem) (free c) s
+stage_stays p (Given r) c s = move_stays (takes_reply (instr_of (slice_get p.lines c.pc)) r c s.mem) (given c r) s
 stage_stays p (Asked q) c s = by s.replies
   where
     by : (rs : List Reply) → StaysAs (reply_stage rs q c s) (asking c q) s (reply_stage [] q c (bare s))
@@ -116,13 +116,13 @@ module _ (p : Program) where
 
   -- a run that came to rest with these replies none of which are left
   pub still : (j : ℕ) (c : Control) (s : Scene) (r : Rest) → IsPaused r.how ⊎ (s.marks ≡ 0) → exec p j c s ≡ Some r → IsPaused r.how ⊎ (r.scene ≡ bare r.scene)
-      → IsStill p r.control r.scene.cells
+      → IsStill p r.control r.scene.mem
   still j c s r calm e (inl paused) =
       let f = last_step j c s r calm e in
       record {
         rest = rest_at r.how r.control (bare r.scene);
         rests = one_step r.control (bare r.scene) (rest_at r.how r.control (bare r.scene)) (stays_there r.control r.scene r f paused);
-        cells_are = refl;
+        mem_is = refl;
         asks = asks_there r.control r.scene r f;
       }
   still j c s r calm e (inr none) =
@@ -130,6 +130,6 @@ module _ (p : Program) where
       record {
         rest = r;
         rests = subst (λ (t : Scene). Rests p r.control t r) none (one_step r.control r.scene r f);
-        cells_are = refl;
+        mem_is = refl;
         asks = asks_there r.control r.scene r f;
       }

@@ -4,11 +4,12 @@ use Rattle.eu_base.specs.declared.address.Area.TheVariants.{Packets}
 use Rattle.eu_base.specs.declared.request.Request.{Request}
 use Rattle.eu_base.specs.declared.request.Reply.{Reply}
 use Rattle.eu_base.specs.Room.{cells_fit}
-use Rattle.eu_base.specs.Cells.{Free, Cells, packet_cell}
+use Rattle.eu_base.specs.Cells.{Free, packet_cell}
+use Rattle.eu_base.specs.DataSpaces.{Spaces}
 use Rattle.code_form.specs.declared.halt.Halt.{Halt}
 use Rattle.code_form.specs.declared.halt.Halt.TheVariants as halts
 use Rattle.code_form.specs.Program.{Program, kinds_in_packets}
-use Rattle.code_form.specs.Machine.{Control, Rest, start}
+use Rattle.code_form.specs.Machine.{Control, Mem, Rest, start}
 use Rattle.code_form.specs.Runs.{Rests, Stands, asked}
 use Rattle.place_gen.specs.Correct.{Image, HasSlots}
 use Rattle.code_gen.specs.Correct.{Behaves}
@@ -22,22 +23,23 @@ asked_by (halts.Asks q) = Some q
 asked_by _ = None
 
 -- without a mark more the run stays where it is
-pub record IsStill (code : Program) (c : Control) (cells : Cells) : Type 0 where
+pub record IsStill (code : Program) (c : Control) (mem : Mem) : Type 0 where
   pub rest : Rest
-  pub rests : Rests code c (record { cells = cells; marks = 0; replies = [] }) rest
-  pub cells_are : rest.scene.cells ≡ cells
+  pub rests : Rests code c (record { mem = mem; marks = 0; replies = [] }) rest
+  pub mem_is : rest.scene.mem ≡ mem
   pub asks : asked c.waits ≡ asked_by rest.how
 
--- Code does what a command does that starts with these variables of packets. From the cells in which the command's variables were made, with
--- the marks that were spent and the replies that were given, it stands here, and it goes on as the command does. Where the variables of packets
--- have no room with those of the packet that is inserted, these were not made.
-pub record Reaches (core : Core) (variables : List Slot) (spent : ℕ) (replies : List Reply) (code : Program) (c : Control) (now : Cells) : Type 0 where
+-- Code does what a command does that starts with these variables of packets and these data spaces. From the memory in which the command's
+-- variables were made, with the marks that were spent and the replies that were given, it stands here, and it goes on as the command does. Where
+-- the variables of packets have no room with those of the packet that is inserted, these were not made.
+pub record Reaches (core : Core) (variables : List Slot) (spaces : Spaces) (spent : ℕ) (replies : List Reply) (code : Program) (c : Control) (now : Mem) :
+    Type 0 where
   pub behaves : Behaves core code
-  pub first : Cells
-  pub has : HasSlots code (blanks (start_kinds core)) (variables ++ blanks core.inserted) first
-  pub front : Image Packets variables first
-  pub bare : cells_fit (length (kinds_in_packets code)) ≡ false → (x : ℕ) → length variables ≤ x → first (packet_cell x) ≡ Free
+  pub first : Mem
+  pub has : HasSlots code (blanks (start_kinds core)) (variables ++ blanks core.inserted) spaces first
+  pub front : Image Packets variables first.cells
+  pub bare : cells_fit (length (kinds_in_packets code)) ≡ false → (x : ℕ) → length variables ≤ x → first.cells (packet_cell x) ≡ Free
   pub stands : Stands code (start code) first spent replies c now
   pub comes : (marks : ℕ) (more : List Reply) (last : Rest)
-      → Rests code (start code) (record { cells = first; marks = spent + marks; replies = replies ++ more }) last
-      → Rests code c (record { cells = now; marks = marks; replies = more }) last
+      → Rests code (start code) (record { mem = first; marks = spent + marks; replies = replies ++ more }) last
+      → Rests code c (record { mem = now; marks = marks; replies = more }) last

@@ -1,39 +1,28 @@
 -- What it means that a job, over the memory of its task, does what a command of the source machine does, and what a memory keeps.
-use Rattle.std.specs.Prelude.{◌≡◌, ℕ, ◌≤◌, false, List, [], ◌∷◌, ◌++◌, length, take}
+use Rattle.std.specs.Prelude.{◌≡◌, ℕ, ◌≤◌, false, List, ◌++◌, length, take}
 use Rattle.eu_base.specs.declared.value.Kind.{Kind}
 use Rattle.eu_base.specs.declared.address.Area.TheVariants.{Packets}
 use Rattle.eu_base.specs.Room.{cells_fit}
 use Rattle.eu_base.specs.Cells.{Free, Cells, run_cell, packet_cell}
+use Rattle.eu_base.specs.DataSpaces.{Spaces}
 use Rattle.cell_kinds.specs.Kinds.{packet_kinds}
 use Rattle.page_pool.specs.Pool.{Pages}
-use Rattle.data_space.specs.Data.{SpaceData}
-use Rattle.space_memory.specs.Memories.{MemoryData, HoldsAll}
+use Rattle.space_memory.specs.Memories.{MemoryData, HoldsAll, memory_heads}
 use Rattle.code_form.specs.declared.halt.Halt.{Halt}
 use Rattle.code_form.specs.declared.halt.Halt.TheVariants as halts
 use Rattle.code_form.specs.Valid.{Fits}
-use Rattle.place_gen.specs.Correct.{Image, HasVariables}
+use Rattle.zero_state.specs.Stepping.{mem_of}
+use Rattle.place_gen.specs.Correct.{Image, HasVariables, HasSpaces}
 use Rattle.code_gen.specs.Correct.{Behaves}
 use Rattle.elan_types.specs.Eval.{Slot}
 use Rattle.elan_types.specs.Command.{Ending, Ended, Stopped, OutOfMarks, Asks}
 use Rattle.source_machine.specs.Below.packet_store.specs.Units.{IsUnit}
-use Rattle.source_texts.specs.Spaces.{Space, HoldsSpace}
 use Rattle.source_machine.specs.Stores.{Store}
 use Rattle.source_machine.specs.Tasks.{Command, store_in, spent}
 use Rattle.task_job.specs.Runs.{IsStill, Reaches}
 use Rattle.task_job.specs.declared.job.Job.{Job}
 
 -- ---- what a task keeps
-
--- spaces under the same numbers, each in its pages
-pub data HoldSpaces (pages : Pages) : List (ℕ × SpaceData) → List (ℕ × Space) → Type 0 where
-  none : HoldSpaces pages [] []
-  one : {n : ℕ} {paged : SpaceData} {space : Space} {others : List (ℕ × SpaceData)} {rest : List (ℕ × Space)} → HoldsSpace pages paged space
-      → HoldSpaces pages others rest → HoldSpaces pages ((n, paged) ∷ others) ((n, space) ∷ rest)
-
-pub record KeepsSpaces (pages : Pages) (memory : MemoryData) (store : Store) : Type 0 where
-  pub spaces : HoldSpaces pages memory.spaces store.spaces
-  pub last : memory.last ≡ store.last
-  pub names : memory.names ≡ store.names
 
 -- The variables of packets, which have these kinds, stand in their cells, behind them those of a packet that is inserted, and nothing is
 -- known of other cells. Where all together have no room, those of the packets stand there alone.
@@ -42,23 +31,24 @@ pub record HasBehind (kinds inserted : List Kind) (slots : List Slot) (cells : C
   pub front : Image Packets (take (length kinds) slots) cells
   pub bare : cells_fit (length (kinds ++ inserted)) ≡ false → (x : ℕ) → length kinds ≤ x → cells (packet_cell x) ≡ Free
 
--- a task that runs no command has variables of these kinds, and nothing is known of the cells of a command
-pub record KeepsVariables (kinds : List Kind) (pages : Pages) (memory : MemoryData) (slots : List Slot) : Type 0 where
+-- a memory of which these cells are known has these data spaces
+abbrev pub KeepsSpaces : MemoryData → Spaces → Cells → Type 0
+KeepsSpaces memory spaces cells = HasSpaces spaces (mem_of (memory_heads memory) cells)
+
+-- a task that runs no command has variables of these kinds and its data spaces, and nothing is known of the cells of a command
+pub record Keeps (kinds : List Kind) (pages : Pages) (memory : MemoryData) (store : Store) : Type 0 where
   pub cells : Cells
   pub holds : HoldsAll pages memory cells
-  pub packets : HasVariables Packets kinds slots cells
+  pub packets : HasVariables Packets kinds store.variables cells
+  pub spaces : KeepsSpaces memory store.spaces cells
   pub command : (x : ℕ) → cells (run_cell x) ≡ Free
-
-pub record Keeps (kinds : List Kind) (pages : Pages) (memory : MemoryData) (store : Store) : Type 0 where
-  pub variables : KeepsVariables kinds pages memory store.variables
-  pub spaces : KeepsSpaces pages memory store
 
 -- what a command leaves that is over; then the cells of the command are cleared
 pub record Left (kinds inserted : List Kind) (pages : Pages) (memory : MemoryData) (store : Store) : Type 0 where
   pub cells : Cells
   pub holds : HoldsAll pages memory cells
   pub variables : HasBehind kinds inserted store.variables cells
-  pub spaces : KeepsSpaces pages memory store
+  pub spaces : KeepsSpaces memory store.spaces cells
 
 pub record Leaves (kinds inserted : List Kind) (pages : Pages) (memory : MemoryData) (store : Store) : Type 0 where
   pub left : Left kinds inserted pages memory store
@@ -72,13 +62,12 @@ pub record ReachesFor (kinds : List Kind) (pages : Pages) (memory : MemoryData) 
   pub kinds_are : packet_kinds c.unit.core.packets ≡ kinds
   pub now : Cells
   pub holds : HoldsAll pages memory now
-  pub reaches : Reaches c.unit.core c.before.variables c.marks c.replies job.code job.run now
-  pub spaces : KeepsSpaces pages memory c.before
+  pub reaches : Reaches c.unit.core c.before.variables c.before.spaces c.marks c.replies job.code job.run (mem_of (memory_heads memory) now)
 
 -- and right before its next mark, its end or its stop
 pub record RunsFor (kinds : List Kind) (pages : Pages) (memory : MemoryData) (job : Job) (c : Command) : Type 0 where
   pub reaches : ReachesFor kinds pages memory job c
-  pub still : IsStill job.code job.run reaches.now
+  pub still : IsStill job.code job.run (mem_of (memory_heads memory) reaches.now)
 
 -- ---- a command that runs fits its code
 
@@ -91,9 +80,9 @@ pub record IsSoundJob (job : Job) : Type 0 where
 
 -- a run came so to rest, as the command does that had so many marks more
 abbrev pub RestsFor : List Kind → Pages → MemoryData → Job → ℕ → ℕ → Halt → Command → Ending → Type 0
-RestsFor kinds pages memory job left left' halt c (Ended w) = (halt ≡ halts.Ended) × Left kinds c.unit.core.inserted pages memory (store_in c w)
+RestsFor kinds pages memory job left left' halt c (Ended w) = (halt ≡ halts.Ended) × Left kinds c.unit.core.inserted pages memory (store_in w)
 RestsFor kinds pages memory job left left' halt c (Stopped stop w) =
-    (halt ≡ halts.Stopped stop) × Left kinds c.unit.core.inserted pages memory (store_in c w)
+    (halt ≡ halts.Stopped stop) × Left kinds c.unit.core.inserted pages memory (store_in w)
 RestsFor kinds pages memory job left left' halt c (OutOfMarks w) =
     (halt ≡ halts.Marked) × (left' ≡ w.marks) × RunsFor kinds pages memory job (spent left w c)
 RestsFor kinds pages memory job left left' halt c (Asks q w) = (halt ≡ halts.Asks q) × (left' ≡ w.marks) × RunsFor kinds pages memory job (spent left w c)

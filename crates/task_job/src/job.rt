@@ -2,12 +2,10 @@
 ghost use Rattle.std.specs.Prelude.{◌≡◌, ◌≤◌, List, IfOk, OnOk, IsSome};
 ghost use Rattle.eu_base.specs.declared.value.Kind.{Kind};
 ghost use Rattle.cell_kinds.specs.Kinds.{packet_kinds};
-ghost use Rattle.page_table.specs.Frames.{Frames, Stands};
 ghost use Rattle.code_form.specs.Runs.{asked};
 ghost use Rattle.code_gen.specs.Correct.{Behaves};
 ghost use Rattle.source_machine.specs.Below.packet_store.specs.Units.{IsUnit};
-ghost use Rattle.space_memory.specs.Memories.{roots};
-ghost use Rattle.space_memory.specs.Changes.{OnlyVariables};
+ghost use Rattle.space_memory.specs.Memories.{roots, StandsWhole, MemoryFrames};
 ghost use Rattle.source_machine.specs.Stores.{Store};
 ghost use Rattle.source_machine.specs.Tasks.{Command, ending, starting, with_reply};
 ghost use Rattle.task_job.specs.Standing.{Keeps, ReachesFor, RunsFor, RestsFor, IsSoundJob};
@@ -40,12 +38,12 @@ impl Job {
     ) -> Result<Job, NoMemory>
         requires unit { IsUnit unit }
         requires behaves { Behaves unit.core code }
-        requires agree { Stands pool.old (roots memory.old) 0 }
+        requires agree { StandsWhole pool.old (roots memory.old) }
         ensures starts { IfOk result (λ job. (store : Store) → Keeps (packet_kinds unit.core.packets) pool.old memory.old store →
             RunsFor (packet_kinds unit.core.packets) pool.new memory.new job (starting unit store)) }
         ensures sound { IfOk result (λ job. IsSoundJob job) }
-        ensures rest { OnlyVariables pool.old pool.new memory.old memory.new }
-        ensures frames { Frames pool.old pool.new (roots memory.old) (roots memory.new) }
+        ensures stands { StandsWhole pool.new (roots memory.new) }
+        ensures frames { MemoryFrames pool.old pool.new (roots memory.old) (roots memory.new) }
     {
         match start_over(alloc, &code, memory, pool) {
             Ok(run) => Job { unit, code, run }.settle(memory, pool),
@@ -60,12 +58,12 @@ impl Job {
     // Goes on to right before its first mark.
     fn settle(mut self, memory: &mut SpaceMemory, pool: &mut Pool) -> Result<Job, NoMemory>
         requires sound { IsSoundJob self }
-        requires agree { Stands pool.old (roots memory.old) 0 }
+        requires agree { StandsWhole pool.old (roots memory.old) }
         ensures settled { IfOk result (λ job. (kinds : List Kind) (c : Command) → ReachesFor kinds pool.old memory.old self c →
             RunsFor kinds pool.new memory.new job c) }
         ensures sound { IfOk result (λ job. IsSoundJob job) }
-        ensures rest { OnlyVariables pool.old pool.new memory.old memory.new }
-        ensures frames { Frames pool.old pool.new (roots memory.old) (roots memory.new) }
+        ensures stands { StandsWhole pool.new (roots memory.new) }
+        ensures frames { MemoryFrames pool.old pool.new (roots memory.old) (roots memory.new) }
     {
         let mut none = 0;
         match go_over(&self.code, &mut self.run, memory, pool, &mut none) {
@@ -93,14 +91,14 @@ impl Job {
         marks: &mut u32,
     ) -> Result<Halt, NoMemory>
         requires sound { IsSoundJob self.old }
-        requires agree { Stands pool.old (roots memory.old) 0 }
+        requires agree { StandsWhole pool.old (roots memory.old) }
         ensures rests { IfOk result (λ halt. (kinds : List Kind) (c : Command) → RunsFor kinds pool.old memory.old self.old c →
             RestsFor kinds pool.new memory.new self.new marks.old marks.new halt c (ending c marks.old)) }
         ensures marks { OnOk result (marks.new ≤ marks.old) }
         ensures same { self.new ≡ record self.old { run = self.new.run } }
         ensures sound { OnOk result (IsSoundJob self.new) }
-        ensures rest { OnlyVariables pool.old pool.new memory.old memory.new }
-        ensures frames { Frames pool.old pool.new (roots memory.old) (roots memory.new) }
+        ensures stands { StandsWhole pool.new (roots memory.new) }
+        ensures frames { MemoryFrames pool.old pool.new (roots memory.old) (roots memory.new) }
     {
         let halt = go_over(&self.code, &mut self.run, memory, pool, marks)?;
         Ok(halt)
@@ -115,12 +113,12 @@ impl Job {
     ) -> Result<(), NoMemory>
         requires sound { IsSoundJob self.old }
         requires asks { IsSome (asked self.old.run.waits) }
-        requires agree { Stands pool.old (roots memory.old) 0 }
+        requires agree { StandsWhole pool.old (roots memory.old) }
         ensures answered { OnOk result ((kinds : List Kind) (c : Command) → RunsFor kinds pool.old memory.old self.old c →
             RunsFor kinds pool.new memory.new self.new (with_reply reply c)) }
         ensures sound { OnOk result (IsSoundJob self.new) }
-        ensures rest { OnlyVariables pool.old pool.new memory.old memory.new }
-        ensures frames { Frames pool.old pool.new (roots memory.old) (roots memory.new) }
+        ensures stands { StandsWhole pool.new (roots memory.new) }
+        ensures frames { MemoryFrames pool.old pool.new (roots memory.old) (roots memory.new) }
     {
         answer_over(&self.code, &mut self.run, memory, pool, reply)?;
         let mut none = 0;

@@ -2,15 +2,13 @@
 ghost use Rattle.std.specs.Prelude.{◌≡◌, ◌≤◌, IfOk, OnOk, IsSome};
 ghost use Rattle.eu_base.specs.declared.request.Request.{Request};
 ghost use Rattle.eu_base.specs.Cells.{Cells};
-ghost use Rattle.page_table.specs.Frames.{Frames, Stands};
 ghost use Rattle.code_form.specs.declared.waits.Waits.TheVariants as waits;
 ghost use Rattle.code_form.specs.Machine.{Rest, start, answered, made, CanBeMade};
 ghost use Rattle.code_form.specs.Valid.{Fits};
 ghost use Rattle.code_form.specs.Runs.{Rests, asked};
-ghost use Rattle.zero_state.specs.Stepping.{scene_of};
+ghost use Rattle.zero_state.specs.Stepping.{mem_of, scene_of};
 ghost use Rattle.zero_machine.specs.Running.{RestsSo};
-ghost use Rattle.space_memory.specs.Memories.{roots, HoldsAll};
-ghost use Rattle.space_memory.specs.Changes.{OnlyVariables};
+ghost use Rattle.space_memory.specs.Memories.{roots, HoldsAll, memory_heads, StandsWhole, MemoryFrames};
 
 use code_form::{Code, Halt};
 use eu_base::{MemFault, NoMemory, Reply};
@@ -26,13 +24,14 @@ pub(crate) fn start_over(
     memory: &mut SpaceMemory,
     pool: &mut Pool,
 ) -> Result<TaskRun, NoMemory>
-    requires agree { Stands pool.old (roots memory.old) 0 }
+    requires agree { StandsWhole pool.old (roots memory.old) }
     ensures run { IfOk result (λ run. run ≡ start code.now) }
     ensures fits { IfOk result (λ run. Fits code.now run) }
     ensures made { OnOk result ((cells : Cells) → HoldsAll pool.old memory.old cells → CanBeMade code.now cells →
         HoldsAll pool.new memory.new (made code.now cells)) }
-    ensures rest { OnlyVariables pool.old pool.new memory.old memory.new }
-    ensures frames { Frames pool.old pool.new (roots memory.old) (roots memory.new) }
+    ensures heads { OnOk result (memory_heads memory.new ≡ memory_heads memory.old) }
+    ensures stands { StandsWhole pool.new (roots memory.new) }
+    ensures frames { MemoryFrames pool.old pool.new (roots memory.old) (roots memory.new) }
 {
     let mut lent = memory.over(pool);
     match TaskRun::start(alloc, code, &mut lent) {
@@ -52,13 +51,14 @@ pub(crate) fn go_over(
     marks: &mut u32,
 ) -> Result<Halt, NoMemory>
     requires fits { Fits code.now run.old }
-    requires agree { Stands pool.old (roots memory.old) 0 }
+    requires agree { StandsWhole pool.old (roots memory.old) }
     ensures rests { IfOk result (λ halt. (cells : Cells) (r : Rest) → HoldsAll pool.old memory.old cells →
-        Rests code.now run.old (scene_of cells marks.old) r → RestsSo (HoldsAll pool.new memory.new) halt run.new marks.new r) }
+        Rests code.now run.old (scene_of (mem_of (memory_heads memory.old) cells) marks.old) r →
+        RestsSo (HoldsAll pool.new memory.new) (memory_heads memory.new) halt run.new marks.new r) }
     ensures marks { OnOk result (marks.new ≤ marks.old) }
     ensures fits { OnOk result (Fits code.now run.new) }
-    ensures rest { OnlyVariables pool.old pool.new memory.old memory.new }
-    ensures frames { Frames pool.old pool.new (roots memory.old) (roots memory.new) }
+    ensures stands { StandsWhole pool.new (roots memory.new) }
+    ensures frames { MemoryFrames pool.old pool.new (roots memory.old) (roots memory.new) }
 {
     let mut lent = memory.over(pool);
     match run.go(code, &mut lent, marks) {
@@ -79,13 +79,14 @@ pub(crate) fn answer_over(
 ) -> Result<(), NoMemory>
     requires fits { Fits code.now run.old }
     requires asks { IsSome (asked run.old.waits) }
-    requires agree { Stands pool.old (roots memory.old) 0 }
+    requires agree { StandsWhole pool.old (roots memory.old) }
     ensures answered { OnOk result ((request : Request) → run.old.waits ≡ waits.Asked request →
         run.new ≡ answered request reply run.old.position) }
     ensures fits { OnOk result (Fits code.now run.new) }
     ensures kept { (cells : Cells) → HoldsAll pool.old memory.old cells → HoldsAll pool.new memory.new cells }
-    ensures rest { OnlyVariables pool.old pool.new memory.old memory.new }
-    ensures frames { Frames pool.old pool.new (roots memory.old) (roots memory.new) }
+    ensures heads { memory_heads memory.new ≡ memory_heads memory.old }
+    ensures stands { StandsWhole pool.new (roots memory.new) }
+    ensures frames { MemoryFrames pool.old pool.new (roots memory.old) (roots memory.new) }
 {
     let mut lent = memory.over(pool);
     match run.answer(code, &mut lent, reply) {

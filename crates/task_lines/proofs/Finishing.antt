@@ -44,10 +44,10 @@ module _ (read : Env → Bool → List ℕ → Reading) (t : TaskNo) (c : Comman
   pub is_over : (stop : Option Stop) (w : World) (m : Moment) →
       over read t c stop w m ≡ rested_with read (told_by c.unit.shown stop m) t (finished stop t c w m)
   is_over stop w m =
-      let idle = on_system (does t (Idle (store_in c w))) m in
+      let idle = on_system (does t (Idle (store_in w))) m in
       over_cut c.unit.shown stop idle
       ∙ ap (λ (told : Option Stop). rested_with read told t (leaves_by c.unit.shown stop t c idle))
-      (told_same c.unit.shown stop idle m (same_library (place t m.system) (with_doing (Idle (store_in c w))) m.system))
+      (told_same c.unit.shown stop idle m (same_library (place t m.system) (with_doing (Idle (store_in w))) m.system))
 
   pub over_stands : (middle new : Machine) (stop told : Option Stop) (w : World) (m : Moment) →
       (told ≡ told_by c.unit.shown stop m) × StandsAt middle (finished stop t c w m) →

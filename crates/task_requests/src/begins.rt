@@ -2,19 +2,15 @@
 ghost use Rattle.std.specs.Prelude.{◌≡◌, true, None, IfOk};
 ghost use Rattle.task_tree.specs.Tree as tree;
 ghost use Rattle.live_system.specs.Below.packet_store.specs.Library.{started_at};
-ghost use Rattle.live_system.specs.Below.source_machine.specs.Stores.{is_name};
 ghost use Rattle.live_system.specs.Below.source_machine.specs.Systems.{Moment, packets};
 ghost use Rattle.live_system.specs.Below.source_machine.specs.Serving as spec;
 ghost use Rattle.live_system.specs.Machines.{StandsAt};
 ghost use Rattle.task_requests.specs.Served.{ServedAs};
 
-use eu_base::{NoMemory, Reply, Stop};
+use eu_base::{NoMemory, Reply, Stop, is_name};
 use live_system::System;
 use std::alloc::Global;
 use task_numbers::TaskNo;
-
-/// How many bytes a name has at most.
-const LONGEST_NAME: usize = 60;
 
 /// A son of a task begins, and runs a start procedure. Where it cannot, the task stops.
 pub(crate) fn begin(
@@ -59,11 +55,4 @@ fn refusal(system: &System, name: &[u8]) -> Option<Stop>
     } else {
         Some(Stop::BadName)
     }
-}
-
-/// Whether a task can have this name.
-fn is_name(name: &[u8]) -> bool
-    ensures { result ≡ is_name name.now }
-{
-    1 <= name.len() && name.len() <= LONGEST_NAME
 }

@@ -5,10 +5,10 @@ ghost use Rattle.eu_base.specs.declared.request.Reply.{Reply};
 ghost use Rattle.code_form.specs.declared.halt.Halt.TheVariants as halts;
 ghost use Rattle.code_form.specs.declared.waits.Waits.TheVariants as waits;
 ghost use Rattle.eu_base.specs.Cells.{Cells, HasFaultCause};
-ghost use Rattle.code_form.specs.Machine.{Control, Rest, start, answered, made, CanBeMade};
+ghost use Rattle.code_form.specs.Machine.{Mem, Control, Rest, start, answered, made, CanBeMade};
 ghost use Rattle.code_form.specs.Valid.{Fits};
 ghost use Rattle.code_form.specs.Runs.{IsPaused, Rests, Stands, asked};
-ghost use Rattle.zero_state.specs.Stepping.{scene_of};
+ghost use Rattle.zero_state.specs.Stepping.{mem_of, scene_of};
 ghost use Rattle.zero_machine.specs.Running.{RestsSo};
 
 use code_form::{Code, Halt, Waits};
@@ -39,6 +39,7 @@ impl TaskRun {
         ensures control { IfOk result (λ command. command ≡ start c.now) }
         ensures fits { IfOk result (λ command. Fits c.now command) }
         ensures made { OnOk result ((cells : Cells) → M.holds m.old cells → CanBeMade c.now cells → M.holds m.new (made c.now cells)) }
+        ensures heads { M.heads m.new ≡ M.heads m.old }
         ensures cause { HasFaultCause (M.faults m.old) (M.faults m.new) result }
         ensures follows { M.follows m.old m.new }
     {
@@ -52,13 +53,13 @@ impl TaskRun {
     /// to hold, and memory then holds the cells of that rest.
     pub fn go<M: Memory>(&mut self, c: &Code, m: &mut M, marks: &mut u32) -> Result<Halt, MemFault>
         requires { Fits c.now self.old }
-        ensures rests { IfOk result (λ halt. (cells : Cells) (r : Rest) → M.holds m.old cells → Rests c.now self.old (scene_of cells marks.old) r →
-            RestsSo (M.holds m.new) halt self.new marks.new r) }
+        ensures rests { IfOk result (λ halt. (cells : Cells) (r : Rest) → M.holds m.old cells → Rests c.now self.old (scene_of (mem_of (M.heads m.old) cells) marks.old) r →
+            RestsSo (M.holds m.new) (M.heads m.new) halt self.new marks.new r) }
         ensures marks { OnOk result (marks.new ≤ marks.old) }
         ensures stands { IfOk result (λ halt. IsPaused halt ⊎ (marks.old ≡ 0) → (cells : Cells) (r : Rest) → M.holds m.old cells →
-            Rests c.now self.old (scene_of cells marks.old) r → (first : Control) (before : Cells) (spent : ℕ) (replies : List Reply) →
-            Stands c.now first before spent replies self.old cells →
-            Stands c.now first before (spent + (marks.old - marks.new)) replies self.new r.scene.cells) }
+            Rests c.now self.old (scene_of (mem_of (M.heads m.old) cells) marks.old) r → (first : Control) (before : Mem) (spent : ℕ) (replies : List Reply) →
+            Stands c.now first before spent replies self.old (mem_of (M.heads m.old) cells) →
+            Stands c.now first before (spent + (marks.old - marks.new)) replies self.new r.scene.mem) }
         ensures asks { IfOk result (λ halt. (request : Request) → halt ≡ halts.Asks request → self.new.waits ≡ waits.Asked request) }
         ensures pays { IfOk result (λ halt. (request : Request) → halt ≡ halts.Asks request → asked self.old.waits ≡ None → marks.new < marks.old) }
         ensures fits { OnOk result (Fits c.now self.new) }
@@ -84,10 +85,11 @@ impl TaskRun {
         requires fits { Fits c.now self.old }
         requires asks { IsSome (asked self.old.waits) }
         ensures answered { OnOk result ((request : Request) → self.old.waits ≡ waits.Asked request → self.new ≡ answered request r self.old.position) }
-        ensures stands { OnOk result ((first : Control) (before cells : Cells) (spent : ℕ) (replies : List Reply) →
-            Stands c.now first before spent replies self.old cells → Stands c.now first before spent (replies ++ r ∷ []) self.new cells) }
+        ensures stands { OnOk result ((first : Control) (before now : Mem) (spent : ℕ) (replies : List Reply) →
+            Stands c.now first before spent replies self.old now → Stands c.now first before spent (replies ++ r ∷ []) self.new now) }
         ensures fits { OnOk result (Fits c.now self.new) }
         ensures kept { (cells : Cells) → M.holds m.old cells → M.holds m.new cells }
+        ensures heads { M.heads m.new ≡ M.heads m.old }
         ensures cause { HasFaultCause (M.faults m.old) (M.faults m.new) result }
         ensures follows { M.follows m.old m.new }
     {

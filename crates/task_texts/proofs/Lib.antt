@@ -1,2 +1,4 @@
 pub mod Seen
+pub mod Numbers
+pub mod Coming
 pub mod Closing

@@ -4,7 +4,7 @@ ghost use Rattle.eu_base.specs.declared.value.Kind.{Kind};
 ghost use Rattle.page_pool.specs.Pool.{Pages};
 ghost use Rattle.space_names.specs.Directory as directory;
 ghost use Rattle.source_texts.specs.Sources.{most_lines};
-ghost use Rattle.live_task.specs.Below.source_machine.specs.Stores.{Store, most_spaces, last_number, entering_refusal};
+ghost use Rattle.live_task.specs.Below.source_machine.specs.Stores.{Store, most_live, last_number, entering_refusal};
 ghost use Rattle.live_task.specs.Below.source_machine.specs.Tasks.{Own, Idle as Idles, Entering as Enters, with_doing};
 ghost use Rattle.live_task.specs.declared.task.Doing.TheVariants.{Idle};
 ghost use Rattle.live_task.specs.Stands.{StandsFor, IsSound};
@@ -39,7 +39,7 @@ fn can_enter(task: &Task, name: &[u8]) -> bool
     ensures can { (kinds : List Kind) (pages : Pages) (own : Own) (store : Store) → own.doing ≡ Idles store →
         entering_refusal name.now store ≡ None → StandsFor kinds pages task.now own → result ≡ true }
     ensures idle { result ≡ true → task.now.doing ≡ Idle }
-    ensures room { result ≡ true → directory.get name.now task.now.memory.names ≡ None → length task.now.memory.spaces < most_spaces }
+    ensures room { result ≡ true → directory.get name.now task.now.memory.names ≡ None → length task.now.memory.spaces < most_live }
     ensures number { result ≡ true → task.now.memory.last < last_number }
 {
     is_idle(task) && entering_refusal(task, name).is_none()

@@ -3,24 +3,21 @@ ghost use Rattle.std.specs.Prelude.{◌≡◌, ◌<◌, ◌&&◌, nat_le, is_non
 ghost use Rattle.eu_base.specs.declared.value.Kind.{Kind};
 ghost use Rattle.page_pool.specs.Pool.{Pages};
 ghost use Rattle.space_names.specs.Directory as directory;
-ghost use Rattle.live_task.specs.Below.source_machine.specs.Stores.{is_name, most_spaces, last_number, entering_refusal};
+ghost use Rattle.live_task.specs.Below.source_machine.specs.Stores.{most_live, last_number, entering_refusal};
 ghost use Rattle.live_task.specs.Below.source_machine.specs.Tasks.{Own, now};
 ghost use Rattle.live_task.specs.Stands.{StandsFor};
 
-use eu_base::Stop;
+use eu_base::{Stop, is_name};
 use live_spaces::MOST_LIVE;
 use live_task::Task;
 use space_memory::SpaceMemory;
-
-// A name has at most so many bytes.
-const LONGEST_NAME: usize = 60;
 
 /// Why no text can be entered under a name, the first reason that holds: it is no name, there is no room for a space more, or no number
 /// is left for it. A task that is not idle is asked the same of what it keeps.
 pub fn entering_refusal(task: &Task, name: &[u8]) -> Option<Stop>
     ensures refusal { (kinds : List Kind) (pages : Pages) (own : Own) → StandsFor kinds pages task.now own →
         result ≡ entering_refusal name.now (now own.doing) }
-    ensures room { result ≡ None → directory.get name.now task.now.memory.names ≡ None → length task.now.memory.spaces < most_spaces }
+    ensures room { result ≡ None → directory.get name.now task.now.memory.names ≡ None → length task.now.memory.spaces < most_live }
     ensures number { result ≡ None → task.now.memory.last < last_number }
 {
     if !is_name(name) {
@@ -35,16 +32,9 @@ pub fn entering_refusal(task: &Task, name: &[u8]) -> Option<Stop>
     None
 }
 
-// Whether these bytes can be a name.
-fn is_name(name: &[u8]) -> bool
-    ensures { result ≡ is_name name.now }
-{
-    !name.is_empty() && name.len() <= LONGEST_NAME
-}
-
 // Whether there is neither room for one more space nor a space under a name, which would go.
 fn is_space_wanting(memory: &SpaceMemory, name: &[u8]) -> bool
-    ensures { result ≡ (nat_le most_spaces (length memory.now.spaces) && is_none (directory.get name.now memory.now.names)) }
+    ensures { result ≡ (nat_le most_live (length memory.now.spaces) && is_none (directory.get name.now memory.now.names)) }
 {
     memory.count() >= MOST_LIVE && memory.named(name).is_none()
 }

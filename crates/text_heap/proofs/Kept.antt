@@ -1,17 +1,18 @@
 -- What is known of the cells of an area, as its space changes.
 use Rattle.std.proofs.Common.{◌≡◌, ◌≢◌, ◌⊎◌, ℕ, ◌+◌, ◌*◌, ◌/◌, ◌%◌, min, ◌<◌, ◌≤◌, Bool, true, false, cond, ◌==◌, List, [], length, Option, Some, None, inl, inr}
 use Rattle.std.proofs.Common.{refl, sym, ap, ◌∙◌, subst, arith, ⊎_elim}
+use Rattle.std.proofs.lemmas.Bool.{cases_lt}
 use Rattle.std.proofs.lemmas.Bool.Decides.{eqb_tells}
 use Rattle.std.specs.Option.{IsSome}
 use Rattle.std.specs.Prelude.{◌&&◌}
 use Rattle.eu_base.specs.declared.address.Area.{Area}
-use Rattle.eu_base.specs.declared.address.Area.TheVariants.{Run, Packets}
 use Rattle.eu_base.specs.declared.address.Addr.{Addr}
 use Rattle.eu_base.specs.declared.set.Set.{Set}
 use Rattle.eu_base.specs.declared.set.Set.TheVariants.{Done, HeapFull}
 use Rattle.eu_base.specs.Spaces.{Content, IsKept}
 use Rattle.eu_base.specs.Room.{most_blocks}
 use Rattle.eu_base.specs.Cells.{Cell, Free, Word, Letters, Cells, IsCell, area_cell, same_area, written, cell_blocks, area_blocks, HasText, Puts, Within}
+use Rattle.eu_base.proofs.Places.{same_area_self}
 use Rattle.cell_layout.specs.Layout.{cell_in, HoldsIn, IsKeptBut}
 use Rattle.cell_layout.proofs.Numbers.{same_cell}
 use Rattle.text_blocks.specs.Blocks.{block_at, blocks_of, text_in, chain_in, chain, gather, length_in, first_in, times}
@@ -50,6 +51,14 @@ other_held area content cells at x other h = record {
   where
     same : (c : ℕ) → written cells at x (area_cell area c) ≡ cells (area_cell area c)
     same c = ap (λ b. cond (b && c == at.cell) x (cells (area_cell area c))) other
+
+-- what is known of the cells of an area, where the same is said of those of another
+pub moved_held : (area other : Area) (content : Content) (cells others : Cells) → ((c : ℕ) → others (area_cell other c) ≡ cells (area_cell area c))
+    → HoldsCells area content cells → HoldsCells other content others
+moved_held area other content cells others same h = record {
+  words = λ c n low is. h.words c n low (sym (same c) ∙ is);
+  texts = subst (Holds content) (λ i c. ap text_of (sym (same c)) i) h.texts;
+}
 
 -- of a space of zeros nothing need be known
 pub zeros_held : (area : Area) (content : Content) → ((n : ℕ) → content n ≡ 0) → HoldsCells area content (λ _. Free)
@@ -99,8 +108,7 @@ fewer_held area content cells fewer h within = fewer_there area content cells fe
 -- what is known of a cell that was written, and of another
 written_at : (area : Area) (cells : Cells) (at : ℕ) (x : Cell) (c : ℕ)
     → written cells (area_cell area at) x (area_cell area c) ≡ cond (c == at) x (cells (area_cell area c))
-written_at Run cells at x c = refl
-written_at Packets cells at x c = refl
+written_at area cells at x c = ap (λ (b : Bool). cond (b && c == at) x (cells (area_cell area c))) (same_area_self area)
 
 there : (area : Area) (cells : Cells) (at : ℕ) (x : Cell) (c : ℕ) → c ≡ at → written cells (area_cell area at) x (area_cell area c) ≡ x
 there area cells at x c e =
@@ -283,3 +291,72 @@ pub rooms_left : (area : Area) (content : Content) (cells : Cells) (rooms : ℕ)
     → ((texts : Texts) → Holds content texts → rooms + heap.blocks_in texts ≡ most_blocks) → HoldsCells area content cells
     → rooms + area_blocks area cells ≡ most_blocks
 rooms_left area content cells rooms left h = let a = left (texts_of area cells) h.texts in let b = all_blocks area cells in omega (arith, a, b)
+
+-- ---- the first cells of a space got the values that cells hold before anything was stored
+
+-- a cell holds the number 0, or the text ""
+abbrev pub IsBlankCell : Cell → Type 0
+IsBlankCell x = (x ≡ Word 0) ⊎ (x ≡ Letters [])
+
+module _ (area : Area) (before now : Content) (cells after : Cells) (count : ℕ) (few : count ≤ 16384) (h : HoldsCells area before cells)
+    (bare : (c : ℕ) → c < count → cell_blocks (cells (area_cell area c)) ≡ 0) (zero : (c : ℕ) → c < count → cell_in now c ≡ 0)
+    (blank : (c : ℕ) → c < count → IsBlankCell (after (area_cell area c)))
+    (rest : (c : ℕ) → count ≤ c → after (area_cell area c) ≡ cells (area_cell area c)) (kept : IsKeptBut before now 0 count) where
+  block_kept : (j off : ℕ) → off < 32 → now (block_at j + off) ≡ before (block_at j + off)
+  block_kept j off in_it = kept (block_at j + off) (inr (omega (arith, few)))
+
+  cell_kept : (c : ℕ) → count ≤ c → cell_in now c ≡ cell_in before c
+  cell_kept c past = same_cell before now c (λ k in_it. kept (8 * c + k) (inr (omega (arith, past))))
+
+  text_kept : (c : ℕ) → count ≤ c → text_in now c ≡ text_in before c
+  text_kept c past =
+      ap (λ x. gather now (x / 4294967296 % 4096) (min (x % 4294967296) 114688) (blocks_of (min (x % 4294967296) 114688))) (cell_kept c past)
+      ∙ gather_same before now (first_in before c) (length_in before c) (blocks_of (length_in before c)) (λ j among off in_it read. block_kept j off in_it)
+
+  chain_still : (c : ℕ) → count ≤ c → chain_in now c ≡ chain_in before c
+  chain_still c past =
+      ap (λ x. chain now (x / 4294967296 % 4096) (blocks_of (min (x % 4294967296) 114688))) (cell_kept c past)
+      ∙ chain_same before now (first_in before c) (blocks_of (length_in before c)) (λ j among off in_it read. block_kept j off in_it)
+
+  part_kept : (k c : ℕ) (o : Option (List ℕ)) → count ≤ c → part now k c o ≡ part before k c o
+  part_kept k c None past = refl
+  part_kept k c (Some t) past = ap (times k) (chain_still c past)
+
+  none_long : (c : ℕ) → c < count → length_in now c ≡ 0
+  none_long c low = let z = zero c low in omega (arith, z)
+
+  zero_word : (n : ℕ) → Word 0 ≡ Word n → 0 ≡ n
+  zero_word n e = cc
+
+  blank_word : (c n : ℕ) → c < count → after (area_cell area c) ≡ Word n → IsBlankCell (after (area_cell area c)) → cell_in now c ≡ n
+  blank_word c n low is (inl e) = zero c low ∙ zero_word n (sym e ∙ is)
+  blank_word c n low is (inr e) = let f : Letters [] ≡ Word n = sym e ∙ is in let g : ⊥ = cc in absurd g
+
+  blank_text : (c : ℕ) (t : List ℕ) → c < count → text_of (after (area_cell area c)) ≡ Some t → IsBlankCell (after (area_cell area c)) → text_in now c ≡ t
+  blank_text c t low is (inl e) = let f : None ≡ Some t = sym (ap text_of e) ∙ is in let g : ⊥ = cc in absurd g
+  blank_text c t low is (inr e) =
+      ap (λ n. gather now (first_in now c) n (blocks_of n)) (none_long c low) ∙ gather_none now (first_in now c) 0
+      ∙ some_is [] t (sym (ap text_of e) ∙ is)
+
+  blank_part : (k c : ℕ) (o : Option (List ℕ)) → c < count → part now k c o ≡ 0
+  blank_part k c None low = refl
+  blank_part k c (Some t) low = none_there now c k (none_long c low)
+
+  bare_part : (k c : ℕ) → c < count → c < 16384 → part before k c (texts_of area cells c) ≡ 0
+  bare_part k c low under =
+      unpart before (texts_of area cells) h.texts c k (texts_of area cells c) under refl (blocks_same (cells (area_cell area c)) ∙ bare c low)
+
+  pub blank_held : HoldsCells area now after
+  blank_held = record {
+    words = λ c n low is. ⊎_elim (λ under. blank_word c n under is (blank c under))
+        (λ past. cell_kept c past ∙ h.words c n low (sym (rest c past) ∙ is)) (cases_lt c count);
+    texts = record {
+      each = λ c t low is. ⊎_elim (λ under. blank_text c t under is (blank c under))
+          (λ past. text_kept c past ∙ h.texts.each c t low (sym (ap text_of (rest c past)) ∙ is)) (cases_lt c count);
+      sound = λ k under.
+          total_same (λ c. part now k c (texts_of area after c)) (λ c. part before k c (texts_of area cells c)) 16384 (λ c low. ⊎_elim
+          (λ first. blank_part k c (texts_of area after c) first ∙ sym (bare_part k c first low))
+          (λ past. ap (part now k c) (ap text_of (rest c past)) ∙ part_kept k c (texts_of area cells c) past) (cases_lt c count))
+          ∙ h.texts.sound k under ∙ sym (same_used before now k (λ off in_it read. block_kept k off in_it));
+    };
+  }

@@ -57,6 +57,7 @@ blank_so holds forgets empties kinds.Int cells a lt h = h
 blank_so holds forgets empties kinds.Truth cells a lt h = h
 blank_so holds forgets empties kinds.Text cells a lt h = zero_empty holds forgets empties cells a lt h
 blank_so holds forgets empties kinds.Task cells a lt h = h
+blank_so holds forgets empties kinds.Space cells a lt h = h
 
 -- a text in a cell of which nothing was known
 pub new_so : (before between after : Cells → Type 0) → Forgets between → Empties between → Forgets after → (k : ℕ) (t : List ℕ) (set : Set) → k < CELLS

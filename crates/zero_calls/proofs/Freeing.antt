@@ -183,6 +183,7 @@ kind_told kinds.Int x e = word_bare x e
 kind_told kinds.Truth x e = word_bare x e
 kind_told kinds.Text x e = has_text x e
 kind_told kinds.Task x e = word_bare x e
+kind_told kinds.Space x e = word_bare x e
 
 -- one more cell is freed
 module _ (holds : Cells → Type 0) (forgets : Forgets holds) (from k : ℕ) (low : from ≤ k) (cells : Cells) where
@@ -217,6 +218,7 @@ held_text (item.Int z) = refl
 held_text (item.Truth b) = refl
 held_text (item.Text t) = record { text = t; is = refl }
 held_text (item.Task n) = refl
+held_text (item.Space n) = refl
 
 pub text_stands : (at k : ℕ) (values : List Value) (v : Value) (cells : Cells) → Stand at (map held_of values) cells → k < length values
     → v ≡ get_or values k v → HoldsText (is_text (held_of v)) (cells (run_cell (at + k)))
@@ -429,6 +431,7 @@ told (Some (HoldsValue kinds.Int)) = Word 0
 told (Some (HoldsValue kinds.Truth)) = Word 0
 told (Some (HoldsValue kinds.Text)) = Letters []
 told (Some (HoldsValue kinds.Task)) = Word 0
+told (Some (HoldsValue kinds.Space)) = Word 0
 told (Some HoldsPlace) = Word 0
 
 told_is : (k : CellUse) → is_of k (told (Some k)) ≡ true
@@ -436,6 +439,7 @@ told_is (HoldsValue kinds.Int) = refl
 told_is (HoldsValue kinds.Truth) = refl
 told_is (HoldsValue kinds.Text) = refl
 told_is (HoldsValue kinds.Task) = refl
+told_is (HoldsValue kinds.Space) = refl
 told_is HoldsPlace = refl
 
 abbrev pub as_told : List CellUse → ℕ → Cells

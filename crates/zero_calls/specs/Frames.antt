@@ -5,6 +5,7 @@ use Rattle.eu_base.specs.declared.set.Set.TheVariants.{Done, HeapFull}
 use Rattle.eu_base.specs.declared.value.Kind.{Kind}
 use Rattle.eu_base.specs.declared.value.Kind.TheVariants as kinds
 use Rattle.eu_base.specs.Room.{most_blocks}
+use Rattle.eu_base.specs.DataSpaces.{Heads}
 use Rattle.eu_base.specs.Cells.{Cell, Free, Cells, run_cell, freed, cell_blocks, blocks_in, HasText}
 use Rattle.code_form.specs.declared.operand.Operand.{Operand}
 use Rattle.code_form.specs.Program.{CellUse}
@@ -36,6 +37,7 @@ is_text_kind kinds.Int = false
 is_text_kind kinds.Truth = false
 is_text_kind kinds.Text = true
 is_text_kind kinds.Task = false
+is_text_kind kinds.Space = false
 
 -- what follows a spent mark, where nothing is waited for
 abbrev pub paid_stage : After → Position → Scene → Stage
@@ -48,10 +50,10 @@ FreesTo before after us at end until = (from : ℕ) (cells : Cells) (rest : List
     → are_of (us ++ rest) at (until - at) cells ≡ true → after (freed from end cells)
 
 -- a body is entered so with so many of the pending operands, or has no room
-abbrev pub EntersSo : (before after : Cells → Type 0) → (first base : ℕ) → Bool → (body count : ℕ) → List Kind → Position → Control → Next → Type 0
-EntersSo before after first base refines body count variables c c' next = (marks : ℕ) → Steps before after
-    (λ d cells. paid_stage (enters d first base refines body (drop count d.ops) (frame_contents (reverse (take count d.ops)) variables) cells) d
-    (scene_of cells marks))
+abbrev pub EntersSo : (before after : Cells → Type 0) → Heads → (first base : ℕ) → Bool → (body count : ℕ) → List Kind → Position → Control → Next → Type 0
+EntersSo before after heads first base refines body count variables c c' next = (marks : ℕ) → Steps before after heads heads
+    (λ d mem. paid_stage (enters d first base refines body (drop count d.ops) (frame_contents (reverse (take count d.ops)) variables) mem) d
+    (scene_of mem marks))
     c c' marks next
 
 -- what comes back with a result

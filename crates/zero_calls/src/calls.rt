@@ -6,7 +6,7 @@ ghost use Rattle.cell_kinds.specs.Kinds.{all_kinds};
 ghost use Rattle.code_form.specs.declared.instr.Instr.TheVariants as instrs;
 ghost use Rattle.code_form.specs.declared.operand.Operand.{Operand};
 ghost use Rattle.code_form.specs.Program.{Program};
-ghost use Rattle.code_form.specs.Machine.{Move, held_cells, bytes_on, bytes_of, call_move, refer_move, on_result, is_framed, back_into, out_to, stage};
+ghost use Rattle.code_form.specs.Machine.{Mem, Move, held_cells, bytes_on, bytes_of, call_move, refer_move, on_result, is_framed, back_into, out_to, stage};
 ghost use Rattle.zero_state.specs.Finds.{TopResult, IsCallable, IsInside, is_in_proc};
 ghost use Rattle.zero_state.specs.Stacked.{linked};
 ghost use Rattle.zero_state.specs.Stepping.{position_of, control_of, scene_of, stage_by, IsReady, Steps};
@@ -29,9 +29,10 @@ pub fn call<M: Memory>(
 ) -> Result<Next, MemFault>
     requires ready { IsReady s.old }
     requires finds { IsCallable entry.now.layout s.old.stack.ops }
-    ensures goes { IfOk result (Steps (M.holds m.old) (M.holds m.new)
-        (λ d cells. stage (call_move d body (Some entry.now) cells) d (scene_of cells marks.old))
+    ensures goes { IfOk result (Steps (M.holds m.old) (M.holds m.new) (M.heads m.old) (M.heads m.old)
+        (λ d mem. stage (call_move d body (Some entry.now) mem) d (scene_of mem marks.old))
         (position_of s.old) (control_of s.new) marks.new) }
+    ensures heads { M.heads m.new ≡ M.heads m.old }
     ensures cause { HasFaultCause (M.faults m.old) (M.faults m.new) result }
     ensures follows { M.follows m.old m.new }
 {
@@ -70,9 +71,10 @@ pub fn refer<M: Memory>(
     marks: &mut u32,
 ) -> Result<Next, MemFault>
     requires ready { IsReady s.old }
-    ensures goes { IfOk result (Steps (M.holds m.old) (M.holds m.new)
-        (λ d cells. stage (refer_move d body (Some entry.now) cells) d (scene_of cells marks.old))
+    ensures goes { IfOk result (Steps (M.holds m.old) (M.holds m.new) (M.heads m.old) (M.heads m.old)
+        (λ d mem. stage (refer_move d body (Some entry.now) mem) d (scene_of mem marks.old))
         (position_of s.old) (control_of s.new) marks.new) }
+    ensures heads { M.heads m.new ≡ M.heads m.old }
     ensures cause { HasFaultCause (M.faults m.old) (M.faults m.new) result }
     ensures follows { M.follows m.old m.new }
 {
@@ -100,7 +102,8 @@ fn enter<M: Memory>(
     requires many { count ≤ length s.old.stack.ops }
     requires counted { cells ≡ length (all_kinds variables.now) }
     ensures goes { IfOk result
-        (EntersSo (M.holds m.old) (M.holds m.new) first base refines body count (all_kinds variables.now) (position_of s.old) (control_of s.new)) }
+        (EntersSo (M.holds m.old) (M.holds m.new) (M.heads m.old) first base refines body count (all_kinds variables.now) (position_of s.old) (control_of s.new)) }
+    ensures heads { M.heads m.new ≡ M.heads m.old }
     ensures cause { HasFaultCause (M.faults m.old) (M.faults m.new) result }
     ensures follows { M.follows m.old m.new }
 {
@@ -144,8 +147,9 @@ pub fn back<M: Memory>(
     requires ready { IsReady s.old }
     requires result { TopResult delivers.now s.old.stack.ops }
     requires inside { IsInside s.old.stack.frames }
-    ensures goes { OnOk result ((marks : ℕ) → Steps (M.holds m.old) (M.holds m.new) (stage_by code.now (instrs.Back delivers.now) marks)
+    ensures goes { OnOk result ((marks : ℕ) → Steps (M.holds m.old) (M.holds m.new) (M.heads m.old) (M.heads m.old) (stage_by code.now (instrs.Back delivers.now) marks)
         (position_of s.old) (control_of s.new) marks nexts.On) }
+    ensures heads { M.heads m.new ≡ M.heads m.old }
     ensures cause { HasFaultCause (M.faults m.old) (M.faults m.new) result }
     ensures follows { M.follows m.old m.new }
 {
@@ -164,8 +168,9 @@ pub fn back_around<M: Memory>(
     requires ready { IsReady s.old }
     requires result { TopResult delivers.now s.old.stack.ops }
     requires inside { is_in_proc s.old.stack.frames ≡ true }
-    ensures goes { OnOk result ((marks : ℕ) → Steps (M.holds m.old) (M.holds m.new) (stage_by code.now (instrs.Out delivers.now) marks)
+    ensures goes { OnOk result ((marks : ℕ) → Steps (M.holds m.old) (M.holds m.new) (M.heads m.old) (M.heads m.old) (stage_by code.now (instrs.Out delivers.now) marks)
         (position_of s.old) (control_of s.new) marks nexts.On) }
+    ensures heads { M.heads m.new ≡ M.heads m.old }
     ensures cause { HasFaultCause (M.faults m.old) (M.faults m.new) result }
     ensures follows { M.follows m.old m.new }
 {
@@ -202,8 +207,8 @@ fn leave(stack: &mut Stack) -> Link
 fn leave_proc(stack: &mut Stack) -> Link
     requires { is_in_proc stack.old.frames ≡ true }
     ensures fewer { bytes_on stack.new.ops (bytes_of stack.new.frames) ≤ bytes_of stack.old.frames }
-    ensures leads { (p : Program) (ops : List Operand) (used : ℕ) (cells : Cells) → out_to p ops used stack.old.frames cells ≡ back_into p ops used
-        (linked result stack.new.ops) stack.new.frames cells }
+    ensures leads { (p : Program) (ops : List Operand) (used : ℕ) (mem : Mem) → out_to p ops used stack.old.frames mem ≡ back_into p ops used
+        (linked result stack.new.ops) stack.new.frames mem }
 {
     loop {
         let link = leave(stack);
@@ -227,6 +232,7 @@ fn return_from<M: Memory>(
         record { position = record (position_of s.old) { pc = link.back; ops = result_ops value ++ s.old.stack.ops; used = link.used }; waits = s.old.waits }) }
     ensures freed { OnOk result ((cells : Cells) → M.holds m.old cells → is_framed (slice_get code.now.bodies link.body) link.used s.old.used cells ≡ true →
         M.holds m.new (freed link.used s.old.used cells)) }
+    ensures heads { M.heads m.new ≡ M.heads m.old }
     ensures cause { HasFaultCause (M.faults m.old) (M.faults m.new) result }
     ensures follows { M.follows m.old m.new }
 {

@@ -2,6 +2,7 @@
 ghost use Rattle.std.specs.Prelude.{◌≡◌, ◌+◌, ◌-◌, ◌^◌, ◌≤◌, ◌<◌, [], ◌∷◌, map, flat_map, min, length, OnOk, IfOk};
 ghost use Rattle.eu_base.specs.declared.address.TheConstants.{CELLS};
 ghost use Rattle.eu_base.specs.Values.{blank_of};
+ghost use Rattle.eu_base.specs.SpaceCells.{IsThere};
 ghost use Rattle.eu_base.specs.Cells.{Free, Word, Cells, held_of, area_cell, run_cell, written, cell_blocks, AreBare, HasFaultCause};
 ghost use Rattle.eu_base.specs.declared.address.Area.TheVariants as areas;
 ghost use Rattle.eu_base.specs.Shapes.{cell_kinds};
@@ -28,6 +29,7 @@ pub fn write_frame<M: Memory>(
     ensures puts { IfOk result (λ set. (cells : Cells) → M.holds m.old cells →
         AreFree at (2 + length (flat_map held_cells operands.now) + length (all_kinds variables.now)) cells →
         PutsFrom (M.holds m.new) at (frame_contents operands.now (all_kinds variables.now)) cells set) }
+    ensures heads { M.heads m.new ≡ M.heads m.old }
     ensures cause { HasFaultCause (M.faults m.old) (M.faults m.new) result }
     ensures follows { M.follows m.old m.new }
 {
@@ -72,6 +74,7 @@ pub fn cells_of(operand: &Operand) -> usize
 fn write_link<M: Memory>(m: &mut M, at: usize) -> Result<(), MemFault>
     requires { at + 2 ≤ CELLS }
     ensures written { OnOk result ((cells : Cells) → M.holds m.old cells → AreBare areas.Run at 2 cells → M.holds m.new (written_from at link_contents cells)) }
+    ensures heads { M.heads m.new ≡ M.heads m.old }
     ensures cause { HasFaultCause (M.faults m.old) (M.faults m.new) result }
     ensures follows { M.follows m.old m.new }
 {
@@ -84,6 +87,7 @@ fn write_operands<M: Memory>(m: &mut M, at: usize, operands: &[Operand]) -> Resu
     requires { at + length (flat_map held_cells operands.now) ≤ CELLS }
     ensures puts { IfOk result (λ set. (cells : Cells) → M.holds m.old cells → AreFree at (length (flat_map held_cells operands.now)) cells →
         PutsFrom (M.holds m.new) at (flat_map held_cells operands.now) cells set) }
+    ensures heads { M.heads m.new ≡ M.heads m.old }
     ensures cause { HasFaultCause (M.faults m.old) (M.faults m.new) result }
     ensures follows { M.follows m.old m.new }
 {
@@ -102,6 +106,7 @@ fn write_operand<M: Memory>(m: &mut M, cell: usize, operand: &Operand) -> Result
     requires { cell + length (held_cells operand.now) ≤ CELLS }
     ensures puts { IfOk result (λ set. (cells : Cells) → M.holds m.old cells → AreFree cell (length (held_cells operand.now)) cells →
         PutsFrom (M.holds m.new) cell (held_cells operand.now) cells set) }
+    ensures heads { M.heads m.new ≡ M.heads m.old }
     ensures cause { HasFaultCause (M.faults m.old) (M.faults m.new) result }
     ensures follows { M.follows m.old m.new }
 {
@@ -121,6 +126,7 @@ fn write_values<M: Memory>(m: &mut M, at: usize, values: &[Value]) -> Result<Set
     requires { at + length values.now ≤ CELLS }
     ensures puts { IfOk result (λ set. (cells : Cells) → M.holds m.old cells → AreFree at (length values.now) cells →
         PutsFrom (M.holds m.new) at (map held_of values.now) cells set) }
+    ensures heads { M.heads m.new ≡ M.heads m.old }
     ensures cause { HasFaultCause (M.faults m.old) (M.faults m.new) result }
     ensures follows { M.follows m.old m.new }
 {
@@ -137,11 +143,12 @@ fn write_value<M: Memory>(m: &mut M, cell: usize, value: &Value) -> Result<Set, 
     requires { cell < CELLS }
     ensures puts { IfOk result (λ set. (cells : Cells) → M.holds m.old cells → cells (run_cell cell) ≡ Free →
         PutsFrom (M.holds m.new) cell (held_of value.now ∷ []) cells set) }
+    ensures heads { M.heads m.new ≡ M.heads m.old }
     ensures cause { HasFaultCause (M.faults m.old) (M.faults m.new) result }
     ensures follows { M.follows m.old m.new }
 {
     match value {
-        Value::Int(_) | Value::Truth(_) | Value::Task(_) => {
+        Value::Int(_) | Value::Truth(_) | Value::Task(_) | Value::Space(_) => {
             write_number(m, cell, value.cell())?;
             Ok(Set::Done)
         }
@@ -157,9 +164,11 @@ pub fn write_variables<M: Memory>(
     at: usize,
     shapes: &[Shape],
 ) -> Result<(), MemFault>
-    requires { at + length (all_kinds shapes.now) ≤ CELLS }
+    requires cells { at + length (all_kinds shapes.now) ≤ CELLS }
+    requires there { IsThere (M.heads m.old) area }
     ensures written { OnOk result ((cells : Cells) → M.holds m.old cells → AreBare area at (length (all_kinds shapes.now)) cells →
         M.holds m.new (written_in area at (map (λ k. held_of (blank_of k)) (all_kinds shapes.now)) cells)) }
+    ensures heads { M.heads m.new ≡ M.heads m.old }
     ensures cause { HasFaultCause (M.faults m.old) (M.faults m.new) result }
     ensures follows { M.follows m.old m.new }
 {
@@ -178,10 +187,12 @@ fn write_variable<M: Memory>(
     at: usize,
     shape: &Shape,
 ) -> Result<usize, MemFault>
-    requires { at + length (cell_kinds shape.now) ≤ CELLS }
+    requires cells { at + length (cell_kinds shape.now) ≤ CELLS }
+    requires there { IsThere (M.heads m.old) area }
     ensures end { IfOk result (λ end. end ≡ at + length (cell_kinds shape.now)) }
     ensures written { OnOk result ((cells : Cells) → M.holds m.old cells → AreBare area at (length (cell_kinds shape.now)) cells →
         M.holds m.new (written_in area at (map (λ k. held_of (blank_of k)) (cell_kinds shape.now)) cells)) }
+    ensures heads { M.heads m.new ≡ M.heads m.old }
     ensures cause { HasFaultCause (M.faults m.old) (M.faults m.new) result }
     ensures follows { M.follows m.old m.new }
 {
@@ -203,10 +214,12 @@ fn write_cells<M: Memory>(
     at: usize,
     shape: &Shape,
 ) -> Result<usize, MemFault>
-    requires { at + length (cell_kinds shape.now) ≤ CELLS }
+    requires cells { at + length (cell_kinds shape.now) ≤ CELLS }
+    requires there { IsThere (M.heads m.old) area }
     ensures end { IfOk result (λ end. end ≡ at + length (cell_kinds shape.now)) }
     ensures written { OnOk result ((cells : Cells) → M.holds m.old cells → AreBare area at (length (cell_kinds shape.now)) cells →
         M.holds m.new (written_in area at (map (λ k. held_of (blank_of k)) (cell_kinds shape.now)) cells)) }
+    ensures heads { M.heads m.new ≡ M.heads m.old }
     ensures cause { HasFaultCause (M.faults m.old) (M.faults m.new) result }
     ensures follows { M.follows m.old m.new }
 {
@@ -221,9 +234,11 @@ fn write_blanks<M: Memory>(
     at: usize,
     variables: &[Kind],
 ) -> Result<(), MemFault>
-    requires { at + length variables.now ≤ CELLS }
+    requires cells { at + length variables.now ≤ CELLS }
+    requires there { IsThere (M.heads m.old) area }
     ensures written { OnOk result ((cells : Cells) → M.holds m.old cells → AreBare area at (length variables.now) cells →
         M.holds m.new (written_in area at (map (λ k. held_of (blank_of k)) variables.now) cells)) }
+    ensures heads { M.heads m.new ≡ M.heads m.old }
     ensures cause { HasFaultCause (M.faults m.old) (M.faults m.new) result }
     ensures follows { M.follows m.old m.new }
 {
@@ -234,9 +249,11 @@ fn write_blanks<M: Memory>(
 }
 
 fn write_blank<M: Memory>(m: &mut M, area: Area, cell: usize, kind: Kind) -> Result<(), MemFault>
-    requires { cell < CELLS }
+    requires cells { cell < CELLS }
+    requires there { IsThere (M.heads m.old) area }
     ensures written { OnOk result ((cells : Cells) → M.holds m.old cells → cell_blocks (cells (area_cell area cell)) ≡ 0 →
         M.holds m.new (written cells (area_cell area cell) (held_of (blank_of kind)))) }
+    ensures heads { M.heads m.new ≡ M.heads m.old }
     ensures cause { HasFaultCause (M.faults m.old) (M.faults m.new) result }
     ensures follows { M.follows m.old m.new }
 {
@@ -248,6 +265,7 @@ fn write_number<M: Memory>(m: &mut M, cell: usize, number: u64) -> Result<(), Me
     requires { cell < CELLS }
     ensures written { OnOk result ((cells : Cells) → M.holds m.old cells → cell_blocks (cells (run_cell cell)) ≡ 0 →
         M.holds m.new (written cells (run_cell cell) (Word number))) }
+    ensures heads { M.heads m.new ≡ M.heads m.old }
     ensures cause { HasFaultCause (M.faults m.old) (M.faults m.new) result }
     ensures follows { M.follows m.old m.new }
 {

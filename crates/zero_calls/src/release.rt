@@ -25,6 +25,7 @@ pub fn free_frame<M: Memory>(
     requires { until ≤ CELLS }
     ensures freed { OnOk result ((cells : Cells) → M.holds m.old cells → is_framed (slice_get code.now.bodies body) from until cells ≡ true →
         M.holds m.new (freed from until cells)) }
+    ensures heads { M.heads m.new ≡ M.heads m.old }
     ensures cause { HasFaultCause (M.faults m.old) (M.faults m.new) result }
     ensures follows { M.follows m.old m.new }
 {
@@ -48,6 +49,7 @@ fn free_layout<M: Memory>(
     requires within { at ≤ until }
     requires cells { until ≤ CELLS }
     ensures freed { OnOk result (FreesTo (M.holds m.old) (M.holds m.new) (cells_of layout.now) at (min until (at + length (cells_of layout.now))) until) }
+    ensures heads { M.heads m.new ≡ M.heads m.old }
     ensures cause { HasFaultCause (M.faults m.old) (M.faults m.new) result }
     ensures follows { M.follows m.old m.new }
 {
@@ -76,6 +78,7 @@ fn free_parameters<M: Memory>(
     requires cells { until ≤ CELLS }
     ensures end { IfOk result (λ end. end ≡ min until (at + length (flat_map cell_uses parameters.now))) }
     ensures freed { IfOk result (λ end. FreesTo (M.holds m.old) (M.holds m.new) (flat_map cell_uses parameters.now) at end until) }
+    ensures heads { M.heads m.new ≡ M.heads m.old }
     ensures cause { HasFaultCause (M.faults m.old) (M.faults m.new) result }
     ensures follows { M.follows m.old m.new }
 {
@@ -97,6 +100,7 @@ fn free_variables<M: Memory>(
     requires cells { until ≤ CELLS }
     ensures end { IfOk result (λ end. end ≡ min until (at + length (all_kinds shapes.now))) }
     ensures freed { IfOk result (λ end. FreesTo (M.holds m.old) (M.holds m.new) (map HoldsValue (all_kinds shapes.now)) at end until) }
+    ensures heads { M.heads m.new ≡ M.heads m.old }
     ensures cause { HasFaultCause (M.faults m.old) (M.faults m.new) result }
     ensures follows { M.follows m.old m.new }
 {
@@ -118,6 +122,7 @@ fn free_parameter<M: Memory>(
     requires cells { until ≤ CELLS }
     ensures end { IfOk result (λ end. end ≡ min until (at + length (cell_uses parameter.now))) }
     ensures freed { IfOk result (λ end. FreesTo (M.holds m.old) (M.holds m.new) (cell_uses parameter.now) at end until) }
+    ensures heads { M.heads m.new ≡ M.heads m.old }
     ensures cause { HasFaultCause (M.faults m.old) (M.faults m.new) result }
     ensures follows { M.follows m.old m.new }
 {
@@ -138,6 +143,7 @@ fn free_variable<M: Memory>(
     requires cells { until ≤ CELLS }
     ensures end { IfOk result (λ end. end ≡ min until (at + length (cell_kinds shape.now))) }
     ensures freed { IfOk result (λ end. FreesTo (M.holds m.old) (M.holds m.new) (map HoldsValue (cell_kinds shape.now)) at end until) }
+    ensures heads { M.heads m.new ≡ M.heads m.old }
     ensures cause { HasFaultCause (M.faults m.old) (M.faults m.new) result }
     ensures follows { M.follows m.old m.new }
 {
@@ -160,6 +166,7 @@ fn free_shape<M: Memory>(
     requires cells { until ≤ CELLS }
     ensures end { IfOk result (λ end. end ≡ min until (at + length (cell_kinds shape.now))) }
     ensures freed { IfOk result (λ end. FreesTo (M.holds m.old) (M.holds m.new) (map HoldsValue (cell_kinds shape.now)) at end until) }
+    ensures heads { M.heads m.new ≡ M.heads m.old }
     ensures cause { HasFaultCause (M.faults m.old) (M.faults m.new) result }
     ensures follows { M.follows m.old m.new }
 {
@@ -178,6 +185,7 @@ fn free_kinds<M: Memory>(
     requires cells { until ≤ CELLS }
     ensures end { IfOk result (λ end. end ≡ min until (at + length kinds.now)) }
     ensures freed { IfOk result (λ end. FreesTo (M.holds m.old) (M.holds m.new) (map HoldsValue kinds.now) at end until) }
+    ensures heads { M.heads m.new ≡ M.heads m.old }
     ensures cause { HasFaultCause (M.faults m.old) (M.faults m.new) result }
     ensures follows { M.follows m.old m.new }
 {
@@ -193,6 +201,7 @@ fn free_kind<M: Memory>(kind: Kind, m: &mut M, at: usize, until: usize) -> Resul
     requires cells { until ≤ CELLS }
     ensures end { IfOk result (λ end. end ≡ min until (at + 1)) }
     ensures freed { IfOk result (λ end. FreesTo (M.holds m.old) (M.holds m.new) (HoldsValue kind ∷ []) at end until) }
+    ensures heads { M.heads m.new ≡ M.heads m.old }
     ensures cause { HasFaultCause (M.faults m.old) (M.faults m.new) result }
     ensures follows { M.follows m.old m.new }
 {
@@ -207,7 +216,7 @@ fn is_text(kind: Kind) -> bool
     ensures { result ≡ is_text_kind kind }
 {
     match kind {
-        Kind::Int | Kind::Truth | Kind::Task => false,
+        Kind::Int | Kind::Truth | Kind::Task | Kind::Space => false,
         Kind::Text => true,
     }
 }

@@ -15,6 +15,7 @@ pub fn put_new<M: Memory>(m: &mut M, cell: usize, text: &[u8]) -> Result<Set, Me
     requires { cell < CELLS }
     ensures puts { IfOk result (λ set. (cells : Cells) → M.holds m.old cells → cells (run_cell cell) ≡ Free →
         PutsFrom (M.holds m.new) cell (Letters text.now ∷ []) cells set) }
+    ensures heads { M.heads m.new ≡ M.heads m.old }
     ensures cause { HasFaultCause (M.faults m.old) (M.faults m.new) result }
     ensures follows { M.follows m.old m.new }
 {
@@ -29,6 +30,7 @@ pub fn clear_operands<M: Memory>(m: &mut M, at: usize, operands: &[Operand]) -> 
     requires { at + length (flat_map held_cells operands.now) ≤ CELLS }
     ensures cleared { OnOk result ((cells : Cells) → M.holds m.old cells → Stand at (flat_map held_cells operands.now) cells →
         M.holds m.new (freed at (at + length (flat_map held_cells operands.now)) cells)) }
+    ensures heads { M.heads m.new ≡ M.heads m.old }
     ensures cause { HasFaultCause (M.faults m.old) (M.faults m.new) result }
     ensures follows { M.follows m.old m.new }
 {
@@ -45,6 +47,7 @@ fn clear_operand<M: Memory>(m: &mut M, cell: usize, operand: &Operand) -> Result
     requires { cell + length (held_cells operand.now) ≤ CELLS }
     ensures cleared { OnOk result ((from : ℕ) (cells : Cells) → from ≤ cell → M.holds m.old (freed from cell cells) →
         Stand cell (held_cells operand.now) cells → M.holds m.new (freed from (cell + length (held_cells operand.now)) cells)) }
+    ensures heads { M.heads m.new ≡ M.heads m.old }
     ensures cause { HasFaultCause (M.faults m.old) (M.faults m.new) result }
     ensures follows { M.follows m.old m.new }
 {
@@ -61,6 +64,7 @@ pub fn clear_values<M: Memory>(m: &mut M, at: usize, values: &[Value]) -> Result
     requires { at + length values.now ≤ CELLS }
     ensures cleared { OnOk result ((from : ℕ) (cells : Cells) → from ≤ at → M.holds m.old (freed from at cells) →
         Stand at (map held_of values.now) cells → M.holds m.new (freed from (at + length values.now) cells)) }
+    ensures heads { M.heads m.new ≡ M.heads m.old }
     ensures cause { HasFaultCause (M.faults m.old) (M.faults m.new) result }
     ensures follows { M.follows m.old m.new }
 {
@@ -75,6 +79,7 @@ pub fn free_cell<M: Memory>(m: &mut M, cell: usize, holds_text: bool) -> Result<
     requires { cell < CELLS }
     ensures freed { OnOk result ((from : ℕ) (cells : Cells) → from ≤ cell → M.holds m.old (freed from cell cells) →
         HoldsText holds_text (cells (run_cell cell)) → M.holds m.new (freed from (cell + 1) cells)) }
+    ensures heads { M.heads m.new ≡ M.heads m.old }
     ensures cause { HasFaultCause (M.faults m.old) (M.faults m.new) result }
     ensures follows { M.follows m.old m.new }
 {
@@ -86,6 +91,7 @@ fn clear<M: Memory>(m: &mut M, cell: usize) -> Result<(), MemFault>
     requires { cell < CELLS }
     ensures cleared { OnOk result ((cells : Cells) → M.holds m.old cells → HasText (cells (run_cell cell)) →
         M.holds m.new (written cells (run_cell cell) (Letters []))) }
+    ensures heads { M.heads m.new ≡ M.heads m.old }
     ensures cause { HasFaultCause (M.faults m.old) (M.faults m.new) result }
     ensures follows { M.follows m.old m.new }
 {
@@ -97,7 +103,7 @@ fn is_text(value: &Value) -> bool
     ensures { result ≡ is_text (held_of value.now) }
 {
     match value {
-        Value::Int(_) | Value::Truth(_) | Value::Task(_) => false,
+        Value::Int(_) | Value::Truth(_) | Value::Task(_) | Value::Space(_) => false,
         Value::Text(_) => true,
     }
 }

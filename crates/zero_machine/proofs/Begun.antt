@@ -1,6 +1,6 @@
 -- A command at its start.
 use Rattle.std.specs.Prelude.{Option, Some, None}
-use Rattle.std.proofs.Common.{◌≡◌, ℕ, suc, ◌+◌, ◌<◌, ◌≤◌, Bool, true, false, ◌&&◌, cond, min, nat_le, List, [], ◌∷◌, map, length, refl, sym, ap, ◌∙◌, subst, arith, length-append}
+use Rattle.std.proofs.Common.{◌≡◌, ℕ, suc, ◌+◌, Bool, true, false, ◌&&◌, cond, min, nat_le, List, [], ◌∷◌, map, length, refl, sym, ap, ◌∙◌, subst, arith, length-append}
 use Rattle.std.proofs.lemmas.Bool.{leb-true, leb-false}
 use Rattle.std.proofs.lemmas.Bool.Decides.{nat_tests}
 use Rattle.eu_base.specs.declared.address.Area.TheVariants.{Run, Packets}
@@ -10,17 +10,14 @@ use Rattle.eu_base.specs.Cells.{Cell, Cells, held_of, run_cell, packet_cell, wri
 use Rattle.eu_base.specs.declared.address.TheConstants.{CELLS}
 use Rattle.eu_base.specs.Room.{cells_fit, bytes_fit}
 use Rattle.cell_kinds.specs.Kinds.{packet_kinds}
-use Rattle.code_form.specs.declared.operand.OperandKind.{OperandKind}
-use Rattle.code_form.specs.declared.instr.Instr.TheVariants.{Call}
 use Rattle.code_form.specs.declared.code.Start.{Start}
-use Rattle.code_form.specs.declared.code.Layout.{Layout}
 use Rattle.code_form.specs.declared.code.Layout.TheVariants as layouts
-use Rattle.code_form.specs.Program.{Program, kinds_in_packets, kinds_at, start_kinds, call_kinds, layout_of, spot_at, at_level, line_of, cell_uses}
+use Rattle.code_form.specs.Program.{Program, kinds_in_packets, kinds_at, start_kinds, call_kinds, layout_of, spot_at, at_level}
 use Rattle.code_form.specs.declared.operand.Operand.{Operand}
 use Rattle.code_form.specs.declared.waits.Waits.{Waits}
 use Rattle.zero_state.specs.Stacked.{Stacked}
-use Rattle.code_form.specs.Machine.{Frame, Control, base_of, bytes_on, bytes_of, written_in, made_in, made, CanBeMade, have_room, start_frames, start}
-use Rattle.code_form.specs.Valid.{IsValid, IsStarted, StartsSo, Fits, FitsFrames, MadeSo, is_refused, is_asking}
+use Rattle.code_form.specs.Machine.{Frame, Control, bytes_on, bytes_of, written_in, made_in, made, CanBeMade, have_room, start_frames, start}
+use Rattle.code_form.specs.Valid.{IsValid, StartsSo, Fits, FitsFrames, MadeSo, is_refused, is_asking}
 use Rattle.code_form.specs.declared.waits.Waits.TheVariants.{Nothing, Refused}
 use Rattle.eu_base.specs.declared.stop.Stop.TheVariants.{CellRoom}
 

@@ -11,6 +11,7 @@ use Rattle.eu_base.specs.declared.value.Kind.TheVariants as kinds
 use Rattle.eu_base.specs.declared.shape.Shape.{Shape}
 use Rattle.eu_base.specs.declared.shape.Shape.TheVariants.{Cell}
 use Rattle.eu_base.specs.Shapes.{cell_kinds}
+use Rattle.eu_base.specs.SpaceOperations.{space_operand_kinds}
 use Rattle.eu_base.specs.Operations.{operand_kinds, change_kind}
 use Rattle.eu_base.specs.declared.request.RequestName.{RequestName}
 use Rattle.eu_base.specs.declared.request.Reply.{Reply}
@@ -21,7 +22,7 @@ use Rattle.code_form.specs.declared.operand.Operand.TheVariants.{Value as Of, Pl
 use Rattle.code_form.specs.declared.operand.OperandKind.{OperandKind}
 use Rattle.code_form.specs.declared.operand.OperandKind.TheVariants.{Value as OfKind, Place as AtKind}
 use Rattle.code_form.specs.declared.instr.Instr.{Instr}
-use Rattle.code_form.specs.declared.instr.Instr.TheVariants.{Mark, Number, Truth, Text, Outer, Packet, Local, Param, Index, Field, Pick, Take, Load, Store, Do, Modify, Jump, False}
+use Rattle.code_form.specs.declared.instr.Instr.TheVariants.{Mark, Number, Truth, Text, Outer, Packet, Local, Param, Index, Field, Content, Pick, Take, Load, Store, Do, OnSpaces, Copy, Bind, Modify, Jump, False}
 use Rattle.code_form.specs.declared.instr.Instr.TheVariants.{When, Drop, Limit, Unlimit, Step, Ask, ErrorStop, Call, Refer, Back, Out, End}
 use Rattle.code_form.specs.declared.code.Spot.{Spot}
 use Rattle.code_form.specs.Program.{Program, line_of, instr_of, owner, CellUse, HoldsValue, HoldsPlace, frame_cells}
@@ -230,6 +231,7 @@ module _ (p : Program) (valid : IsValid p) where
         let is : ks ≡ cell_value kinds.Int ∷ AtKind f.2.shape ∷ f.2.rest = f.1 ∙ ap (λ rest. cell_value kinds.Int ∷ rest) f.2.taken in
         top_both c.ops kinds.Int f.2.shape f.2.rest (subst (FitsKinds c.ops) is fits.operands)
     finds_at (Field n) f = top_place c.ops f.shape f.rest (subst (FitsKinds c.ops) f.taken fits.operands)
+    finds_at Content f = top_place c.ops f.shape f.rest (subst (FitsKinds c.ops) f.taken fits.operands)
     finds_at (Pick n size) f =
         let is : ks ≡ cell_value kinds.Int ∷ OfKind f.2.shape ∷ f.2.rest = f.1 ∙ ap (λ rest. cell_value kinds.Int ∷ rest) f.2.taken in
         top_picked c.ops kinds.Int f.2.shape f.2.rest (subst (FitsKinds c.ops) is fits.operands)
@@ -237,6 +239,9 @@ module _ (p : Program) (valid : IsValid p) where
     finds_at (Load s) f = top_place c.ops s f.0 (subst (FitsKinds c.ops) f.1 fits.operands)
     finds_at (Store s) f = top_stored c.ops s f.0 (subst (FitsKinds c.ops) f.1 fits.operands)
     finds_at (Do op) f = all_values (operand_kinds op) f.0 f.1
+    finds_at (OnSpaces op) f = all_values (space_operand_kinds op) f.0 f.1
+    finds_at Copy f = top_both c.ops kinds.Space (Cell kinds.Space) f.0 (subst (FitsKinds c.ops) f.1 fits.operands)
+    finds_at (Bind s) f = top_both c.ops kinds.Space (Cell kinds.Space) f.0 (subst (FitsKinds c.ops) f.1 fits.operands)
     finds_at (Modify change) f = top_both c.ops (change_kind change) (Cell (change_kind change)) f.0 (subst (FitsKinds c.ops) f.1 fits.operands)
     finds_at (Jump a) f = tt
     finds_at (False a) f = top_value c.ops kinds.Truth f.0 (subst (FitsKinds c.ops) f.1 fits.operands)

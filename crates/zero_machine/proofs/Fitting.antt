@@ -2,9 +2,9 @@
 use Rattle.std.proofs.Common.{◌≡◌, ℕ, zero, suc, ◌<◌, refl, length, Option, Some, None, true, sym, ap, ◌∙◌, subst, arith, inl, inr}
 use Rattle.std.specs.Prelude.{Result, Ok, Err, IfOk, OnOk, IsSome, slice_get}
 use Rattle.eu_base.specs.Cells.{Cells}
+use Rattle.eu_base.specs.DataSpaces.{Heads}
 use Rattle.eu_base.specs.declared.request.RequestName.{RequestName}
 use Rattle.eu_base.specs.declared.request.Reply.{Reply}
-use Rattle.eu_base.specs.declared.request.Reply.TheVariants as replies
 use Rattle.code_form.specs.declared.instr.Instr.{Instr}
 use Rattle.code_form.specs.declared.instr.Instr.TheVariants.{Ask}
 use Rattle.eu_base.specs.declared.stop.Stop.TheVariants as stop
@@ -14,13 +14,13 @@ use Rattle.code_form.specs.declared.waits.Waits.{Waits}
 use Rattle.code_form.specs.declared.waits.Waits.TheVariants.{Nothing, Given}
 use Rattle.code_form.specs.Program.{Program, instr_of}
 use Rattle.code_form.specs.Machine.{Position, Control, free, asking, given, refused, After, To, Asks, Stops, Unsaid, Move, Goes, Spends as Pays, Halts, Refuses, Ends}
-use Rattle.code_form.specs.Machine.{Unknown, Stuck, Scene, Rest, Stage, On}
+use Rattle.code_form.specs.Machine.{Unknown, Stuck, Mem, Scene, Rest, Stage, On}
 use Rattle.code_form.specs.Machine.{Over, Lost, after_stage, mark_stage, move_stage, stage, stage_at, advance, rest_at, instruction, takes_reply, step}
 use Rattle.code_form.specs.Valid.{IsValid, is_ask, Fits}
 use Rattle.code_form.specs.Runs.{IsSafe, asked, steps_left}
 use Rattle.code_form.proofs.Safe.{stays_fit}
 use Rattle.code_form.proofs.Steps.{nearer, reply_nearer}
-use Rattle.zero_state.specs.Stepping.{stage_of, stage_by, halt_of, scene_of, Does, Leads, Steps}
+use Rattle.zero_state.specs.Stepping.{stage_of, stage_by, halt_of, mem_of, scene_of, Does, Leads, Steps}
 use Rattle.zero_state.proofs.Room.{like_fits}
 use Rattle.zero_machine.specs.Running.{Spends}
 use Rattle.zero_state.specs.declared.next.Next.{Next}
@@ -58,16 +58,16 @@ module _ (p : Program) (from : Control) (s : Scene) (fits : Fits p from) (calm :
 
   after_good : (m : ℕ) → s.marks ≡ suc m → (a : After) → IsSafe p (Pays a) → (h : Option Halt) (c' : Control) (s' : Scene)
       → stage_of h c' s' ≡ after_stage a from (record s { marks = m }) → Good c' s'.marks
-  after_good m e (To d cells) safe =
-      on Good (free d) (record s { cells = cells; marks = m }) (safe, record { fewer = omega (arith, e); paid = λ some. absurd (cc some) })
-  after_good m e (Asks d q cells) safe =
-      on Good (asking d q) (record s { cells = cells; marks = m }) (safe, record { fewer = omega (arith, e); paid = λ some. omega (arith, e) })
+  after_good m e (To d mem) safe =
+      on Good (free d) (record s { mem = mem; marks = m }) (safe, record { fewer = omega (arith, e); paid = λ some. absurd (cc some) })
+  after_good m e (Asks d q mem) safe =
+      on Good (asking d q) (record s { mem = mem; marks = m }) (safe, record { fewer = omega (arith, e); paid = λ some. omega (arith, e) })
   after_good m e (Stops stop) safe =
       over Good (halts.Stopped stop) from (record s { marks = m }) (fits, record { fewer = omega (arith, e); paid = λ some. absurd (calm some) })
   after_good m e Unsaid safe = lost Good
 
   pub stage_good : (m : Move) → IsSafe p m → (h : Option Halt) (c' : Control) (s' : Scene) → stage_of h c' s' ≡ move_stage m from s → Good c' s'.marks
-  stage_good (Goes d cells) safe = on Good (free d) (record s { cells = cells }) (safe, record { fewer = omega arith; paid = λ some. absurd (cc some) })
+  stage_good (Goes d mem) safe = on Good (free d) (record s { mem = mem }) (safe, record { fewer = omega arith; paid = λ some. absurd (cc some) })
   stage_good (Pays a) safe = by s.marks refl
     where
       by : (m : ℕ) → s.marks ≡ m → (h : Option Halt) (c' : Control) (s' : Scene) → stage_of h c' s' ≡ mark_stage m a from s → Good c' s'.marks
@@ -79,24 +79,24 @@ module _ (p : Program) (from : Control) (s : Scene) (fits : Fits p from) (calm :
   stage_good Unknown safe = lost Good
   stage_good Stuck safe = absurd safe
 
-module _ {E : Type 0} (p : Program) (c : Control) (result : Result Next E) (before after : Cells → Type 0) (c' : Control) (marks marks' : ℕ) (i : Instr)
+module _ {E : Type 0} (p : Program) (c : Control) (result : Result Next E) (before after : Cells → Type 0) (had has : Heads) (c' : Control) (marks marks' : ℕ) (i : Instr)
     (valid : IsValid p) (fits : Fits p (free c.position)) (none : c.waits ≡ Nothing) (is : Some i ≡ instr_of (slice_get p.lines c.position.pc)) where
   -- what a step is, where nothing is waited for
-  step_is : (cells : Cells) → stage_by p i marks c.position cells ≡ advance p c (scene_of cells marks)
-  step_is cells =
-      ap (λ o. stage (instruction p o c.position cells) c.position (scene_of cells marks)) is
-      ∙ ap (λ w. stage_at w p c.position (scene_of cells marks)) (sym none)
+  step_is : (mem : Mem) → stage_by p i marks c.position mem ≡ advance p c (scene_of mem marks)
+  step_is mem =
+      ap (λ o. stage (instruction p o c.position mem) c.position (scene_of mem marks)) is
+      ∙ ap (λ w. stage_at w p c.position (scene_of mem marks)) (sym none)
 
   abbrev Made : Next → Type 0
-  Made = Steps before after (stage_by p i marks) c.position c' marks'
+  Made = Steps before after had has (stage_by p i marks) c.position c' marks'
 
   pub step_goes : IfOk result Made
-      → IfOk result (λ next. (cells : Cells) → before cells → Does after (halt_of next) c' marks' (advance p c (scene_of cells marks)))
+      → IfOk result (λ next. (cells : Cells) → before cells → Does after has (halt_of next) c' marks' (advance p c (scene_of (mem_of had cells) marks)))
   step_goes h = by result h
     where
       by : (result : Result Next E) → IfOk result Made
-          → IfOk result (λ next. (cells : Cells) → before cells → Does after (halt_of next) c' marks' (advance p c (scene_of cells marks)))
-      by (Ok next) h = λ cells held. subst (Does after (halt_of next) c' marks') (step_is cells) (h.does cells held)
+          → IfOk result (λ next. (cells : Cells) → before cells → Does after has (halt_of next) c' marks' (advance p c (scene_of (mem_of had cells) marks)))
+      by (Ok next) h = λ cells held. subst (Does after has (halt_of next) c' marks') (step_is (mem_of had cells)) (h.does cells held)
       by (Err e) h = tt
 
   -- it is a step from a position that fits, with operands of the same kinds
@@ -105,19 +105,19 @@ module _ {E : Type 0} (p : Program) (c : Control) (result : Result Next E) (befo
     from = record c.position { ops = h.ops }
 
     abbrev at_from : Scene
-    at_from = scene_of h.cells marks
+    at_from = scene_of h.mem marks
 
     abbrev there : Stage
-    there = stage (step p from h.cells) from at_from
+    there = stage (step p from h.mem) from at_from
 
-    is_there : stage_by p i marks from h.cells ≡ there
-    is_there = ap (λ o. stage (instruction p o from h.cells) from at_from) is
+    is_there : stage_by p i marks from h.mem ≡ there
+    is_there = ap (λ o. stage (instruction p o from h.mem) from at_from) is
 
     from_fits : Fits p (free from)
     from_fits = like_fits p c.position h.ops h.like fits
 
     so_good : (how : Option Halt) (d : Control) (s : Scene) → stage_of how d s ≡ there → Fits p d × Spends marks s.marks d.waits
-    so_good = stage_good p (free from) at_from from_fits (λ some. absurd (cc some)) (step p from h.cells) (stays_fit.steps p from h.cells valid from_fits)
+    so_good = stage_good p (free from) at_from from_fits (λ some. absurd (cc some)) (step p from h.mem) (stays_fit.steps p from h.mem valid from_fits)
 
     good : Fits p c' × Spends marks marks' c'.waits
     good = by (subst (Leads next c.position c' marks') is_there h.leads)
@@ -164,21 +164,21 @@ module _ {E : Type 0} (p : Program) (c : Control) (result : Result Next E) (befo
       by (Err e) h = tt
 
 -- a request goes on with its reply from a state that fits
-module _ {E : Type 0} (p : Program) (c : Position) (r : Reply) (result : Result Next E) (before after : Cells → Type 0) (c' : Control) (q : RequestName)
+module _ {E : Type 0} (p : Program) (c : Position) (r : Reply) (result : Result Next E) (before after : Cells → Type 0) (heads : Heads) (c' : Control) (q : RequestName)
     (valid : IsValid p) (fits : Fits p (given c r)) (is : Some (Ask q) ≡ instr_of (slice_get p.lines c.pc)) where
   abbrev Answered : Next → Type 0
-  Answered = Replies before after q r c c'
+  Answered = Replies before after heads q r c c'
 
-  reply_is : (r : Reply) (cells : Cells) (marks : ℕ) → replied_by q r marks c cells ≡ advance p (given c r) (scene_of cells marks)
-  reply_is r cells marks = ap (λ o. move_stage (takes_reply o r c cells) (given c r) (scene_of cells marks)) is
+  reply_is : (r : Reply) (mem : Mem) (marks : ℕ) → replied_by q r marks c mem ≡ advance p (given c r) (scene_of mem marks)
+  reply_is r mem marks = ap (λ o. move_stage (takes_reply o r c mem) (given c r) (scene_of mem marks)) is
 
   pub reply_goes : IfOk result Answered
-      → IfOk result (λ next. (marks : ℕ) (cells : Cells) → before cells → Does after (halt_of next) c' marks (advance p (given c r) (scene_of cells marks)))
+      → IfOk result (λ next. (marks : ℕ) (cells : Cells) → before cells → Does after heads (halt_of next) c' marks (advance p (given c r) (scene_of (mem_of heads cells) marks)))
   reply_goes h = by result h
     where
       by : (result : Result Next E) → IfOk result Answered
-          → IfOk result (λ next. (marks : ℕ) (cells : Cells) → before cells → Does after (halt_of next) c' marks (advance p (given c r) (scene_of cells marks)))
-      by (Ok next) h = λ marks cells held. subst (Does after (halt_of next) c' marks) (reply_is r cells marks) (h.does marks cells held)
+          → IfOk result (λ next. (marks : ℕ) (cells : Cells) → before cells → Does after heads (halt_of next) c' marks (advance p (given c r) (scene_of (mem_of heads cells) marks)))
+      by (Ok next) h = λ marks cells held. subst (Does after heads (halt_of next) c' marks) (reply_is r (mem_of heads cells) marks) (h.does marks cells held)
       by (Err e) h = tt
 
   -- as with any other

@@ -1,8 +1,9 @@
 //! One step of the machine.
 ghost use Rattle.std.specs.Prelude.{◌≡◌, ◌≢◌, IfOk, Ok, Err};
-ghost use Rattle.eu_base.specs.Cells.{Cells, HasFaultCause};
+ghost use Rattle.eu_base.specs.Cells.{HasFaultCause};
 ghost use Rattle.eu_base.specs.declared.cells.MemFault.TheVariants.{Failed};
 ghost use Rattle.code_form.specs.declared.instr.Instr.TheVariants as instrs;
+ghost use Rattle.code_form.specs.Machine.{Mem};
 ghost use Rattle.code_form.specs.Program.{Program};
 ghost use Rattle.zero_state.specs.Finds.{Finds};
 ghost use Rattle.zero_state.specs.Stepping.{position_of, control_of, scene_of, stage_of, stage_by, halt_of};
@@ -18,6 +19,7 @@ use zero_steps::change::modify;
 use zero_steps::operate::operate;
 use zero_steps::place::{field, index};
 use zero_steps::push::{push_on, push_text};
+use zero_steps::spaces::{bind, content, copy, on_spaces};
 use zero_steps::step::{
     drop_value, jump_false, limit, load, local, outer, packet, param, step, store, unlimit, when,
 };
@@ -33,7 +35,7 @@ pub fn execute<M: Memory>(
 ) -> Result<Next, MemFault>
     requires ready { IsReady s.old }
     requires finds { Finds code.now.bodies instr.now (position_of s.old) }
-    ensures goes { IfOk result (Steps (M.holds m.old) (M.holds m.new) (stage_by code.now instr.now marks.old)
+    ensures goes { IfOk result (Steps (M.holds m.old) (M.holds m.new) (M.heads m.old) (M.heads m.new) (stage_by code.now instr.now marks.old)
         (position_of s.old) (control_of s.new) marks.new) }
     ensures cause { HasFaultCause (M.faults m.old) (M.faults m.new) result }
     ensures follows { M.follows m.old m.new }
@@ -52,6 +54,7 @@ pub fn execute<M: Memory>(
             field(s, *cells);
             Ok(Next::On)
         }
+        Instr::Content => content(s, m),
         Instr::Pick(count, cells) => computed(pick(s, *count, *cells)),
         Instr::Take(of, from, cells) => {
             take(s, *of, *from, *cells)?;
@@ -60,6 +63,9 @@ pub fn execute<M: Memory>(
         Instr::Load(shape) => load(s, m, shape),
         Instr::Store(_) => store(s, m),
         Instr::Do(operation) => computed(operate(s, *operation)),
+        Instr::OnSpaces(operation) => on_spaces(s, m, *operation),
+        Instr::Copy => copy(s, m),
+        Instr::Bind(shape) => bind(s, m, shape),
         Instr::Modify(by) => modify(s, m, *by),
         Instr::Jump(to) => {
             s.pc = *to;
@@ -113,12 +119,12 @@ fn computed(made: Result<Next, NoMemory>) -> Result<Next, MemFault>
 // Spends a mark, and goes on.
 fn mark(s: &mut State, marks: &mut u32) -> Next
     requires { IsReady s.old }
-    ensures { (p : Program) (cells : Cells) → stage_of (halt_of result) (control_of s.new) (scene_of cells marks.new) ≡ stage_by
+    ensures { (p : Program) (mem : Mem) → stage_of (halt_of result) (control_of s.new) (scene_of mem marks.new) ≡ stage_by
         p
         instrs.Mark
         marks.old
         (position_of s.old)
-        cells }
+        mem }
 {
     if *marks == 0 {
         return Next::Marked;

@@ -8,7 +8,7 @@ ghost use Rattle.code_form.specs.declared.waits.Waits.TheVariants as waits;
 ghost use Rattle.code_form.specs.Machine.{Rest, advance, answered};
 ghost use Rattle.code_form.specs.Valid.{Fits};
 ghost use Rattle.code_form.specs.Runs.{Rests, Resumes, Replies, IsOne, StaysFit, asked, steps_left};
-ghost use Rattle.zero_state.specs.Stepping.{position_of, control_of, scene_of, halt_of, due, Does};
+ghost use Rattle.zero_state.specs.Stepping.{position_of, control_of, mem_of, scene_of, halt_of, due, Does};
 ghost use Rattle.zero_machine.specs.Running.{Spends, RestsSo};
 
 use crate::instruction::execute;
@@ -22,7 +22,7 @@ fn step<M: Memory>(code: &Code, s: &mut State, m: &mut M, marks: &mut u32) -> Re
     requires fits { Fits code.now (control_of s.old) }
     requires free { s.old.waits ≡ waits.Nothing }
     ensures goes { IfOk result (λ next. (cells : Cells) → M.holds m.old cells →
-        Does (M.holds m.new) (halt_of next) (control_of s.new) marks.new (advance code.now (control_of s.old) (scene_of cells marks.old))) }
+        Does (M.holds m.new) (M.heads m.new) (halt_of next) (control_of s.new) marks.new (advance code.now (control_of s.old) (scene_of (mem_of (M.heads m.old) cells) marks.old))) }
     ensures fits { OnOk result (Fits code.now (control_of s.new)) }
     ensures spends { OnOk result (Spends marks.old marks.new s.new.waits) }
     ensures nearer { IfOk result (λ next. halt_of next ≡ None → steps_left code.now.lines marks.new (length s.new.stack.frames) s.new.pc
@@ -41,7 +41,7 @@ fn reply_step<M: Memory>(code: &Code, s: &mut State, m: &mut M) -> Result<Next, 
     requires fits { Fits code.now (control_of s.old) }
     requires given { (r : Reply) × (s.old.waits ≡ waits.Given r) }
     ensures goes { IfOk result (λ next. (marks : ℕ) (cells : Cells) → M.holds m.old cells →
-        Does (M.holds m.new) (halt_of next) (control_of s.new) marks (advance code.now (control_of s.old) (scene_of cells marks))) }
+        Does (M.holds m.new) (M.heads m.new) (halt_of next) (control_of s.new) marks (advance code.now (control_of s.old) (scene_of (mem_of (M.heads m.old) cells) marks))) }
     ensures fits { OnOk result (Fits code.now (control_of s.new)) }
     ensures spends { (marks : ℕ) → OnOk result (Spends marks marks s.new.waits) }
     ensures nearer { (marks : ℕ) → IfOk result (λ next. halt_of next ≡ None → steps_left code.now.lines marks (length s.new.stack.frames) s.new.pc
@@ -67,7 +67,7 @@ fn advance<M: Memory>(
     requires fits { Fits code.now (control_of s.old) }
     requires due { due s.old.waits ≡ None }
     ensures goes { IfOk result (λ next. (cells : Cells) → M.holds m.old cells →
-        Does (M.holds m.new) (halt_of next) (control_of s.new) marks.new (advance code.now (control_of s.old) (scene_of cells marks.old))) }
+        Does (M.holds m.new) (M.heads m.new) (halt_of next) (control_of s.new) marks.new (advance code.now (control_of s.old) (scene_of (mem_of (M.heads m.old) cells) marks.old))) }
     ensures fits { OnOk result (Fits code.now (control_of s.new)) }
     ensures spends { OnOk result (Spends marks.old marks.new s.new.waits) }
     ensures nearer { IfOk result (λ next. halt_of next ≡ None → steps_left code.now.lines marks.new (length s.new.stack.frames) s.new.pc
@@ -89,6 +89,7 @@ pub fn reply<M: Memory>(_code: &Code, s: &mut State, _m: &mut M, r: Reply) -> Re
     ensures answered { OnOk result ((request : Request) → s.old.waits ≡ waits.Asked request → control_of s.new ≡ answered request r (position_of s.old)) }
     ensures fits { OnOk result (Fits _code.now (control_of s.new)) }
     ensures kept { (cells : Cells) → M.holds _m.old cells → M.holds _m.new cells }
+    ensures heads { M.heads _m.new ≡ M.heads _m.old }
     ensures cause { HasFaultCause (M.faults _m.old) (M.faults _m.new) result }
     ensures follows { M.follows _m.old _m.new }
 {
@@ -120,8 +121,8 @@ pub fn run<M: Memory>(
     marks: &mut u32,
 ) -> Result<Halt, MemFault>
     requires { Fits code.now (control_of s.old) }
-    ensures rests { IfOk result (λ halt. (cells : Cells) (r : Rest) → M.holds m.old cells → Rests code.now (control_of s.old) (scene_of cells marks.old) r →
-        RestsSo (M.holds m.new) halt (control_of s.new) marks.new r) }
+    ensures rests { IfOk result (λ halt. (cells : Cells) (r : Rest) → M.holds m.old cells → Rests code.now (control_of s.old) (scene_of (mem_of (M.heads m.old) cells) marks.old) r →
+        RestsSo (M.holds m.new) (M.heads m.new) halt (control_of s.new) marks.new r) }
     ensures marks { OnOk result (marks.new ≤ marks.old) }
     ensures asks { IfOk result (λ halt. (request : Request) → halt ≡ halts.Asks request → s.new.waits ≡ waits.Asked request) }
     ensures pays { IfOk result (λ halt. (request : Request) → halt ≡ halts.Asks request → asked s.old.waits ≡ None → marks.new < marks.old) }

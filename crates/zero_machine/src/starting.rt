@@ -4,6 +4,7 @@ ghost use Rattle.eu_base.specs.declared.value.Kind.{Kind as Kinds};
 ghost use Rattle.eu_base.specs.declared.value.Kind.TheVariants as kinds;
 ghost use Rattle.eu_base.specs.Room.{cells_fit};
 ghost use Rattle.eu_base.specs.Cells.{Cells, AreBare, HasFaultCause};
+ghost use Rattle.eu_base.specs.SpaceCells.{IsThere};
 ghost use Rattle.cell_kinds.specs.Kinds.{packet_kinds};
 ghost use Rattle.eu_base.specs.declared.address.Area.TheVariants as areas;
 ghost use Rattle.eu_base.specs.declared.stop.Stop.TheVariants as stop;
@@ -26,6 +27,7 @@ pub fn start<M: Memory>(alloc: Global, code: &Code, m: &mut M) -> Result<State, 
     ensures control { IfOk result (λ s. control_of s ≡ start code.now) }
     ensures fits { IfOk result (λ s. Fits code.now (control_of s)) }
     ensures made { OnOk result ((cells : Cells) → M.holds m.old cells → CanBeMade code.now cells → M.holds m.new (made code.now cells)) }
+    ensures heads { M.heads m.new ≡ M.heads m.old }
     ensures cause { HasFaultCause (M.faults m.old) (M.faults m.new) result }
     ensures follows { M.follows m.old m.new }
 {
@@ -127,10 +129,12 @@ fn make_variables<M: Memory>(
     at: usize,
     variables: &CellKinds,
 ) -> Result<bool, MemFault>
+    requires { IsThere (M.heads m.old) area }
     ensures fits { IfOk result (λ fits. fits ≡ cells_fit (at + length variables.now)) }
     ensures made { OnOk result ((cells : Cells) → M.holds m.old cells →
         (cells_fit (at + length variables.now) ≡ true → AreBare area at (length variables.now) cells) →
         M.holds m.new (made_in area at variables.now cells)) }
+    ensures heads { M.heads m.new ≡ M.heads m.old }
     ensures cause { HasFaultCause (M.faults m.old) (M.faults m.new) result }
     ensures follows { M.follows m.old m.new }
 {

@@ -41,6 +41,7 @@ pub fn on_numbers(operation: Operation, left: &Value, right: &Value) -> Result<V
         Operation::Or => Ok(Value::Truth(left.truth() || right.truth())),
         Operation::Not => Ok(Value::Truth(!left.truth())),
         Operation::NoTask => Ok(Value::Task(0)),
+        Operation::NilSpace => Ok(Value::Space(None)),
         Operation::SameTask => Ok(Value::Truth(left.task() == right.task())),
         Operation::OtherTask => Ok(Value::Truth(left.task() != right.task())),
         Operation::OnTexts(_) => unreachable!(),

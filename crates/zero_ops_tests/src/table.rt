@@ -207,6 +207,7 @@ AND|1|1|1
 OR|0|0|0
 NOT|0|1
 niltask|0
+nilspace|-
 one|0|0|1
 one|4294967295|4294967295|1
 one|1|4294967295|0
@@ -217,7 +218,7 @@ other|7|7|0
 /// The names that stand in the table, in the order of the arms of `operation`.
 const NAMES: &str =
     "plus minus add subtract times DIV MOD abs min max maxint below same AND OR NOT join repeat equal unequal \
-less lesseq more moreeq SUB LENGTH pos subtext from code char text int niltask one other";
+less lesseq more moreeq SUB LENGTH pos subtext from code char text int niltask one other nilspace";
 
 fn place_of(name: &str) -> usize {
     let mut place = 0usize;
@@ -252,6 +253,7 @@ fn operation(name: &str) -> Operation {
         33 => Operation::NoTask,
         34 => Operation::SameTask,
         35 => Operation::OtherTask,
+        36 => Operation::NilSpace,
         place => Operation::OnTexts(on_texts(place)),
     }
 }
@@ -339,6 +341,7 @@ fn value(alloc: Global, kind: Kind, cell: &str) -> Value {
         Kind::Truth => Value::Truth(cell == "1"),
         Kind::Text => Value::Text(written(alloc, cell)),
         Kind::Task => Value::Task(cell.parse().unwrap_or(0)),
+        Kind::Space => Value::Space(None),
     }
 }
 
@@ -364,6 +367,8 @@ fn shown(alloc: Global, value: Value) -> Bytes {
         Value::Truth(truth) => letters(alloc, 0, if truth { b"1" } else { b"0" }),
         Value::Text(text) => text,
         Value::Task(task) => or_refused(alloc, decimal(alloc, i64::from(task))),
+        Value::Space(None) => letters(alloc, 0, b"-"),
+        Value::Space(Some(s)) => or_refused(alloc, decimal(alloc, i64::from(s.0))),
     }
 }
 
@@ -422,5 +427,5 @@ fn right_rows(alloc: Global) -> usize {
 
 #[test]
 fn each_operation_gives_what_the_table_says(rt: HostRuntime) {
-    assert!(rt; right_rows(rt.alloc()) == 205);
+    assert!(rt; right_rows(rt.alloc()) == 206);
 }

@@ -1,10 +1,11 @@
 -- The blocks of the texts that cells hold.
-use Rattle.std.proofs.Common.{◌≡◌, ℕ, zero, suc, ◌+◌, ◌<◌, ◌≤◌, Bool, true, false, cond, refl, ap, arith, ⊎_elim}
+use Rattle.std.proofs.Common.{◌≡◌, ℕ, zero, suc, ◌+◌, ◌<◌, ◌≤◌, Bool, true, false, cond, refl, ap, ◌∙◌, arith, ⊎_elim}
 use Rattle.std.specs.Prelude.{◌&&◌, ◌==◌}
 use Rattle.std.proofs.lemmas.Bool.{le-leb, lt-leb, eqb-true, eq-eqb, cases_eq}
 use Rattle.eu_base.specs.declared.address.Addr.{Addr}
 use Rattle.eu_base.specs.declared.address.Area.{Area}
-use Rattle.eu_base.specs.declared.address.Area.TheVariants.{Run, Packets}
+use Rattle.eu_base.specs.declared.address.Area.TheVariants.{Run, Packets, Space}
+use Rattle.eu_base.specs.Values.{SpaceNo}
 use Rattle.eu_base.specs.declared.address.TheConstants.{CELLS}
 use Rattle.eu_base.specs.Room.{most_blocks, texts_fit, total}
 use Rattle.eu_base.specs.Cells.{Cell, Free, Word, Letters, Cells, same_area, same_cell, area_cell, run_cell, written, cell_blocks, area_blocks, IsCell, HasText}
@@ -29,6 +30,10 @@ blocks_without area cells at x none = fewer_blocks area (written cells at x) cel
     by a true = omega (arith, none)
     by a false = omega arith
 
+both_true : (a b : Bool) → (a && b) ≡ true → (a ≡ true) × (b ≡ true)
+both_true true b e = (refl, e)
+both_true false b e = absurd (cc e)
+
 -- one cell is another
 pub same_place : (a b : Addr) → same_cell a b ≡ true → a ≡ b
 same_place a b e = by a.area b.area a.cell b.cell e
@@ -38,6 +43,13 @@ same_place a b e = by a.area b.area a.cell b.cell e
     by Packets Packets j k e = ap (area_cell Packets) (eqb-true j k e)
     by Run Packets j k e = absurd (cc e)
     by Packets Run j k e = absurd (cc e)
+    by Run (Space s) j k e = absurd (cc e)
+    by Packets (Space s) j k e = absurd (cc e)
+    by (Space s) Run j k e = absurd (cc e)
+    by (Space s) Packets j k e = absurd (cc e)
+    by (Space s) (Space t) j k e =
+        let h = both_true (s.0 == t.0) (j == k) e in
+        ap (λ (n : ℕ). area_cell (Space (record { 0 = n })) j) (eqb-true s.0 t.0 h.0) ∙ ap (area_cell (Space t)) (eqb-true j k h.1)
 
 -- one that had none takes none away
 pub blocks_with : (area : Area) (cells : Cells) (at : Addr) (x : Cell) → cell_blocks (cells at) ≡ 0
@@ -74,6 +86,7 @@ is_run a e = by a.area a.cell e
     by : (x : Area) (k : ℕ) → same_area x Run ≡ true → area_cell x k ≡ run_cell k
     by Run k e = refl
     by Packets k e = absurd (cc e)
+    by (Space s) k e = absurd (cc e)
 
 pub same_self : (a : Addr) → same_cell a a ≡ true
 same_self a = by a.area a.cell
@@ -81,6 +94,7 @@ same_self a = by a.area a.cell
     by : (x : Area) (k : ℕ) → same_cell (area_cell x k) (area_cell x k) ≡ true
     by Run k = eq-eqb k k refl
     by Packets k = eq-eqb k k refl
+    by (Space s) k = ap (λ (b : Bool). b && k == k) (eq-eqb s.0 s.0 refl) ∙ eq-eqb k k refl
 
 -- what is put into a cell stands there
 pub written_here : (cells : Cells) (at : Addr) (x : Cell) → written cells at x at ≡ x

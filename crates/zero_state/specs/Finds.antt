@@ -7,10 +7,11 @@ use Rattle.eu_base.specs.declared.shape.Shape.{Shape}
 use Rattle.eu_base.specs.declared.value.Value.{Value}
 use Rattle.eu_base.specs.Cells.{IsCell, run_cell}
 use Rattle.eu_base.specs.Operations.{operand_kinds}
+use Rattle.eu_base.specs.SpaceOperations.{space_operand_kinds}
 use Rattle.eu_base.specs.declared.request.RequestName.{RequestName}
 use Rattle.eu_base.specs.Requests.{request_kinds, request_size}
 use Rattle.code_form.specs.declared.instr.Instr.{Instr}
-use Rattle.code_form.specs.declared.instr.Instr.TheVariants.{Outer, Local, Param, Index, Field, Pick, Take, Load, Store, Do, Modify, False, When, Drop, Limit}
+use Rattle.code_form.specs.declared.instr.Instr.TheVariants.{Outer, Local, Param, Index, Field, Content, Pick, Take, Load, Store, Do, OnSpaces, Copy, Bind, Modify, False, When, Drop, Limit}
 use Rattle.code_form.specs.declared.instr.Instr.TheVariants.{Unlimit, Step, Ask, ErrorStop, Call, Refer, Back, Out}
 use Rattle.code_form.specs.declared.code.Entry.{Entry}
 use Rattle.code_form.specs.declared.code.Layout.{Layout}
@@ -135,11 +136,15 @@ Finds bodies (Local k) c = IsCell (run_cell (base_of c.frames + k))
 Finds bodies (Param k) c = IsCell (run_cell (base_of c.frames + k))
 Finds bodies (Index n size) c = TopBoth c.ops
 Finds bodies (Field n) c = TopPlace c.ops
+Finds bodies Content c = TopPlace c.ops
 Finds bodies (Pick n size) c = TopPicked c.ops
 Finds bodies (Take n from size) c = TopAny c.ops
 Finds bodies (Load s) c = TopPlace c.ops
 Finds bodies (Store s) c = TopStored c.ops
 Finds bodies (Do op) c = TopValues (length (operand_kinds op)) c.ops
+Finds bodies (OnSpaces op) c = TopValues (length (space_operand_kinds op)) c.ops
+Finds bodies Copy c = TopBoth c.ops
+Finds bodies (Bind s) c = TopBoth c.ops
 Finds bodies (Modify change) c = TopBoth c.ops
 Finds bodies (False a) c = TopValue c.ops
 Finds bodies (When z a) c = TopValue c.ops

@@ -4,7 +4,7 @@ ghost use Rattle.eu_base.specs.declared.address.TheConstants.{CELLS};
 ghost use Rattle.eu_base.specs.Room.{cells_fit};
 ghost use Rattle.eu_base.specs.Cells.{area_cell, run_cell, area_in, place_in};
 
-use eu_base::{Addr, Area, CELLS};
+use eu_base::{Addr, Area, CELLS, SpaceNo};
 
 /// The place of a cell of the command that runs, by its number.
 pub fn run_cell(cell: usize) -> Addr
@@ -48,7 +48,8 @@ fn area_in(before: u64) -> Area
     ensures { result ≡ area_in before }
 {
     match before {
+        0 => Area::Run,
         1 => Area::Packets,
-        _ => Area::Run,
+        _ => Area::Space(SpaceNo(((before - 2) % 4_294_967_296) as u32)),
     }
 }

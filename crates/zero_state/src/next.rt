@@ -30,6 +30,20 @@ pub enum Next {
     OperandRoom,
     /// It stops, since a text has no room.
     TextRoom,
+    /// It stops, since a data space does not live.
+    NoSpace,
+    /// It stops, since something of another type stands in a data space.
+    WrongShape,
+    /// It stops, since no more data spaces may live.
+    ManySpaces,
+    /// It stops, since the last number of a data space was given.
+    SpaceNumbers,
+    /// It stops, since no data space can have the name.
+    BadName,
+    /// It stops, since no data space has the name.
+    NoName,
+    /// It stops, since a data space has the name already.
+    NameThere,
 }
 
 impl Next {
@@ -49,6 +63,13 @@ impl Next {
             Next::CellRoom => Some(Halt::Stopped(Stop::CellRoom)),
             Next::OperandRoom => Some(Halt::Stopped(Stop::OperandRoom)),
             Next::TextRoom => Some(Halt::Stopped(Stop::TextRoom)),
+            Next::NoSpace => Some(Halt::Stopped(Stop::NoSpace)),
+            Next::WrongShape => Some(Halt::Stopped(Stop::WrongShape)),
+            Next::ManySpaces => Some(Halt::Stopped(Stop::ManySpaces)),
+            Next::SpaceNumbers => Some(Halt::Stopped(Stop::SpaceNumbers)),
+            Next::BadName => Some(Halt::Stopped(Stop::BadName)),
+            Next::NoName => Some(Halt::Stopped(Stop::NoName)),
+            Next::NameThere => Some(Halt::Stopped(Stop::NameThere)),
         }
     }
 }

@@ -88,7 +88,7 @@ impl Stack {
             result ≡ bytes_fit (bytes_on (operand.Value value.now ∷ rest) (bytes_of self.now.frames)) }
     {
         match value {
-            Value::Int(_) | Value::Truth(_) | Value::Task(_) => true,
+            Value::Int(_) | Value::Truth(_) | Value::Task(_) | Value::Space(_) => true,
             Value::Text(text) => text.as_slice().len() <= OPERAND_BYTES as usize - self.bytes,
         }
     }

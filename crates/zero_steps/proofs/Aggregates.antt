@@ -16,7 +16,9 @@ use Rattle.eu_base.specs.declared.shape.Shape.{Shape}
 use Rattle.eu_base.specs.declared.shape.Shape.TheVariants.{Cell as OneCell}
 use Rattle.eu_base.specs.declared.stop.Stop.TheVariants.{OperandRoom as NoRoom, TextRoom as NoTextRoom}
 use Rattle.eu_base.specs.Shapes.{cell_kinds}
-use Rattle.eu_base.specs.Values.{number_of}
+use Rattle.eu_base.specs.Values.{kind_of, number_of}
+use Rattle.eu_base.specs.DataSpaces.{Heads}
+use Rattle.eu_base.specs.SpacePlaces.{is_in}
 use Rattle.eu_base.specs.Room.{values_bytes, values_blocks, bytes_fit, texts_fit}
 use Rattle.eu_base.specs.Cells.{Cell, Free, Cells, IsCell, area_blocks}
 use Rattle.eu_base.proofs.Rooms.{least_all}
@@ -25,20 +27,20 @@ use Rattle.code_form.specs.declared.operand.Operand.{Operand}
 use Rattle.code_form.specs.declared.operand.Operand.TheVariants.{Value as Of, Place as At, Aggregate}
 use Rattle.code_form.specs.declared.instr.Instr.TheVariants.{Pick, Take, Load, Store}
 use Rattle.code_form.specs.Program.{Program}
-use Rattle.code_form.specs.Machine.{Position, Control, free, Move, Halts, Unknown, On, operand_of, least_bytes, operand_bytes, bytes_on, bytes_of, goes, pushes}
+use Rattle.code_form.specs.Machine.{Mem, Position, Control, free, Move, Halts, Unknown, On, operand_of, least_bytes, operand_bytes, bytes_on, bytes_of, goes, pushes}
 use Rattle.code_form.specs.Machine.{on_all, on_cells, on_item, takes_all, written_all, puts_all, instruction, stage}
 use Rattle.eu_base.specs.Operations.{in_row}
 use Rattle.zero_state.specs.Finds.{is_value, all_of, TopBoth}
 use Rattle.zero_state.specs.Stacked.{Stacked}
 use Rattle.zero_state.specs.Emptied.{emptied, emptied_operand}
 use Rattle.zero_state.specs.declared.next.Next.{Next}
-use Rattle.zero_state.specs.declared.next.Next.TheVariants.{On as On', OperandRoom, TextRoom}
-use Rattle.zero_state.specs.Stepping.{stage_of, scene_of, stage_by, halt_of, Does, AreLike, StepsSo, GoesOn, Accesses}
+use Rattle.zero_state.specs.declared.next.Next.TheVariants.{On as On', OperandRoom, TextRoom, NoSpace}
+use Rattle.zero_state.specs.Stepping.{stage_of, mem_of, scene_of, stage_by, halt_of, Does, AreLike, StepsSo, GoesOn, Accesses}
 use Rattle.zero_state.proofs.Room.{same_like, less_fits}
-use Rattle.zero_state.proofs.Emptied.{emptied_operand_like, emptied_blocks}
+use Rattle.zero_state.proofs.Emptied.{emptied_operand_like, emptied_kinds, emptied_blocks}
 use Rattle.zero_state.proofs.Making.{done, plain}
 use Rattle.zero_steps.specs.Reading.{Reads, AllRead, PutsAll}
-use Rattle.zero_steps.proofs.Accessing.{Keeps, standing, with_ops, if_true, if_false}
+use Rattle.zero_steps.proofs.Accessing.{Keeps, standing, with_ops, if_true, if_false, there_is, gone_is}
 use Rattle.zero_steps.proofs.Along.{put_cells, put_there}
 use Rattle.zero_steps.proofs.Storing.{known_all, seen_of, seen_many, on_seen, without, emptied_taken}
 
@@ -57,28 +59,40 @@ value_size (Aggregate vs) is = refl
 pub one_read : (before : Cells → Type 0) (a : Addr) (k : Kind) (v : Value) → Reads before a k v → AllRead before a (cell_kinds (OneCell k)) (v ∷ [])
 one_read before a k v r = subst (λ ks. AllRead before a ks (v ∷ [])) (sym (kinds_of_cell k)) (r, tt)
 
-module _ (before after : Cells → Type 0) (shape : Shape) (a : Addr) (pc used : ℕ) (t : Stacked) where
+module _ (before after : Cells → Type 0) (heads : Heads) (shape : Shape) (a : Addr) (pc used : ℕ) (t : Stacked) where
   abbrev pub loading : Position
   loading = standing pc used (with_ops t (At a ∷ t.ops))
 
   abbrev cells_fit_there : Bool
   cells_fit_there = bytes_fit (least_bytes shape + bytes_on t.ops (bytes_of t.frames))
 
-  -- its cells alone have no room
-  pub load_least : Keeps before after → cells_fit_there ≡ false → Accesses before after (Load shape) loading (free loading) OperandRoom
-  load_least kept full =
-      plain before after (Load shape) loading (free loading) OperandRoom (λ cells. cells)
-      (λ cells p marks. ap (λ m. stage m loading (scene_of cells marks)) (if_false _ _ _ full)) kept
+  abbrev are_there : Bool
+  are_there = is_in (cell_kinds shape) a.area a.cell heads
 
-  module _ (vs : List Value) (low : IsCell a) (reads : AllRead before a (cell_kinds shape) vs) (kept : Keeps before after) (room : cells_fit_there ≡ true) where
+  -- its cells are not there
+  pub load_gone : Keeps before after → are_there ≡ false → Accesses before after heads (Load shape) loading (free loading) NoSpace
+  load_gone kept gone =
+      plain before after heads (Load shape) loading (free loading) NoSpace (λ cells. cells)
+      (λ cells p marks. ap (λ m. stage m loading (scene_of (mem_of heads cells) marks)) (gone_is (cell_kinds shape) a heads cells _ gone)) kept
+
+  -- its cells alone have no room
+  pub load_least : Keeps before after → are_there ≡ true → cells_fit_there ≡ false
+      → Accesses before after heads (Load shape) loading (free loading) OperandRoom
+  load_least kept here full =
+      plain before after heads (Load shape) loading (free loading) OperandRoom (λ cells. cells)
+      (λ cells p marks. ap (λ m. stage m loading (scene_of (mem_of heads cells) marks)) (if_false _ _ _ full ∙ there_is (cell_kinds shape) a heads cells _ here))
+      kept
+
+  module _ (vs : List Value) (low : IsCell a) (here : are_there ≡ true) (reads : AllRead before a (cell_kinds shape) vs) (kept : Keeps before after)
+      (room : cells_fit_there ≡ true) where
     abbrev loads : Cells → List Value → Move
-    loads cells vs = pushes loading (operand_of vs) t.ops cells
+    loads cells vs = pushes loading (operand_of vs) t.ops (mem_of heads cells)
 
     abbrev reading : Cells → Move
     reading cells = on_cells (cell_kinds shape) a cells (loads cells)
 
-    reads_it : (p : Program) (cells : Cells) → instruction p (Some (Load shape)) loading cells ≡ reading cells
-    reads_it p cells = sym (if_true _ (reading cells) (Halts NoRoom) room)
+    reads_it : (p : Program) (cells : Cells) → instruction p (Some (Load shape)) loading (mem_of heads cells) ≡ reading cells
+    reads_it p cells = sym (if_true _ (reading cells) (Halts NoRoom) room ∙ there_is (cell_kinds shape) a heads cells _ here)
 
     few : length (cell_kinds shape) ≤ CELLS
     few = let small = leb-true (least_bytes shape + bytes_on t.ops (bytes_of t.frames)) OPERAND_BYTES room in omega (arith, small)
@@ -96,36 +110,43 @@ module _ (before after : Cells → Type 0) (shape : Shape) (a : Addr) (pc used :
         on_seen before (cell_kinds shape) vs a reads holding (λ j x e. put_there seen a (λ _. Free) j x low (omega (arith, many, few)) e)
 
     load_so : (c' : Control) (next : Next)
-        → ((cells : Cells) (marks : ℕ) → stage_of (halt_of next) c' (scene_of cells marks) ≡ stage (loads cells vs) loading (scene_of cells marks))
-        → Accesses before after (Load shape) loading c' next
+        → ((cells : Cells) (marks : ℕ) → stage_of (halt_of next) c' (scene_of (mem_of heads cells) marks) ≡ stage (loads cells vs) loading (scene_of (mem_of heads cells) marks))
+        → Accesses before after heads (Load shape) loading c' next
     load_so c' next so p marks = record {
       does = λ cells h.
-          subst (λ m. Does after (halt_of next) c' marks (stage m loading (scene_of cells marks))) (sym (reads_it p cells))
+          subst (λ m. Does after heads (halt_of next) c' marks (stage m loading (scene_of (mem_of heads cells) marks))) (sym (reads_it p cells))
           (by cells h (known_all before (cell_kinds shape) vs a reads cells h (loads cells)));
       ops = loading.ops;
       like = same_like loading.ops;
-      cells = holding;
+      mem = mem_of heads holding;
       leads = inl (
-        holding,
-        so holding marks ∙ ap (λ m. stage m loading (scene_of holding marks)) (sym (reads_it p holding ∙ holds_it (loads holding))),
+        mem_of heads holding,
+        so holding marks ∙ ap (λ m. stage m loading (scene_of (mem_of heads holding) marks)) (sym (reads_it p holding ∙ holds_it (loads holding))),
       );
     }
       where
         by : (cells : Cells) → before cells → (reading cells ≡ loads cells vs) ⊎ (reading cells ≡ Unknown)
-            → Does after (halt_of next) c' marks (stage (reading cells) loading (scene_of cells marks))
+            → Does after heads (halt_of next) c' marks (stage (reading cells) loading (scene_of (mem_of heads cells) marks))
         by cells h (inl e) =
-            subst (λ m. Does after (halt_of next) c' marks (stage m loading (scene_of cells marks))) (sym e)
-            (done after (halt_of next) c' marks _ cells (kept cells h) (so cells marks))
-        by cells h (inr e) = subst (λ m. Does after (halt_of next) c' marks (stage m loading (scene_of cells marks))) (sym e) tt
+            subst (λ m. Does after heads (halt_of next) c' marks (stage m loading (scene_of (mem_of heads cells) marks))) (sym e)
+            (done after heads (halt_of next) c' marks _ cells (kept cells h) (so cells marks))
+        by cells h (inr e) = subst (λ m. Does after heads (halt_of next) c' marks (stage m loading (scene_of (mem_of heads cells) marks))) (sym e) tt
 
     pub load_goes : bytes_fit (bytes_on (operand_of vs ∷ t.ops) (bytes_of t.frames)) ≡ true
-        → Accesses before after (Load shape) loading (free (standing (pc + 1) used (with_ops t (operand_of vs ∷ t.ops)))) On'
+        → Accesses before after heads (Load shape) loading (free (standing (pc + 1) used (with_ops t (operand_of vs ∷ t.ops)))) On'
     load_goes fits =
         load_so (free (standing (pc + 1) used (with_ops t (operand_of vs ∷ t.ops)))) On'
-        (λ cells marks. ap (λ m. stage m loading (scene_of cells marks)) (if_true _ _ _ fits))
+        (λ cells marks. ap (λ m. stage m loading (scene_of (mem_of heads cells) marks)) (if_true _ _ _ fits))
 
-    pub load_stops : bytes_fit (bytes_on (operand_of vs ∷ t.ops) (bytes_of t.frames)) ≡ false → Accesses before after (Load shape) loading (free loading) OperandRoom
-    load_stops full = load_so (free loading) OperandRoom (λ cells marks. ap (λ m. stage m loading (scene_of cells marks)) (if_false _ _ _ full))
+    pub load_stops : bytes_fit (bytes_on (operand_of vs ∷ t.ops) (bytes_of t.frames)) ≡ false → Accesses before after heads (Load shape) loading (free loading) OperandRoom
+    load_stops full = load_so (free loading) OperandRoom (λ cells marks. ap (λ m. stage m loading (scene_of (mem_of heads cells) marks)) (if_false _ _ _ full))
+
+-- a cell of a kind stands there, or does not
+pub one_there : (a : Addr) (k : Kind) (heads : Heads) → is_in (k ∷ []) a.area a.cell heads ≡ true → is_in (cell_kinds (OneCell k)) a.area a.cell heads ≡ true
+one_there a k heads e = ap (λ ks. is_in ks a.area a.cell heads) (kinds_of_cell k) ∙ e
+
+pub one_gone : (a : Addr) (k : Kind) (heads : Heads) → is_in (k ∷ []) a.area a.cell heads ≡ false → is_in (cell_kinds (OneCell k)) a.area a.cell heads ≡ false
+one_gone a k heads e = ap (λ ks. is_in ks a.area a.cell heads) (kinds_of_cell k) ∙ e
 
 -- a value of one cell has room for its cell where the place has
 pub one_fits : (a : Addr) (k : Kind) (t s : Stacked) → s ≡ with_ops t (At a ∷ t.ops) → bytes_fit (bytes_on s.ops (bytes_of s.frames)) ≡ true
@@ -135,8 +156,8 @@ one_fits a k t s is fits =
     ap (λ n. bytes_fit (n + bytes_on t.ops (bytes_of t.frames))) one
     ∙ ap (λ (s : Stacked). bytes_fit (bytes_on s.ops (bytes_of s.frames))) (sym is) ∙ fits
 
-module _ (before after : Cells → Type 0) (shape : Shape) (o : Operand) (value : is_value o ≡ true) (a : Addr) (low : IsCell a) (pc used : ℕ) (t : Stacked)
-    (few : length (all_of o) ≤ CELLS) where
+module _ (before after : Cells → Type 0) (heads : Heads) (shape : Shape) (o : Operand) (value : is_value o ≡ true) (a : Addr) (low : IsCell a) (pc used : ℕ)
+    (t : Stacked) (few : length (all_of o) ≤ CELLS) where
   abbrev pub storing : Operand → Position
   storing o = standing pc used (with_ops t (o ∷ At a ∷ t.ops))
 
@@ -144,7 +165,7 @@ module _ (before after : Cells → Type 0) (shape : Shape) (o : Operand) (value 
   stored = free (standing (pc + 1) used t)
 
   stores_it : (q : Operand) → is_value q ≡ true → (p : Program) (cells : Cells)
-      → instruction p (Some (Store shape)) (storing q) cells ≡ puts_all (storing q) a (all_of q) t.ops cells
+      → instruction p (Some (Store shape)) (storing q) (mem_of heads cells) ≡ puts_all (storing q) a (all_of q) t.ops (mem_of heads cells)
   stores_it (Of v) is p cells = refl
   stores_it (At b) is p cells = absurd (cc is)
   stores_it (Aggregate vs) is p cells = refl
@@ -153,22 +174,31 @@ module _ (before after : Cells → Type 0) (shape : Shape) (o : Operand) (value 
   vs = all_of o
 
   abbrev put_if : Cells → Bool → Move
-  put_if cells fits = cond fits (goes (storing o) t.ops (written_all cells a vs)) (Halts NoTextRoom)
+  put_if cells fits = cond fits (goes (storing o) t.ops (mem_of heads (written_all cells a vs))) (Halts NoTextRoom)
 
   abbrev fitting : Cells → Bool
   fitting cells = texts_fit (values_blocks vs) (area_blocks a.area (written_all cells a vs))
 
-  put_so : (how : Next) (c' : Control) (p : Program) (marks : ℕ)
+  -- its cells are not there
+  pub store_gone : Keeps before after → is_in (map kind_of vs) a.area a.cell heads ≡ false
+      → Accesses before after heads (Store shape) (storing o) (free (storing o)) NoSpace
+  store_gone kept gone =
+      plain before after heads (Store shape) (storing o) (free (storing o)) NoSpace (λ cells. cells)
+      (λ cells p marks. ap (λ m. stage m (storing o) (scene_of (mem_of heads cells) marks))
+      (gone_is (map kind_of vs) a heads cells _ gone ∙ sym (stores_it o value p cells))) kept
+
+  put_so : (how : Next) (c' : Control) (p : Program) (marks : ℕ) → is_in (map kind_of vs) a.area a.cell heads ≡ true
       → ((cells : Cells) → before cells → takes_all vs a cells ≡ true
-      → Does after (halt_of how) c' marks (stage (put_if cells (fitting cells)) (storing o) (scene_of cells marks)))
+      → Does after heads (halt_of how) c' marks (stage (put_if cells (fitting cells)) (storing o) (scene_of (mem_of heads cells) marks)))
       → (cells : Cells) → before cells
-      → Does after (halt_of how) c' marks (stage (instruction p (Some (Store shape)) (storing o) cells) (storing o) (scene_of cells marks))
-  put_so how c' p marks so cells h =
-      subst (λ m. Does after (halt_of how) c' marks (stage m (storing o) (scene_of cells marks))) (sym (stores_it o value p cells))
+      → Does after heads (halt_of how) c' marks (stage (instruction p (Some (Store shape)) (storing o) (mem_of heads cells)) (storing o) (scene_of (mem_of heads cells) marks))
+  put_so how c' p marks here so cells h =
+      subst (λ m. Does after heads (halt_of how) c' marks (stage m (storing o) (scene_of (mem_of heads cells) marks)))
+      (there_is (map kind_of vs) a heads cells _ here ∙ sym (stores_it o value p cells))
       (by (takes_all vs a cells) refl)
     where
       by : (b : Bool) → takes_all vs a cells ≡ b
-          → Does after (halt_of how) c' marks (stage (cond b (put_if cells (fitting cells)) Unknown) (storing o) (scene_of cells marks))
+          → Does after heads (halt_of how) c' marks (stage (cond b (put_if cells (fitting cells)) Unknown) (storing o) (scene_of (mem_of heads cells) marks))
       by true e = so cells h e
       by false e = tt
 
@@ -195,44 +225,53 @@ module _ (before after : Cells → Type 0) (shape : Shape) (o : Operand) (value 
   many : length ws ≡ length vs
   many = length-map vs emptied
 
-  goes_emptied : (p : Program) → instruction p (Some (Store shape)) (storing other) holding' ≡ goes (storing other) t.ops (written_all holding' a ws)
-  goes_emptied p =
-      stores_it other (other_value o value) p holding' ∙ ap (λ l. puts_all (storing other) a l t.ops holding') (other_all o)
+  -- it is of the same kinds
+  ws_there : is_in (map kind_of vs) a.area a.cell heads ≡ true → is_in (map kind_of ws) a.area a.cell heads ≡ true
+  ws_there here = ap (λ ks. is_in ks a.area a.cell heads) (sym (emptied_kinds vs)) ∙ here
+
+  goes_emptied : is_in (map kind_of vs) a.area a.cell heads ≡ true → (p : Program)
+      → instruction p (Some (Store shape)) (storing other) (mem_of heads holding') ≡ goes (storing other) t.ops (mem_of heads (written_all holding' a ws))
+  goes_emptied here p =
+      stores_it other (other_value o value) p holding' ∙ ap (λ l. puts_all (storing other) a l t.ops (mem_of heads holding')) (other_all o)
+      ∙ sym (there_is (map kind_of ws) a heads holding' _ (ws_there here))
       ∙ ap (λ b. cond b (cond (texts_fit (values_blocks ws) (area_blocks a.area (written_all holding' a ws)))
-      (goes (storing other) t.ops (written_all holding' a ws)) (Halts NoTextRoom)) Unknown) (emptied_taken vs a (λ _. Free) low few)
-      ∙ ap (λ n. cond (texts_fit n (area_blocks a.area (written_all holding' a ws))) (goes (storing other) t.ops (written_all holding' a ws))
+      (goes (storing other) t.ops (mem_of heads (written_all holding' a ws))) (Halts NoTextRoom)) Unknown) (emptied_taken vs a (λ _. Free) low few)
+      ∙ ap (λ n. cond (texts_fit n (area_blocks a.area (written_all holding' a ws))) (goes (storing other) t.ops (mem_of heads (written_all holding' a ws)))
       (Halts NoTextRoom)) (emptied_blocks vs)
 
   like : AreLike (o ∷ At a ∷ t.ops) (other ∷ At a ∷ t.ops)
   like = (emptied_operand_like o, ((λ cell. cell), same_like t.ops))
 
-  pub store_goes : PutsAll before after a vs Done → Accesses before after (Store shape) (storing o) stored On'
-  store_goes put p marks = record {
+  pub store_goes : is_in (map kind_of vs) a.area a.cell heads ≡ true → PutsAll before after a vs Done → Accesses before after heads (Store shape) (storing o) stored On'
+  store_goes here put p marks = record {
     does =
-        put_so On' stored p marks (λ cells h taken.
-        done after None stored marks _ (written_all cells a vs) (put cells h taken).1
-        (ap (λ b. stage (put_if cells b) (storing o) (scene_of cells marks)) (sym (put cells h taken).0)));
+        put_so On' stored p marks here (λ cells h taken.
+        done after heads None stored marks _ (written_all cells a vs) (put cells h taken).1
+        (ap (λ b. stage (put_if cells b) (storing o) (scene_of (mem_of heads cells) marks)) (sym (put cells h taken).0)));
     ops = other ∷ At a ∷ t.ops;
     like = like;
-    cells = holding';
-    leads = inl (written_all holding' a ws, ap (λ m. stage m (storing other) (scene_of holding' marks)) (sym (goes_emptied p)));
+    mem = mem_of heads holding';
+    leads = inl (
+      mem_of heads (written_all holding' a ws),
+      ap (λ m. stage m (storing other) (scene_of (mem_of heads holding') marks)) (sym (goes_emptied here p)),
+    );
   }
 
-  pub store_full : PutsAll before after a vs HeapFull → Accesses before after (Store shape) (storing o) (free (storing o)) TextRoom
-  store_full put p marks = record {
+  pub store_full : is_in (map kind_of vs) a.area a.cell heads ≡ true → PutsAll before after a vs HeapFull → Accesses before after heads (Store shape) (storing o) (free (storing o)) TextRoom
+  store_full here put p marks = record {
     does =
-        put_so TextRoom (free (storing o)) p marks (λ cells h taken.
-        done after (halt_of TextRoom) (free (storing o)) marks _ cells (put cells h taken).1
-        (ap (λ b. stage (put_if cells b) (storing o) (scene_of cells marks)) (sym (put cells h taken).0)));
+        put_so TextRoom (free (storing o)) p marks here (λ cells h taken.
+        done after heads (halt_of TextRoom) (free (storing o)) marks _ cells (put cells h taken).1
+        (ap (λ b. stage (put_if cells b) (storing o) (scene_of (mem_of heads cells) marks)) (sym (put cells h taken).0)));
     ops = other ∷ At a ∷ t.ops;
     like = like;
-    cells = holding';
+    mem = mem_of heads holding';
     leads = inr (record {
       stops = refl;
       stays = refl;
       after = stored;
-      now = written_all holding' a ws;
-      goes = ap (λ m. stage m (storing other) (scene_of holding' marks)) (goes_emptied p);
+      now = mem_of heads (written_all holding' a ws);
+      goes = ap (λ m. stage m (storing other) (scene_of (mem_of heads holding') marks)) (goes_emptied here p);
     });
   }
 
@@ -272,21 +311,21 @@ module _ (o : Operand) (value : is_value o ≡ true) (from size pc used : ℕ) (
   on_it (Aggregate us) is go = refl
 
   module _ (fits : bytes_fit (bytes_on (part ∷ t.ops) (bytes_of t.frames)) ≡ true) where
-    pub take_so : (n : ℕ) (cells : Cells) → StepsSo (Take n from size) (standing pc used (with_ops t (o ∷ t.ops))) cells partly cells On'
-    take_so n cells p marks =
+    pub take_so : (n : ℕ) (mem : Mem) → StepsSo (Take n from size) (standing pc used (with_ops t (o ∷ t.ops))) mem partly mem On'
+    take_so n mem p marks =
         let c = standing pc used (with_ops t (o ∷ t.ops)) in
-        ap (λ m. stage m c (scene_of cells marks))
-        (if_true _ (goes c (part ∷ t.ops) cells) (Halts NoRoom) fits ∙ sym (on_it o value (λ vs ops. pushes c (operand_of (take size (drop from vs))) ops cells)))
+        ap (λ m. stage m c (scene_of mem marks))
+        (if_true _ (goes c (part ∷ t.ops) mem) (Halts NoRoom) fits ∙ sym (on_it o value (λ vs ops. pushes c (operand_of (take size (drop from vs))) ops mem)))
 
-    pub pick_so : (n k : ℕ) (number : Value) → in_row n (number_of number) ≡ Some k → from ≡ k * size → (cells : Cells)
-        → StepsSo (Pick n size) (standing pc used (with_ops t (Of number ∷ o ∷ t.ops))) cells partly cells On'
-    pick_so n k number there is cells p marks =
+    pub pick_so : (n k : ℕ) (number : Value) → in_row n (number_of number) ≡ Some k → from ≡ k * size → (mem : Mem)
+        → StepsSo (Pick n size) (standing pc used (with_ops t (Of number ∷ o ∷ t.ops))) mem partly mem On'
+    pick_so n k number there is mem p marks =
         let c = standing pc used (with_ops t (Of number ∷ o ∷ t.ops)) in
-        ap (λ m. stage m c (scene_of cells marks))
-        (if_true _ (goes c (part ∷ t.ops) cells) (Halts NoRoom) fits
-        ∙ ap (λ n. pushes c (operand_of (take size (drop n (all_of o)))) t.ops cells) is
-        ∙ ap (λ k. on_item k (λ k. pushes c (operand_of (take size (drop (k * size) (all_of o)))) t.ops cells)) (sym there)
-        ∙ sym (on_it o value (λ vs ops. on_item (in_row n (number_of number)) (λ k. pushes c (operand_of (take size (drop (k * size) vs))) ops cells))))
+        ap (λ m. stage m c (scene_of mem marks))
+        (if_true _ (goes c (part ∷ t.ops) mem) (Halts NoRoom) fits
+        ∙ ap (λ n. pushes c (operand_of (take size (drop n (all_of o)))) t.ops mem) is
+        ∙ ap (λ k. on_item k (λ k. pushes c (operand_of (take size (drop (k * size) (all_of o)))) t.ops mem)) (sym there)
+        ∙ sym (on_it o value (λ vs ops. on_item (in_row n (number_of number)) (λ k. pushes c (operand_of (take size (drop (k * size) vs))) ops mem))))
 
 -- a value that was taken from the top
 pub popped_value : (s t : Stacked) (o q : Operand) (rest : List Operand) → s ≡ with_ops t (o ∷ t.ops) → s.ops ≡ q ∷ rest → is_value q ≡ true
@@ -312,25 +351,25 @@ module _ (o : Operand) (rest : List Operand) (pc used : ℕ) (w : Waits) (c' : C
 
   pub took : {T E : Type 0} (result : Result T E) (n from size f z : ℕ) (s : Stacked) → f ≡ from → z ≡ size → s.ops ≡ o ∷ rest
       → bytes_fit (bytes_on s.ops (bytes_of s.frames)) ≡ true → OnOk result (Leaves f z s)
-      → OnOk result ((known : Cells) → GoesOn (Take n from size) (standing pc used s) known c' known)
+      → OnOk result ((mem : Mem) → GoesOn (Take n from size) (standing pc used s) mem c' mem)
   took (Err e) n from size f z s from_is size_is top room leaves = tt
-  took (Ok x) n from size f z s from_is size_is top room leaves = λ known p marks.
+  took (Ok x) n from size f z s from_is size_is top room leaves = λ mem p marks.
       let there : s ≡ with_ops (below s) (o ∷ rest) = ap (λ (ops : List Operand). with_ops (below s) ops) top in
       let leaves' : Leaves from size s = subst (λ z. Leaves from z s) size_is (subst (λ f. Leaves f z s) from_is leaves) in
-      ap (λ d. On d (scene_of known marks)) (left from size s top leaves')
-      ∙ take_so o value from size pc used (below s) (part_fits o from size (below s) s value there room) n known p marks
-      ∙ ap (λ (s : Stacked). stage_by p (Take n from size) marks (standing pc used s) known) (sym there)
+      ap (λ d. On d (scene_of mem marks)) (left from size s top leaves')
+      ∙ take_so o value from size pc used (below s) (part_fits o from size (below s) s value there room) n mem p marks
+      ∙ ap (λ (s : Stacked). stage_by p (Take n from size) marks (standing pc used s) mem) (sym there)
 
   pub picked : (n size k f z : ℕ) (number : Value) (s t : Stacked) → s ≡ with_ops t (Of number ∷ t.ops) → t.ops ≡ o ∷ rest
       → bytes_fit (bytes_on t.ops (bytes_of t.frames)) ≡ true → Leaves f z t → in_row n (number_of number) ≡ Some k → f ≡ k * size → z ≡ size
-      → (known : Cells) → StepsSo (Pick n size) (standing pc used s) known c' known On'
-  picked n size k f z number s t is top room leaves row from_is size_is known p marks =
+      → (mem : Mem) → StepsSo (Pick n size) (standing pc used s) mem c' mem On'
+  picked n size k f z number s t is top room leaves row from_is size_is mem p marks =
       let leaves' : Leaves (k * size) size t = subst (λ z. Leaves (k * size) z t) size_is (subst (λ f. Leaves f z t) from_is leaves) in
       let there : t ≡ with_ops (below t) (o ∷ rest) = ap (λ (ops : List Operand). with_ops (below t) ops) top in
       let whole : s ≡ with_ops (below t) (Of number ∷ o ∷ rest) = is ∙ ap (λ (t : Stacked). with_ops t (Of number ∷ t.ops)) there in
-      ap (λ d. On d (scene_of known marks)) (left (k * size) size t top leaves')
-      ∙ pick_so o value (k * size) size pc used (below t) (part_fits o (k * size) size (below t) t value there room) n k number row refl known p marks
-      ∙ ap (λ (s : Stacked). stage_by p (Pick n size) marks (standing pc used s) known) (sym whole)
+      ap (λ d. On d (scene_of mem marks)) (left (k * size) size t top leaves')
+      ∙ pick_so o value (k * size) size pc used (below t) (part_fits o (k * size) size (below t) t value there room) n k number row refl mem p marks
+      ∙ ap (λ (s : Stacked). stage_by p (Pick n size) marks (standing pc used s) mem) (sym whole)
 
 -- what stands below a number that was taken
 pub below_number : (s t : Stacked) (v w : Value) (o : Operand) (rest : List Operand) → s ≡ with_ops t (Of v ∷ t.ops) → s.ops ≡ Of w ∷ o ∷ rest

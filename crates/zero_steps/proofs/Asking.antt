@@ -8,11 +8,10 @@ use Rattle.code_form.specs.Program.{Program}
 use Rattle.code_form.specs.declared.instr.Instr.TheVariants.{Ask}
 use Rattle.std.proofs.lemmas.List.{reverse-append}
 use Rattle.eu_base.specs.declared.value.Value.{Value}
-use Rattle.eu_base.specs.Cells.{Cells}
 use Rattle.code_form.specs.declared.operand.Operand.{Operand}
 use Rattle.code_form.specs.declared.operand.Operand.TheVariants.{Value as Of}
 use Rattle.code_form.specs.declared.halt.Halt.TheVariants as halts
-use Rattle.code_form.specs.Machine.{Position, free, asking, After, Asks, Spends, Move, On, Over, on_values, on_operands, value_in, instruction, rest_at, stage}
+use Rattle.code_form.specs.Machine.{Mem, Position, free, asking, After, Asks, Spends, Move, On, Over, on_values, on_operands, value_in, instruction, rest_at, stage}
 use Rattle.zero_state.specs.Stacked.{Stacked}
 use Rattle.zero_steps.specs.Giving.{put_on}
 use Rattle.zero_state.specs.Finds.{TopValue, TopValues}
@@ -21,22 +20,22 @@ use Rattle.zero_state.proofs.Making.{unspent, spent}
 use Rattle.zero_state.proofs.Stacks.{taken_all}
 
 -- without marks a request is due, and nothing is asked yet
-pub due : (n : ℕ) (ops : List Operand) (after : List Operand → List Operand → After) (c : Position) (cells : Cells) (m : ℕ) → n ≤ length ops → m ≡ 0
-    → Over (rest_at halts.Marked (free c) (scene_of cells m)) ≡ stage (on_operands n [] ops (λ os rest. Spends (after os rest))) c (scene_of cells m)
-due n ops after c cells m le e =
-    unspent m (after (reverse (take n ops)) (drop n ops)) c cells e
-    ∙ ap (λ x. stage x c (scene_of cells m)) (sym (taken_all n ops (λ os rest. Spends (after os rest)) le))
+pub due : (n : ℕ) (ops : List Operand) (after : List Operand → List Operand → After) (c : Position) (mem : Mem) (m : ℕ) → n ≤ length ops → m ≡ 0
+    → Over (rest_at halts.Marked (free c) (scene_of mem m)) ≡ stage (on_operands n [] ops (λ os rest. Spends (after os rest))) c (scene_of mem m)
+due n ops after c mem m le e =
+    unspent m (after (reverse (take n ops)) (drop n ops)) c mem e
+    ∙ ap (λ x. stage x c (scene_of mem m)) (sym (taken_all n ops (λ os rest. Spends (after os rest)) le))
 
 -- a request is made with the operands on top, and costs a mark
-pub asked : (p : Program) (name : RequestName) (c : Position) (cells : Cells) (m : ℕ) (q : Request) (top : List Operand) → request_size name ≤ length c.ops
+pub asked : (p : Program) (name : RequestName) (c : Position) (mem : Mem) (m : ℕ) (q : Request) (top : List Operand) → request_size name ≤ length c.ops
     → 0 < m → top ≡ reverse (take (request_size name) c.ops) → q ≡ request_of name (map value_in top)
-    → On (asking c q) (scene_of cells (m - 1)) ≡ stage (instruction p (Some (Ask name)) c cells) c (scene_of cells m)
-asked p name c cells m q top le lt is made =
+    → On (asking c q) (scene_of mem (m - 1)) ≡ stage (instruction p (Some (Ask name)) c mem) c (scene_of mem m)
+asked p name c mem m q top le lt is made =
     let n = request_size name in
-    let asks : Request → After = λ q. Asks c q cells in
-    spent m (asks q) c cells lt
-    ∙ ap (λ q. stage (Spends (asks q)) c (scene_of cells m)) (made ∙ ap (λ os. request_of name (map value_in os)) is)
-    ∙ ap (λ x. stage x c (scene_of cells m)) (sym (taken_all n c.ops (λ os ops. Spends (asks (request_of name (map value_in os)))) le))
+    let asks : Request → After = λ q. Asks c q mem in
+    spent m (asks q) c mem lt
+    ∙ ap (λ q. stage (Spends (asks q)) c (scene_of mem m)) (made ∙ ap (λ os. request_of name (map value_in os)) is)
+    ∙ ap (λ x. stage x c (scene_of mem m)) (sym (taken_all n c.ops (λ os ops. Spends (asks (request_of name (map value_in os)))) le))
 
 -- so many of these values were taken, and the others are on top
 pub record Taken (count k : ℕ) (before ops : List Operand) (values : List Value) : Type 0 where

@@ -1,6 +1,6 @@
 -- What is read out of a cell, and put into one.
 use Rattle.std.proofs.Common.{◌≡◌, ℕ, ◌≤◌, List, ◌++◌, Bool, refl, sym, ap, ◌∙◌, arith, ℤ, ◌⊎◌, inl, inr, subst}
-use Rattle.std.specs.Prelude.{Result, Ok, Err, IfOk}
+use Rattle.std.specs.Prelude.{Result, Ok, Err, IfOk, Option}
 use Rattle.eu_base.specs.declared.address.Addr.{Addr}
 use Rattle.eu_base.specs.declared.set.Set.{Set}
 use Rattle.eu_base.specs.declared.set.Set.TheVariants.{Done, HeapFull}
@@ -9,7 +9,7 @@ use Rattle.eu_base.specs.declared.value.Value.{Value}
 use Rattle.eu_base.specs.declared.value.Value.TheVariants as item
 use Rattle.eu_base.specs.declared.operation.Change.{Change}
 use Rattle.eu_base.specs.declared.operation.Change.TheVariants.{Append}
-use Rattle.eu_base.specs.Values.{text_of, cell_of, number_in, truth_in, task_in}
+use Rattle.eu_base.specs.Values.{SpaceNo, text_of, cell_of, number_in, truth_in, task_in, space_in}
 use Rattle.eu_base.specs.Operations.{change_kind, changed, fitting}
 use Rattle.eu_base.specs.Room.{most_blocks}
 use Rattle.eu_base.specs.Cells.{Cell, Free, Word, Letters, Cells, held_of, written, cell_blocks, area_blocks, HasText, Puts}
@@ -46,6 +46,13 @@ task_read before a n t is answers = record {
   known = λ cells h. word_known (λ n. item.Task (task_in n)) (cells a) n (item.Task t) (ap item.Task is) (λ m e. answers cells m h e);
   seen = Word n;
   is = λ go. ap (λ t. go (item.Task t)) (sym is);
+}
+
+pub space_read : (before : Cells → Type 0) (a : Addr) (n : ℕ) (t : Option SpaceNo) → t ≡ space_in n → Answers before a n → Reads before a kinds.Space (item.Space t)
+space_read before a n t is answers = record {
+  known = λ cells h. word_known (λ n. item.Space (space_in n)) (cells a) n (item.Space t) (ap item.Space is) (λ m e. answers cells m h e);
+  seen = Word n;
+  is = λ go. ap (λ t. go (item.Space t)) (sym is);
 }
 
 text_known : (x : Cell) (t : List ℕ) → ((u : List ℕ) → x ≡ Letters u → t ≡ u) → IsRead kinds.Text x (item.Text t)

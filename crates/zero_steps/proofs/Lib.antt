@@ -8,3 +8,7 @@ pub mod Replying
 pub mod Along
 pub mod Storing
 pub mod Aggregates
+pub mod Placed
+pub mod Looking
+pub mod Performing
+pub mod Assigning

@@ -5,19 +5,18 @@ use Rattle.eu_base.specs.declared.value.Value.{Value}
 use Rattle.eu_base.specs.declared.operation.Operation.{Operation}
 use Rattle.eu_base.specs.declared.operation.Operation.TheVariants.{OnTexts}
 use Rattle.eu_base.specs.Operations.{Given, operand, operand_kinds, result_kind, result_of}
-use Rattle.eu_base.specs.declared.value.Value.TheVariants.{Int, Truth, Text, Task}
+use Rattle.eu_base.specs.declared.value.Value.TheVariants.{Int, Truth, Text, Task, Space}
 use Rattle.eu_base.specs.declared.stop.Stop.TheVariants as stops
 use Rattle.eu_base.specs.Room.{value_bytes, bytes_fit}
 use Rattle.eu_base.specs.Values.{IsOf}
 use Rattle.eu_base.proofs.Results.{result_gives}
-use Rattle.eu_base.specs.Cells.{Cells}
 use Rattle.code_form.specs.declared.operand.Operand.{Operand}
 use Rattle.code_form.specs.declared.operand.Operand.TheVariants.{Value as Of}
 use Rattle.code_form.specs.declared.halt.Halt.TheVariants as halts
 use Rattle.code_form.specs.declared.instr.Instr.TheVariants.{Do}
 use Rattle.code_form.specs.declared.waits.Waits.{Waits}
 use Rattle.code_form.specs.declared.waits.Waits.TheVariants.{Nothing}
-use Rattle.code_form.specs.Machine.{Position, Control, free, Move, Halts, On, Over, rest_at, bytes_on, bytes_of, goes, on_values, or_halt, pushes, stage}
+use Rattle.code_form.specs.Machine.{Mem, Position, Control, free, Move, Halts, On, Over, rest_at, bytes_on, bytes_of, goes, on_values, or_halt, pushes, stage}
 use Rattle.zero_state.specs.declared.state.State.{State}
 use Rattle.zero_state.specs.declared.next.Next.{Next}
 use Rattle.zero_state.specs.declared.next.Next.TheVariants.{On as On'}
@@ -60,15 +59,15 @@ put_back c c' ops = put_back_by c c' (λ rest. ops ++ rest)
 
 pub stops_so : (op : Operation) (vs : List Value) (c : Position) (rest : List Operand) (g : Given) (s s' : State) (next : Next)
     → ((go : List Value → List Operand → Move) → on_values (length (operand_kinds op)) [] c.ops go ≡ go vs rest) → g ≡ result_of op vs
-    → GivesSo g s s' (Some next) → s.stack.ops ≡ rest → c.frames ≡ s.stack.frames → (d : Control) → d ≡ free c → (cells : Cells)
-    → StepsSo (Do op) c cells d cells next
-stops_so op vs c rest g s s' next taken g_is gives rest_is frames d is cells p marks =
+    → GivesSo g s s' (Some next) → s.stack.ops ≡ rest → c.frames ≡ s.stack.frames → (d : Control) → d ≡ free c → (mem : Mem)
+    → StepsSo (Do op) c mem d mem next
+stops_so op vs c rest g s s' next taken g_is gives rest_is frames d is mem p marks =
     let stop = gives.1.0 in
-    ap (λ h. stage_of h d (scene_of cells marks)) gives.1.1.0
-    ∙ ap (λ d. Over (rest_at (halts.Stopped stop) d (scene_of cells marks))) is
-    ∙ ap (λ m. stage m c (scene_of cells marks)) (sym (taken (λ vs ops. or_halt (result_of op vs) (λ v. pushes c (Of v) ops cells))
-    ∙ ap (λ g. or_halt g (λ v. pushes c (Of v) rest cells)) (sym g_is)
-    ∙ ap (λ r. or_halt g (λ v. pushes c (Of v) r cells)) (sym rest_is) ∙ gives.1.1.1 c cells frames))
+    ap (λ h. stage_of h d (scene_of mem marks)) gives.1.1.0
+    ∙ ap (λ d. Over (rest_at (halts.Stopped stop) d (scene_of mem marks))) is
+    ∙ ap (λ m. stage m c (scene_of mem marks)) (sym (taken (λ vs ops. or_halt (result_of op vs) (λ v. pushes c (Of v) ops mem))
+    ∙ ap (λ g. or_halt g (λ v. pushes c (Of v) rest mem)) (sym g_is)
+    ∙ ap (λ r. or_halt g (λ v. pushes c (Of v) r mem)) (sym rest_is) ∙ gives.1.1.1 c mem frames))
 
 -- a number, a truth value or a task takes no more room than what it is made of
 number_bytes : (op : Operation) (v : Value) → has_texts op ≡ false → IsOf (result_kind op) v → value_bytes v ≡ 8
@@ -77,12 +76,14 @@ number_bytes _ (Int z) h of = refl
 number_bytes _ (Truth b) h of = refl
 number_bytes _ (Text t) h of = absurd of
 number_bytes _ (Task n) h of = refl
+number_bytes _ (Space s) h of = refl
 
-at_least : (v : Value) → 8 ≤ value_bytes v
+pub at_least : (v : Value) → 8 ≤ value_bytes v
 at_least (Int z) = omega arith
 at_least (Truth b) = omega arith
 at_least (Text t) = omega arith
 at_least (Task n) = omega arith
+at_least (Space s) = omega arith
 
 more_on : (more ops : List Operand) (held : ℕ) → bytes_on ops held ≤ bytes_on (more ++ ops) held
 more_on [] ops held = omega arith
@@ -100,16 +101,16 @@ module _ (op : Operation) (vs : List Value) (v : Value) (is : Ok v ≡ result_of
   pub gives_so : (pc used : ℕ) (u : Stacked) (w : Waits)
       → ((go : List Value → List Operand → Move) → on_values (length (operand_kinds op)) [] s.ops go ≡ go vs t.ops)
       → bytes_fit (bytes_on (Of v ∷ t.ops) (bytes_of t.frames)) ≡ true → s.frames ≡ t.frames → u ≡ with_ops t (Of v ∷ t.ops) → w ≡ Nothing
-      → (cells : Cells) → StepsSo (Do op) (standing pc used s) cells (record { position = standing (pc + 1) used u; waits = w }) cells On'
-  gives_so pc used u w taken fits same put none cells p marks =
-      ap (λ u. On (record { position = standing (pc + 1) used u; waits = w }) (scene_of cells marks)) put
-      ∙ ap (λ w. On (record { position = standing (pc + 1) used (with_ops t (Of v ∷ t.ops)); waits = w }) (scene_of cells marks)) none
-      ∙ ap (λ fs. On (free (standing (pc + 1) used (record { ops = Of v ∷ t.ops; frames = fs }))) (scene_of cells marks)) (sym same)
-      ∙ ap (λ m. stage m (standing pc used s) (scene_of cells marks))
-      (sym (taken (λ vs ops. or_halt (result_of op vs) (λ v. pushes (standing pc used s) (Of v) ops cells))
-      ∙ ap (λ g. or_halt g (λ v. pushes (standing pc used s) (Of v) t.ops cells)) (sym is)
-      ∙ ap (λ fs. cond (bytes_fit (bytes_on (Of v ∷ t.ops) (bytes_of fs))) (goes (standing pc used s) (Of v ∷ t.ops) cells) (Halts stops.OperandRoom)) same
-      ∙ ap (λ b. cond b (goes (standing pc used s) (Of v ∷ t.ops) cells) (Halts stops.OperandRoom)) fits))
+      → (mem : Mem) → StepsSo (Do op) (standing pc used s) mem (record { position = standing (pc + 1) used u; waits = w }) mem On'
+  gives_so pc used u w taken fits same put none mem p marks =
+      ap (λ u. On (record { position = standing (pc + 1) used u; waits = w }) (scene_of mem marks)) put
+      ∙ ap (λ w. On (record { position = standing (pc + 1) used (with_ops t (Of v ∷ t.ops)); waits = w }) (scene_of mem marks)) none
+      ∙ ap (λ fs. On (free (standing (pc + 1) used (record { ops = Of v ∷ t.ops; frames = fs }))) (scene_of mem marks)) (sym same)
+      ∙ ap (λ m. stage m (standing pc used s) (scene_of mem marks))
+      (sym (taken (λ vs ops. or_halt (result_of op vs) (λ v. pushes (standing pc used s) (Of v) ops mem))
+      ∙ ap (λ g. or_halt g (λ v. pushes (standing pc used s) (Of v) t.ops mem)) (sym is)
+      ∙ ap (λ fs. cond (bytes_fit (bytes_on (Of v ∷ t.ops) (bytes_of fs))) (goes (standing pc used s) (Of v ∷ t.ops) mem) (Halts stops.OperandRoom)) same
+      ∙ ap (λ b. cond b (goes (standing pc used s) (Of v ∷ t.ops) mem) (Halts stops.OperandRoom)) fits))
 
 -- what is left where an operand was taken, and where one stands in the place of another
 pub popped : (t u : Stacked) (o q : Operand) (ops : List Operand) → with_ops t (o ∷ ops) ≡ with_ops u (q ∷ u.ops) → u ≡ with_ops t ops

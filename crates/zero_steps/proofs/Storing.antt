@@ -158,12 +158,14 @@ emptied_takes (item.Int z) = refl
 emptied_takes (item.Truth b) = refl
 emptied_takes (item.Text t) = refl
 emptied_takes (item.Task n) = refl
+emptied_takes (item.Space n) = refl
 
 emptied_same : (v : Value) → takes (held_of (emptied v)) (held_of (emptied v)) ≡ true
 emptied_same (item.Int z) = refl
 emptied_same (item.Truth b) = refl
 emptied_same (item.Text t) = refl
 emptied_same (item.Task n) = refl
+emptied_same (item.Space n) = refl
 
 module _ (vs : List Value) (a : Addr) (cells : Cells) (low : IsCell a) (few : length vs ≤ CELLS) where
   abbrev pub without : Cells

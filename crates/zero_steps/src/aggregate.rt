@@ -1,18 +1,20 @@
 //! What single instructions do with values of several cells. They stand outside the loop of a run, which is quicker so.
 ghost use Rattle.std.specs.Prelude.{◌≡◌, ◌+◌, ◌^◌, ◌<◌, ◌∷◌, ℕ, List, true, take, drop, OnOk, IfOk};
-ghost use Rattle.eu_base.specs.Cells.{Cells, HasFaultCause};
+ghost use Rattle.eu_base.specs.Cells.{HasFaultCause};
 ghost use Rattle.eu_base.specs.declared.shape.Shape.{Shape};
 ghost use Rattle.code_form.specs.declared.operand.Operand.{Operand};
 ghost use Rattle.code_form.specs.declared.instr.Instr.TheVariants as instrs;
-ghost use Rattle.code_form.specs.Machine.{operand_of};
+ghost use Rattle.code_form.specs.Machine.{Mem, operand_of};
 ghost use Rattle.zero_state.specs.Finds.{all_of, TopPlace, TopAny, TopPicked, TopStored};
 ghost use Rattle.zero_state.specs.Stepping.{position_of, control_of, has_room, IsReady, GoesOn, StepsSo, Accesses};
 
 use crate::cells::{put_operand, values_at};
 use crate::parts::{operand_of, part_of};
 use crate::place::in_row;
+use crate::there::is_operand_there;
 use code_form::Operand;
 use eu_base::{CELL_BYTES, MemFault, Memory, NoMemory, Set, Shape};
+use space_places::shape_is_there;
 use zero_state::{Next, State};
 
 /// PICK. A stop leaves the operands pending.
@@ -20,7 +22,7 @@ use zero_state::{Next, State};
 pub fn pick(s: &mut State, count: u16, cells: u16) -> Result<Next, NoMemory>
     requires ready { IsReady s.old }
     requires finds { TopPicked s.old.stack.ops }
-    ensures { IfOk result (λ next. (known : Cells) → StepsSo (instrs.Pick count cells) (position_of s.old) known (control_of s.new) known next) }
+    ensures { IfOk result (λ next. (mem : Mem) → StepsSo (instrs.Pick count cells) (position_of s.old) mem (control_of s.new) mem next) }
 {
     let [Operand::Value(number)] = s.stack.top(1) else {
         unreachable!()
@@ -42,7 +44,7 @@ pub fn pick(s: &mut State, count: u16, cells: u16) -> Result<Next, NoMemory>
 pub fn take(s: &mut State, of: u16, from: u16, cells: u16) -> Result<(), NoMemory>
     requires ready { IsReady s.old }
     requires finds { TopAny s.old.stack.ops }
-    ensures { OnOk result ((known : Cells) → GoesOn (instrs.Take of from cells) (position_of s.old) known (control_of s.new) known) }
+    ensures { OnOk result ((mem : Mem) → GoesOn (instrs.Take of from cells) (position_of s.old) mem (control_of s.new) mem) }
 {
     keep_part(s, usize::from(from), usize::from(cells))
 }
@@ -67,13 +69,17 @@ fn keep_part(s: &mut State, from: usize, size: usize) -> Result<(), NoMemory>
 pub fn load_all<M: Memory>(s: &mut State, m: &mut M, shape: &Shape) -> Result<Next, MemFault>
     requires ready { IsReady s.old }
     requires finds { TopPlace s.old.stack.ops }
-    ensures goes { IfOk result (Accesses (M.holds m.old) (M.holds m.new) (instrs.Load shape.now) (position_of s.old) (control_of s.new)) }
+    ensures goes { IfOk result (Accesses (M.holds m.old) (M.holds m.new) (M.heads m.old) (instrs.Load shape.now) (position_of s.old) (control_of s.new)) }
+    ensures heads { M.heads m.new ≡ M.heads m.old }
     ensures cause { HasFaultCause (M.faults m.old) (M.faults m.new) result }
     ensures follows { M.follows m.old m.new }
 {
     let [Operand::Place(at)] = s.stack.top(1) else {
         unreachable!()
     };
+    if !shape_is_there(m, s.alloc, *at, shape)? {
+        return Ok(Next::NoSpace);
+    }
     let room = s.stack.room_in_place();
     let most = room / CELL_BYTES;
     let kinds = shape.kinds(s.alloc, most + 1)?;
@@ -94,14 +100,18 @@ pub fn load_all<M: Memory>(s: &mut State, m: &mut M, shape: &Shape) -> Result<Ne
 pub fn store_all<M: Memory>(s: &mut State, m: &mut M) -> Result<Next, MemFault>
     requires ready { IsReady s.old }
     requires finds { TopStored s.old.stack.ops }
-    ensures goes { IfOk result (λ next. (shape : Shape) → Accesses (M.holds m.old) (M.holds m.new) (instrs.Store shape)
+    ensures goes { IfOk result (λ next. (shape : Shape) → Accesses (M.holds m.old) (M.holds m.new) (M.heads m.old) (instrs.Store shape)
         (position_of s.old) (control_of s.new) next) }
+    ensures heads { M.heads m.new ≡ M.heads m.old }
     ensures cause { HasFaultCause (M.faults m.old) (M.faults m.new) result }
     ensures follows { M.follows m.old m.new }
 {
     let [Operand::Place(at), operand] = s.stack.top(2) else {
         unreachable!()
     };
+    if !is_operand_there(m, s.alloc, *at, operand)? {
+        return Ok(Next::NoSpace);
+    }
     match put_operand(m, *at, operand)? {
         Set::Done => {
             s.stack.drop_top(2);

@@ -1,11 +1,10 @@
 //! Requests.
 ghost use Rattle.std.specs.Prelude.{◌≡◌, ◌≤◌, IfOk, Some, length, map};
-ghost use Rattle.eu_base.specs.Cells.{Cells};
 ghost use Rattle.eu_base.specs.Operations.{number_at, text_at, task_at};
 ghost use Rattle.eu_base.specs.Requests.{request_size, request_of};
 ghost use Rattle.code_form.specs.Program.{Program};
 ghost use Rattle.code_form.specs.declared.instr.Instr.TheVariants as instrs;
-ghost use Rattle.code_form.specs.Machine.{instruction, stage, value_in};
+ghost use Rattle.code_form.specs.Machine.{Mem, instruction, stage, value_in};
 ghost use Rattle.zero_state.specs.Stepping.{position_of, control_of, scene_of, stage_of, halt_of, IsReady};
 
 use code_form::{Operand, Waits};
@@ -18,8 +17,8 @@ use zero_state::{Next, State};
 pub fn ask(s: &mut State, name: RequestName, marks: &mut u32) -> Result<Next, NoMemory>
     requires ready { IsReady s.old }
     requires finds { request_size name ≤ length s.old.stack.ops }
-    ensures { IfOk result (λ next. (p : Program) (cells : Cells) → stage_of (halt_of next) (control_of s.new) (scene_of cells marks.new) ≡ stage
-        (instruction p (Some (instrs.Ask name)) (position_of s.old) cells) (position_of s.old) (scene_of cells marks.old)) }
+    ensures { IfOk result (λ next. (p : Program) (mem : Mem) → stage_of (halt_of next) (control_of s.new) (scene_of mem marks.new) ≡ stage
+        (instruction p (Some (instrs.Ask name)) (position_of s.old) mem) (position_of s.old) (scene_of mem marks.old)) }
 {
     if *marks == 0 {
         return Ok(Next::Marked);

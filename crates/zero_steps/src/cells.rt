@@ -4,6 +4,7 @@ ghost use Rattle.eu_base.specs.declared.value.TheConstants.{OPERAND_BYTES};
 ghost use Rattle.eu_base.specs.declared.value.Value.TheVariants as item;
 ghost use Rattle.eu_base.specs.Room.{blocks_of, most_blocks, value_blocks, values_bytes, values_blocks};
 ghost use Rattle.eu_base.specs.Cells.{Cells, IsCell, held_of, written, cell_blocks, area_blocks, HasFaultCause};
+ghost use Rattle.eu_base.specs.SpaceCells.{IsThere};
 ghost use Rattle.code_form.specs.Machine.{operand_bytes, takes, takes_all, written_all};
 ghost use Rattle.zero_state.specs.Finds.{is_value, all_of};
 ghost use Rattle.zero_steps.specs.Reading.{AllRead, PutsAll, blocks_from, shown, FitsSoFar};
@@ -24,9 +25,11 @@ pub fn values_at<M: Memory>(
     at: Addr,
     kinds: &[Kind],
 ) -> Result<List<Value>, MemFault>
-    requires { IsCell at }
+    requires cell { IsCell at }
+    requires there { IsThere (M.heads m.old) at.area }
     ensures reads { IfOk result (AllRead (M.holds m.old) at kinds.now) }
     ensures kept { OnOk result ((cells : Cells) → M.holds m.old cells → M.holds m.new cells) }
+    ensures heads { M.heads m.new ≡ M.heads m.old }
     ensures cause { HasFaultCause (M.faults m.old) (M.faults m.new) result }
     ensures follows { M.follows m.old m.new }
 {
@@ -42,9 +45,11 @@ pub fn values_at<M: Memory>(
 /// Puts a pushed value into the cells from a place on, where all texts then have room. Else nothing changes.
 pub fn put_operand<M: Memory>(m: &mut M, at: Addr, operand: &Operand) -> Result<Set, MemFault>
     requires cell { IsCell at }
+    requires there { IsThere (M.heads m.old) at.area }
     requires value { is_value operand.now ≡ true }
     requires few { operand_bytes operand.now ≤ OPERAND_BYTES }
     ensures puts { IfOk result (PutsAll (M.holds m.old) (M.holds m.new) at (all_of operand.now)) }
+    ensures heads { M.heads m.new ≡ M.heads m.old }
     ensures cause { HasFaultCause (M.faults m.old) (M.faults m.new) result }
     ensures follows { M.follows m.old m.new }
 {
@@ -58,8 +63,10 @@ pub fn put_operand<M: Memory>(m: &mut M, at: Addr, operand: &Operand) -> Result<
 // Puts values into the cells from a place on, where all texts then have room. Else nothing changes.
 fn put_all<M: Memory>(m: &mut M, at: Addr, values: &[Value]) -> Result<Set, MemFault>
     requires cell { IsCell at }
+    requires there { IsThere (M.heads m.old) at.area }
     requires few { values_bytes values.now ≤ OPERAND_BYTES }
     ensures puts { IfOk result (PutsAll (M.holds m.old) (M.holds m.new) at values.now) }
+    ensures heads { M.heads m.new ≡ M.heads m.old }
     ensures cause { HasFaultCause (M.faults m.old) (M.faults m.new) result }
     ensures follows { M.follows m.old m.new }
 {
@@ -85,11 +92,13 @@ fn has_room<M: Memory>(
     needed: usize,
 ) -> Result<bool, MemFault>
     requires cell { IsCell at }
+    requires there { IsThere (M.heads m.old) at.area }
     requires few { values_bytes values.now ≤ OPERAND_BYTES }
     requires needed { needed ≡ values_blocks values.now }
     ensures fits { IfOk result (λ fits. (cells : Cells) → M.holds m.old cells → takes_all values.now at cells ≡ true →
         fits ≡ nat_le (area_blocks at.area (written_all cells at values.now)) most_blocks) }
     ensures kept { OnOk result ((cells : Cells) → M.holds m.old cells → M.holds m.new cells) }
+    ensures heads { M.heads m.new ≡ M.heads m.old }
     ensures cause { HasFaultCause (M.faults m.old) (M.faults m.new) result }
     ensures follows { M.follows m.old m.new }
 {
@@ -117,7 +126,7 @@ fn value_blocks(value: &Value) -> usize
     ensures { result ≡ value_blocks value.now }
 {
     match value {
-        Value::Int(_) | Value::Truth(_) | Value::Task(_) => 0,
+        Value::Int(_) | Value::Truth(_) | Value::Task(_) | Value::Space(_) => 0,
         Value::Text(text) => text_blocks(text.as_slice().len()),
     }
 }
@@ -136,10 +145,12 @@ fn text_blocks(bytes: usize) -> usize
 
 // The blocks of the texts that stand from a place on where values are to stand. More than can be counted there are not.
 fn blocks_at<M: Memory>(m: &mut M, at: Addr, values: &[Value]) -> Result<usize, MemFault>
-    requires { IsCell at }
+    requires cell { IsCell at }
+    requires there { IsThere (M.heads m.old) at.area }
     ensures had { IfOk result (λ had. (cells : Cells) → M.holds m.old cells → takes_all values.now at cells ≡ true →
         had ≡ min (blocks_from cells at values.now) (2 ^ 64 - 1)) }
     ensures kept { OnOk result ((cells : Cells) → M.holds m.old cells → M.holds m.new cells) }
+    ensures heads { M.heads m.new ≡ M.heads m.old }
     ensures cause { HasFaultCause (M.faults m.old) (M.faults m.new) result }
     ensures follows { M.follows m.old m.new }
 {
@@ -154,14 +165,16 @@ fn blocks_at<M: Memory>(m: &mut M, at: Addr, values: &[Value]) -> Result<usize, 
 
 // The blocks of the text in a cell where a value is to stand.
 fn old_blocks<M: Memory>(m: &mut M, at: Addr, value: &Value) -> Result<usize, MemFault>
-    requires { IsCell at }
+    requires cell { IsCell at }
+    requires there { IsThere (M.heads m.old) at.area }
     ensures had { IfOk result (λ had. (cells : Cells) → M.holds m.old cells → takes (held_of value.now) (cells at) ≡ true → had ≡ cell_blocks (cells at)) }
     ensures kept { OnOk result ((cells : Cells) → M.holds m.old cells → M.holds m.new cells) }
+    ensures heads { M.heads m.new ≡ M.heads m.old }
     ensures cause { HasFaultCause (M.faults m.old) (M.faults m.new) result }
     ensures follows { M.follows m.old m.new }
 {
     match value {
-        Value::Int(_) | Value::Truth(_) | Value::Task(_) => Ok(0),
+        Value::Int(_) | Value::Truth(_) | Value::Task(_) | Value::Space(_) => Ok(0),
         Value::Text(_) => Ok(text_blocks(m.text(at)?.as_slice().len())),
     }
 }
@@ -169,9 +182,11 @@ fn old_blocks<M: Memory>(m: &mut M, at: Addr, value: &Value) -> Result<usize, Me
 // Puts values that have room into the cells from a place on, with their texts or with "" in the place of each.
 fn put_each<M: Memory>(m: &mut M, at: Addr, values: &[Value], texts: bool) -> Result<(), MemFault>
     requires cell { IsCell at }
+    requires there { IsThere (M.heads m.old) at.area }
     requires few { values_bytes values.now ≤ OPERAND_BYTES }
     ensures put { OnOk result ((cells : Cells) → M.holds m.old cells → takes_all values.now at cells ≡ true →
         FitsSoFar cells at (map (shown texts) values.now) → M.holds m.new (written_all cells at (map (shown texts) values.now))) }
+    ensures heads { M.heads m.new ≡ M.heads m.old }
     ensures cause { HasFaultCause (M.faults m.old) (M.faults m.new) result }
     ensures follows { M.follows m.old m.new }
 {
@@ -184,14 +199,19 @@ fn put_each<M: Memory>(m: &mut M, at: Addr, values: &[Value], texts: bool) -> Re
 }
 
 fn put_one<M: Memory>(m: &mut M, at: Addr, value: &Value, text: bool) -> Result<(), MemFault>
-    requires { IsCell at }
+    requires cell { IsCell at }
+    requires there { IsThere (M.heads m.old) at.area }
     ensures put { OnOk result ((cells : Cells) → M.holds m.old cells → takes (held_of value.now) (cells at) ≡ true →
         area_blocks at.area (written cells at (held_of (shown text value.now))) ≤ most_blocks → M.holds m.new (written cells at (held_of (shown text value.now)))) }
+    ensures heads { M.heads m.new ≡ M.heads m.old }
     ensures cause { HasFaultCause (M.faults m.old) (M.faults m.new) result }
     ensures follows { M.follows m.old m.new }
 {
     match value {
-        Value::Int(_) | Value::Truth(_) | Value::Task(_) => m.set_cell(at, value.cell()),
+        Value::Int(_) | Value::Truth(_) | Value::Task(_) | Value::Space(_) => m.set_cell(
+            at,
+            value.cell(),
+        ),
         Value::Text(new) => {
             let _set = m.set_text(at, shown(new.as_slice(), text))?;
             Ok(())

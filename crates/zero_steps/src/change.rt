@@ -3,6 +3,7 @@ ghost use Rattle.std.specs.Prelude.{◌≡◌, IfOk};
 ghost use Rattle.eu_base.specs.declared.value.Kind.TheVariants as kinds;
 ghost use Rattle.eu_base.specs.declared.operation.Change.TheVariants as changes;
 ghost use Rattle.eu_base.specs.Cells.{IsCell, HasFaultCause};
+ghost use Rattle.eu_base.specs.SpaceCells.{IsThere};
 ghost use Rattle.eu_base.specs.Operations.{change_kind};
 ghost use Rattle.code_form.specs.declared.instr.Instr.TheVariants as instrs;
 ghost use Rattle.zero_state.specs.Finds.{TopBoth};
@@ -12,6 +13,7 @@ ghost use Rattle.zero_steps.specs.Reading.{Changes};
 use crate::push::stopped;
 use code_form::Operand;
 use eu_base::{Addr, Change, MemFault, Memory, Set, Value, number_in};
+use space_places::are_there;
 use zero_ops::{Fault, OpError, append, change_number};
 use zero_state::{Next, State};
 
@@ -19,13 +21,17 @@ use zero_state::{Next, State};
 pub fn modify<M: Memory>(s: &mut State, m: &mut M, by: Change) -> Result<Next, MemFault>
     requires ready { IsReady s.old }
     requires finds { TopBoth s.old.stack.ops }
-    ensures goes { IfOk result (Accesses (M.holds m.old) (M.holds m.new) (instrs.Modify by) (position_of s.old) (control_of s.new)) }
+    ensures goes { IfOk result (Accesses (M.holds m.old) (M.holds m.new) (M.heads m.old) (instrs.Modify by) (position_of s.old) (control_of s.new)) }
+    ensures heads { M.heads m.new ≡ M.heads m.old }
     ensures cause { HasFaultCause (M.faults m.old) (M.faults m.new) result }
     ensures follows { M.follows m.old m.new }
 {
     let [Operand::Place(at), Operand::Value(operand)] = s.stack.top(2) else {
         unreachable!()
     };
+    if !are_there(m, *at, &[by.kind()]) {
+        return Ok(Next::NoSpace);
+    }
     match change_at(m, *at, by, operand)? {
         Ok(Set::Done) => {
             let _operand = s.stack.pop_value();
@@ -45,8 +51,10 @@ fn change_at<M: Memory>(
     by: Change,
     operand: &Value,
 ) -> Result<Result<Set, Fault>, MemFault>
-    requires { IsCell at }
+    requires cell { IsCell at }
+    requires there { IsThere (M.heads m.old) at.area }
     ensures changes { IfOk result (Changes (M.holds m.old) (M.holds m.new) at by operand.now) }
+    ensures heads { M.heads m.new ≡ M.heads m.old }
     ensures cause { HasFaultCause (M.faults m.old) (M.faults m.new) result }
     ensures follows { M.follows m.old m.new }
 {
@@ -64,8 +72,10 @@ fn change_number_at<M: Memory>(
     operand: &Value,
 ) -> Result<Result<Set, Fault>, MemFault>
     requires cell { IsCell at }
+    requires there { IsThere (M.heads m.old) at.area }
     requires number { change_kind by ≡ kinds.Int }
     ensures changes { IfOk result (Changes (M.holds m.old) (M.holds m.new) at by operand.now) }
+    ensures heads { M.heads m.new ≡ M.heads m.old }
     ensures cause { HasFaultCause (M.faults m.old) (M.faults m.new) result }
     ensures follows { M.follows m.old m.new }
 {
@@ -86,8 +96,10 @@ fn append_at<M: Memory>(
     at: Addr,
     operand: &Value,
 ) -> Result<Result<Set, Fault>, MemFault>
-    requires { IsCell at }
+    requires cell { IsCell at }
+    requires there { IsThere (M.heads m.old) at.area }
     ensures changes { IfOk result (Changes (M.holds m.old) (M.holds m.new) at changes.Append operand.now) }
+    ensures heads { M.heads m.new ≡ M.heads m.old }
     ensures cause { HasFaultCause (M.faults m.old) (M.faults m.new) result }
     ensures follows { M.follows m.old m.new }
 {

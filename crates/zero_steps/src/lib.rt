@@ -12,6 +12,8 @@ pub mod place;
 pub mod push;
 mod reading;
 pub mod reply;
+pub mod spaces;
 pub mod step;
 pub mod stop;
+mod there;
 mod values;

@@ -1,8 +1,8 @@
 //! Operations on what is pending.
 ghost use Rattle.std.specs.Prelude.{◌≡◌, ◌<◌, IfOk, Some, None, false, length};
-ghost use Rattle.eu_base.specs.Cells.{Cells};
 ghost use Rattle.eu_base.specs.Operations.{Given, operand_kinds};
 ghost use Rattle.code_form.specs.declared.instr.Instr.TheVariants as instrs;
+ghost use Rattle.code_form.specs.Machine.{Mem};
 ghost use Rattle.zero_ops.specs.Given.{given_of, has_texts, Gives};
 ghost use Rattle.zero_state.specs.Finds.{TopValue, TopValues};
 ghost use Rattle.zero_state.specs.Stepping.{position_of, control_of, IsReady, StepsSo};
@@ -18,7 +18,7 @@ use zero_state::{Next, State};
 pub fn operate(s: &mut State, operation: Operation) -> Result<Next, NoMemory>
     requires ready { IsReady s.old }
     requires finds { TopValues (length (operand_kinds operation)) s.old.stack.ops }
-    ensures { IfOk result (λ next. (cells : Cells) → StepsSo (instrs.Do operation) (position_of s.old) cells (control_of s.new) cells next) }
+    ensures { IfOk result (λ next. (mem : Mem) → StepsSo (instrs.Do operation) (position_of s.old) mem (control_of s.new) mem next) }
 {
     match operation {
         Operation::OnTexts(_) => operate_on_values(s, operation),
@@ -31,7 +31,7 @@ pub fn operate(s: &mut State, operation: Operation) -> Result<Next, NoMemory>
 fn operate_on_values(s: &mut State, operation: Operation) -> Result<Next, NoMemory>
     requires ready { IsReady s.old }
     requires finds { TopValues (length (operand_kinds operation)) s.old.stack.ops }
-    ensures { IfOk result (λ next. (cells : Cells) → StepsSo (instrs.Do operation) (position_of s.old) cells (control_of s.new) cells next) }
+    ensures { IfOk result (λ next. (mem : Mem) → StepsSo (instrs.Do operation) (position_of s.old) mem (control_of s.new) mem next) }
 {
     let operands = pop_values(&mut s.stack, s.alloc, operation.operand_kinds().len())?;
     let given = settled(apply(s.alloc, operation, operands.as_slice()))?;
@@ -60,7 +60,7 @@ fn operate_on_numbers(s: &mut State, operation: Operation) -> Result<Next, NoMem
     requires ready { IsReady s.old }
     requires finds { TopValues (length (operand_kinds operation)) s.old.stack.ops }
     requires numbers { has_texts operation ≡ false }
-    ensures { IfOk result (λ next. (cells : Cells) → StepsSo (instrs.Do operation) (position_of s.old) cells (control_of s.new) cells next) }
+    ensures { IfOk result (λ next. (mem : Mem) → StepsSo (instrs.Do operation) (position_of s.old) mem (control_of s.new) mem next) }
 {
     match operation.operand_kinds().len() {
         0 => operate_on_none(s, operation),
@@ -73,7 +73,7 @@ fn operate_on_none(s: &mut State, operation: Operation) -> Result<Next, NoMemory
     requires ready { IsReady s.old }
     requires arity { length (operand_kinds operation) ≡ 0 }
     requires numbers { has_texts operation ≡ false }
-    ensures { IfOk result (λ next. (cells : Cells) → StepsSo (instrs.Do operation) (position_of s.old) cells (control_of s.new) cells next) }
+    ensures { IfOk result (λ next. (mem : Mem) → StepsSo (instrs.Do operation) (position_of s.old) mem (control_of s.new) mem next) }
 {
     match give(s, on_numbers(operation, &Value::Int(0), &Value::Int(0)))? {
         None => Ok(Next::On),
@@ -86,7 +86,7 @@ fn operate_on_one(s: &mut State, operation: Operation) -> Result<Next, NoMemory>
     requires arity { length (operand_kinds operation) ≡ 1 }
     requires finds { TopValue s.old.stack.ops }
     requires numbers { has_texts operation ≡ false }
-    ensures { IfOk result (λ next. (cells : Cells) → StepsSo (instrs.Do operation) (position_of s.old) cells (control_of s.new) cells next) }
+    ensures { IfOk result (λ next. (mem : Mem) → StepsSo (instrs.Do operation) (position_of s.old) mem (control_of s.new) mem next) }
 {
     let [Operand::Value(a)] = s.stack.top(1) else {
         unreachable!()
@@ -106,7 +106,7 @@ fn operate_on_two(s: &mut State, operation: Operation) -> Result<Next, NoMemory>
     requires arity { length (operand_kinds operation) ≡ 2 }
     requires finds { TopValues 2 s.old.stack.ops }
     requires numbers { has_texts operation ≡ false }
-    ensures { IfOk result (λ next. (cells : Cells) → StepsSo (instrs.Do operation) (position_of s.old) cells (control_of s.new) cells next) }
+    ensures { IfOk result (λ next. (mem : Mem) → StepsSo (instrs.Do operation) (position_of s.old) mem (control_of s.new) mem next) }
 {
     let [Operand::Value(a), Operand::Value(b)] = s.stack.top(2) else {
         unreachable!()

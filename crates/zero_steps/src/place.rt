@@ -1,9 +1,8 @@
 //! Places of items and fields.
 ghost use Rattle.std.specs.Prelude.{◌≡◌, ◌*◌, ℕ};
-ghost use Rattle.eu_base.specs.Cells.{Cells};
 ghost use Rattle.code_form.specs.declared.instr.Instr.TheVariants as instrs;
 ghost use Rattle.eu_base.specs.Operations.{in_row};
-ghost use Rattle.code_form.specs.Machine.{further};
+ghost use Rattle.code_form.specs.Machine.{Mem, further};
 ghost use Rattle.zero_state.specs.Finds.{TopPlace, TopBoth};
 ghost use Rattle.zero_state.specs.Stepping.{position_of, control_of, IsReady, GoesOn, StepsSo};
 
@@ -15,7 +14,7 @@ use zero_state::{Next, State};
 pub fn index(s: &mut State, count: u16, cells: u16) -> Next
     requires ready { IsReady s.old }
     requires finds { TopBoth s.old.stack.ops }
-    ensures { (known : Cells) → StepsSo (instrs.Index count cells) (position_of s.old) known (control_of s.new) known result }
+    ensures { (mem : Mem) → StepsSo (instrs.Index count cells) (position_of s.old) mem (control_of s.new) mem result }
 {
     let [Operand::Place(row), Operand::Value(number)] = s.stack.top(2) else {
         unreachable!()
@@ -36,7 +35,7 @@ pub fn index(s: &mut State, count: u16, cells: u16) -> Next
 pub fn field(s: &mut State, cells: u16)
     requires ready { IsReady s.old }
     requires finds { TopPlace s.old.stack.ops }
-    ensures { (known : Cells) → GoesOn (instrs.Field cells) (position_of s.old) known (control_of s.new) known }
+    ensures { (mem : Mem) → GoesOn (instrs.Field cells) (position_of s.old) mem (control_of s.new) mem }
 {
     let [Operand::Place(at)] = s.stack.top(1) else {
         unreachable!()

@@ -1,7 +1,6 @@
 //! Operands are pushed where they have room.
 ghost use Rattle.std.specs.Prelude.{◌≡◌, ℕ, ◌+◌, ◌^◌, ◌<◌, true, IfOk, Some};
-ghost use Rattle.eu_base.specs.Cells.{Cells};
-ghost use Rattle.code_form.specs.Machine.{pushes, stage};
+ghost use Rattle.code_form.specs.Machine.{Mem, pushes, stage};
 ghost use Rattle.code_form.specs.declared.halt.Halt.TheVariants as halts;
 ghost use Rattle.code_form.specs.declared.instr.Instr.TheVariants as instrs;
 ghost use Rattle.zero_ops.specs.Given.{given_of, stop_of};
@@ -34,8 +33,8 @@ pub fn push(s: &mut State, operand: Operand) -> Result<bool, NoMemory>
 #[inline(always)]
 pub fn push_on(s: &mut State, operand: Operand) -> Result<Next, NoMemory>
     requires { IsReady s.old }
-    ensures { IfOk result (λ next. (cells : Cells) (marks : ℕ) → stage_of (halt_of next) (control_of s.new) (scene_of cells marks) ≡ stage
-        (pushes (position_of s.old) operand s.old.stack.ops cells) (position_of s.old) (scene_of cells marks)) }
+    ensures { IfOk result (λ next. (mem : Mem) (marks : ℕ) → stage_of (halt_of next) (control_of s.new) (scene_of mem marks) ≡ stage
+        (pushes (position_of s.old) operand s.old.stack.ops mem) (position_of s.old) (scene_of mem marks)) }
 {
     if !s.stack.has_room(&operand) {
         return Ok(Next::OperandRoom);
@@ -49,7 +48,7 @@ pub fn push_on(s: &mut State, operand: Operand) -> Result<Next, NoMemory>
 #[inline(never)]
 pub fn push_text(s: &mut State, text: &[u8]) -> Result<Next, NoMemory>
     requires { IsReady s.old }
-    ensures { IfOk result (λ next. (cells : Cells) → StepsSo (instrs.Text text.now) (position_of s.old) cells (control_of s.new) cells next) }
+    ensures { IfOk result (λ next. (mem : Mem) → StepsSo (instrs.Text text.now) (position_of s.old) mem (control_of s.new) mem next) }
 {
     let copy = Bytes::from(s.alloc, text)?;
     push_on(s, Operand::Value(Value::Text(copy)))

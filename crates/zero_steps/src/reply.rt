@@ -1,7 +1,10 @@
 //! Replies.
-ghost use Rattle.std.specs.Prelude.{◌≡◌, ◌+◌, ◌^◌, ◌<◌, ◌≤◌, true, length, drop, IfOk, IsSome, None, MatchOption};
+ghost use Rattle.std.specs.Prelude.{◌≡◌, ◌+◌, ◌^◌, ◌<◌, ◌≤◌, ◌∷◌, [], true, length, drop, IfOk, IsSome, None, MatchOption};
 ghost use Rattle.eu_base.specs.declared.request.Reply.{Reply};
 ghost use Rattle.eu_base.specs.Cells.{IsCell, held_of, HasFaultCause};
+ghost use Rattle.eu_base.specs.Values.{kind_of};
+ghost use Rattle.eu_base.specs.SpaceCells.{IsThere};
+ghost use Rattle.eu_base.specs.SpacePlaces.{is_in};
 ghost use Rattle.eu_base.specs.Requests.{request_size, request_result, read_as, answer_of};
 ghost use Rattle.zero_ops.specs.Given.{Gives};
 ghost use Rattle.code_form.specs.declared.waits.Waits.TheVariants as waits;
@@ -13,6 +16,7 @@ use crate::push::stopped;
 use crate::reading::put;
 use code_form::{Operand, Waits};
 use eu_base::{Addr, MemFault, Memory, NoMemory, RequestName, Set, Value};
+use space_places::{are_there, kind_of};
 use std::alloc::Global;
 use zero_ops::{OpError, answer_of, read_as};
 use zero_state::{Next, State};
@@ -24,7 +28,8 @@ pub fn take_reply<M: Memory>(s: &mut State, m: &mut M, name: RequestName) -> Res
     requires room { has_room s.old ≡ true }
     requires finds { FindsReply name s.old.stack.ops }
     ensures goes { IfOk result (λ next. (r : Reply) → s.old.waits ≡ waits.Given r →
-        Replies (M.holds m.old) (M.holds m.new) name r (position_of s.old) (control_of s.new) next) }
+        Replies (M.holds m.old) (M.holds m.new) (M.heads m.old) name r (position_of s.old) (control_of s.new) next) }
+    ensures heads { M.heads m.new ≡ M.heads m.old }
     ensures cause { HasFaultCause (M.faults m.old) (M.faults m.new) result }
     ensures follows { M.follows m.old m.new }
 {
@@ -76,7 +81,8 @@ fn keep_line<M: Memory>(s: &mut State, m: &mut M, name: RequestName) -> Result<N
     requires none { request_result name ≡ None }
     requires finds { FindsReply name s.old.stack.ops }
     ensures goes { IfOk result (λ next. (r : Reply) → s.old.waits ≡ waits.Given r →
-        Replies (M.holds m.old) (M.holds m.new) name r (position_of s.old) (control_of s.new) next) }
+        Replies (M.holds m.old) (M.holds m.new) (M.heads m.old) name r (position_of s.old) (control_of s.new) next) }
+    ensures heads { M.heads m.new ≡ M.heads m.old }
     ensures cause { HasFaultCause (M.faults m.old) (M.faults m.new) result }
     ensures follows { M.follows m.old m.new }
 {
@@ -87,6 +93,9 @@ fn keep_line<M: Memory>(s: &mut State, m: &mut M, name: RequestName) -> Result<N
     };
     let count = name.size();
     let at = variable(s.stack.top(count), name.operand_kinds().len());
+    if !is_kept_there(m, at, &value) {
+        return Ok(Next::NoSpace);
+    }
     match keep(m, at, &value)? {
         Set::Done => {
             s.stack.drop_top(count);
@@ -120,10 +129,22 @@ fn variable(operands: &[Operand], values: usize) -> Option<Addr>
     }
 }
 
+// Whether the variable is there, where there is one.
+fn is_kept_there<M: Memory>(m: &M, at: Option<Addr>, value: &Value) -> bool
+    ensures { MatchOption at (result ≡ true) (λ a. result ≡ is_in (kind_of value.now ∷ []) a.area a.cell (M.heads m.now)) }
+{
+    match at {
+        None => true,
+        Some(at) => are_there(m, at, &[kind_of(value)]),
+    }
+}
+
 // Puts a value into a variable, where there is one.
 fn keep<M: Memory>(m: &mut M, at: Option<Addr>, value: &Value) -> Result<Set, MemFault>
-    requires { MatchOption at (Unit {0}) IsCell }
+    requires cell { MatchOption at (Unit {0}) IsCell }
+    requires there { MatchOption at (Unit {0}) (λ a. IsThere (M.heads m.old) a.area) }
     ensures puts { IfOk result (PutsIn (M.holds m.old) (M.holds m.new) at (held_of value.now)) }
+    ensures heads { M.heads m.new ≡ M.heads m.old }
     ensures cause { HasFaultCause (M.faults m.old) (M.faults m.new) result }
     ensures follows { M.follows m.old m.new }
 {

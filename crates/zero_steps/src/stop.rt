@@ -1,8 +1,8 @@
 //! A command that stops by itself.
 ghost use Rattle.std.specs.Prelude.{◌≡◌};
-ghost use Rattle.eu_base.specs.Cells.{Cells};
 ghost use Rattle.eu_base.specs.Values.{text_of};
 ghost use Rattle.code_form.specs.declared.instr.Instr.TheVariants as instrs;
+ghost use Rattle.code_form.specs.Machine.{Mem};
 ghost use Rattle.zero_state.specs.Finds.{TopValue};
 ghost use Rattle.zero_state.specs.Stepping.{position_of, control_of, IsReady, GoesOn};
 
@@ -17,7 +17,7 @@ use zero_state::State;
 pub fn error_stop(s: &mut State)
     requires ready { IsReady s.old }
     requires finds { TopValue s.old.stack.ops }
-    ensures { (cells : Cells) → GoesOn instrs.ErrorStop (position_of s.old) cells (control_of s.new) cells }
+    ensures { (mem : Mem) → GoesOn instrs.ErrorStop (position_of s.old) mem (control_of s.new) mem }
 {
     let text = text_of(s.alloc, s.stack.pop_value());
     s.waits = Waits::Refused(Stop::Own(text));
@@ -29,7 +29,7 @@ fn text_of(alloc: Global, value: Value) -> Bytes
     ensures { result ≡ text_of value }
 {
     match value {
-        Value::Int(_) | Value::Truth(_) | Value::Task(_) => Bytes::new(alloc),
+        Value::Int(_) | Value::Truth(_) | Value::Task(_) | Value::Space(_) => Bytes::new(alloc),
         Value::Text(text) => text,
     }
 }

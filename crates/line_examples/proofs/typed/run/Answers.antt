@@ -1,5 +1,11 @@
-use Rattle.space_memory.proofs.Fresh.{new_stands}
+use Rattle.std.proofs.Common.{None, [], ◌∷◌, arith}
+use Rattle.page_table.proofs.Framing.{nil_agree, stands_of}
 use Rattle.line_examples.proofs.typed.run.Goals as goal
 
 pub over-lent-requires : goal.over-lent-requires
-over-lent-requires c = rw (c.new-pool.ensures, c.new-memory.ensures.empty) (record { agree = new_stands })
+over-lent-requires c = rw (c.new-pool.ensures, c.new-memory.ensures.empty) (record {
+  agree = record {
+    few = omega arith;
+    stands = stands_of [] (None ∷ None ∷ []) [] 16 (omega arith) ∣ nil_agree (None ∷ None ∷ []) (λ p. omega arith) (omega arith) ∣₁;
+  };
+})

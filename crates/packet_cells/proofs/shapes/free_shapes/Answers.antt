@@ -1,4 +1,4 @@
-use Rattle.std.proofs.Common.{sym, subst, arith}
+use Rattle.std.proofs.Common.{sym, ◌∙◌, subst, arith}
 use Rattle.eu_base.specs.declared.address.TheConstants.{CELLS}
 use Rattle.packet_cells.specs.Freed.{freed}
 use Rattle.packet_cells.proofs.Freeing.{next_shape, shape_fits, shape_held}
@@ -22,6 +22,7 @@ loop-shape-preserved g c =
           subst (λ n. g.M.Memory.holds c.free_shape.new.m (freed from n cells)) (sym c.in_ok-cell.ensures.end)
           (c.in_ok-cell.ensures.freed from cells (omega (arith, low, here)) (c.loop-shape.invariant.freed from cells low h each)
           (shape_held c.args.at i shapes s s c.loop-shape-test.true c.shape-item.is c.loop-shape.cell cells here each));
+      heads = c.free_shape.ensures.heads ∙ c.loop-shape.invariant.heads;
       later = omega (arith, c.loop-shape.invariant.later, c.free_shape.ensures.cause.later);
       follows = g.met.M.Memory.transitive _ _ _ c.loop-shape.invariant.follows c.free_shape.ensures.follows;
     }

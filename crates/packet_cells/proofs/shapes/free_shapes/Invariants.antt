@@ -10,6 +10,7 @@ invariant-loop-shape g l = record {
   cell : l.cell ≡ l.at + length (all_kinds (take l.shape-index l.shapes));
   freed : (from : ℕ) (cells : Cells) → from ≤ l.at → g.M.Memory.holds l.fn.m (freed from l.at cells) → HoldEach l.at (all_kinds l.shapes) cells
       → g.M.Memory.holds l.m (freed from l.cell cells);
+  heads : g.M.Memory.heads l.m ≡ g.M.Memory.heads l.fn.m;
   later : g.M.Memory.faults l.fn.m ≤ g.M.Memory.faults l.m;
   follows : g.M.Memory.follows l.fn.m l.m;
 }

@@ -8,6 +8,7 @@ use Rattle.eu_base.specs.declared.value.Kind.{Kind}
 use Rattle.eu_base.specs.declared.value.Kind.TheVariants as kinds
 use Rattle.eu_base.specs.Operations.{operand_kinds, result_kind}
 use Rattle.eu_base.specs.Requests.{request_result, request_size}
+use Rattle.eu_base.specs.SpaceOperations.{space_operand_kinds, space_result_kind}
 use Rattle.eu_base.specs.declared.operation.Way.{Way}
 use Rattle.elan_types.specs.declared.core_phrase.PlacePhrase.{PlacePhrase}
 use Rattle.elan_types.specs.declared.core_phrase.ValuePhrase.{ValuePhrase}
@@ -16,12 +17,12 @@ use Rattle.elan_types.specs.declared.core_phrase.Action.TheVariants as action
 use Rattle.eu_base.specs.declared.shape.Shape.TheVariants.{Cell}
 use Rattle.code_form.specs.declared.operand.OperandKind.TheVariants as operand
 use Rattle.code_form.specs.Valid.{cell_value, with_answer}
-use Rattle.code_form.specs.declared.instr.Instr.TheVariants.{Mark, Index, Field, Do, Jump, False, Ask, ErrorStop}
+use Rattle.code_form.specs.declared.instr.Instr.TheVariants.{Mark, Index, Field, Content, Do, OnSpaces, Copy, Bind, Jump, False, Ask, ErrorStop}
 use Rattle.place_gen.specs.Counted.{counted}
 use Rattle.place_gen.specs.Stretch.{Stretch, one, keeps, join, if_code, all_code, select_code, whens_code, while_code, until_code, exit_join, stays}
 use Rattle.place_gen.specs.Stretch.{turns_code, value_parts, action_parts, value_code, action_code, actual_code}
 use Rattle.place_gen.specs.Stretch.{value_arm_code, arm_code_of, place_code, store_code, modify_code, limit_code}
-use Rattle.place_gen.specs.Steps.{step_of, turn_of, loop_code, count_code}
+use Rattle.place_gen.specs.Steps.{step_of, turn_of, loop_code, count_code, transfer_code, spaces_code}
 use Rattle.place_gen.specs.Makes.{Makes, MakesExit, MakesArm, MakesTurn, ComesBack}
 use Rattle.place_gen.proofs.Select.{select_size}
 use Rattle.place_gen.proofs.Makes.{same_makes, join_makes, if_makes, until_makes, turn_exit, turns_makes, arm_makes, more_makes, all_makes}
@@ -355,3 +356,63 @@ add_place-returns-in-Field t c =
     let last = one (Field c.in-Field.before) (λ ks. operand.Place s ∷ drop 1 ks) in
     let e : join (place_code c.in-Field.structure s) last ≡ place_code c.args.place.now s = search (rules, the_lemmas, c.in-Field.is) in
     subst (λ f. Makes f c.args.out.now c.put_place-in-Field.new.out) e (join_makes whole c.put_place-in-Field.ensures)
+
+pub add_value-returns-in-Consult : goal.add_value-returns-in-Consult
+add_value-returns-in-Consult t c =
+    let op = c.in-Consult.operation in
+    let g = λ (o : Option Kind). one (OnSpaces op) (λ ks. with_answer o (drop (length (space_operand_kinds op)) ks)) in
+    let e : join (all_code (map value_code c.as_slice-in-Consult.result.now)) (g (space_result_kind op)) ≡ value_code c.args.phrase.now =
+    search (rules, the_lemmas, c.in-Consult.is, c.as_slice-in-Consult.ensures) in
+    subst (λ f. Makes f c.args.out.now c.put_on_spaces.new.out) e
+    (join_makes c.add_values-in-Consult.ensures
+    (subst (λ o. Makes (g o) c.add_values-in-Consult.new.out c.put_on_spaces.new.out) c.result_kind-in-Consult.ensures c.put_on_spaces.ensures))
+
+pub add_place-returns-in-Content : goal.add_place-returns-in-Content
+add_place-returns-in-Content t c =
+    let s = c.args.shape.now in
+    let bound =
+    subst (λ q. Makes (place_code q (Cell kinds.Space)) c.args.out.now c.add_place-in-Content.new.out) c.get-in-Content.ensures c.add_place-in-Content.ensures in
+    let last = one Content (λ ks. operand.Place s ∷ drop 1 ks) in
+    let e : join (place_code c.in-Content.bound (Cell kinds.Space)) last ≡ place_code c.args.place.now s = search (rules, the_lemmas, c.in-Content.is) in
+    subst (λ f. Makes f c.args.out.now c.put_place-in-Content.new.out) e (join_makes bound c.put_place-in-Content.ensures)
+
+pub add_on_spaces-returns-in-Perform : goal.add_on_spaces-returns-in-Perform
+add_on_spaces-returns-in-Perform t c =
+    let op = c.in-Perform.operation in
+    let e : join (all_code (map value_code c.as_slice.result.now)) (one (OnSpaces op) (drop (length (space_operand_kinds op)))) ≡ spaces_code c.args.action.now =
+    search (rules, the_lemmas, c.in-Perform.is, c.as_slice.ensures) in
+    subst (λ f. Makes f c.args.out.now c.put_on_spaces.new.out) e (join_makes c.add_values.ensures c.put_on_spaces.ensures)
+
+pub add_on_spaces-returns-in-Copy : goal.add_on_spaces-returns-in-Copy
+add_on_spaces-returns-in-Copy t c =
+    let p = place_code c.in-Copy.place (Cell kinds.Space) in
+    let e : join p (join (value_code c.in-Copy.space) (one Copy (drop 2))) ≡ spaces_code c.args.action.now = search (rules, the_lemmas, c.in-Copy.is) in
+    subst (λ f. Makes f c.args.out.now c.add.new.self) e (join_makes c.add_place.ensures (join_makes c.add_value.ensures c.add.ensures))
+
+pub add_on_spaces-returns-in-Bind : goal.add_on_spaces-returns-in-Bind
+add_on_spaces-returns-in-Bind t c =
+    let p = place_code c.in-Bind.place (Cell kinds.Space) in
+    let e : join p (join (value_code c.in-Bind.space) (one (Bind c.in-Bind.shape) (drop 2))) ≡ spaces_code c.args.action.now =
+    search (rules, the_lemmas, c.in-Bind.is) in
+    subst (λ f. Makes f c.args.out.now c.put_bind.new.out) e
+    (join_makes c.add_place-in-Bind.ensures (join_makes c.add_value-in-Bind.ensures c.put_bind.ensures))
+
+pub add_action-returns-in-Count : goal.add_action-returns-in-Count
+add_action-returns-in-Count t c =
+    let e : count_code c.args.action.now ≡ action_code c.args.action.now = search (rules, the_lemmas, c.in-Count.is) in
+    subst (λ f. Makes f c.args.out.now c.add_count.new.out) e c.add_count.ensures
+
+pub add_action-returns-in-Call : goal.add_action-returns-in-Call
+add_action-returns-in-Call t c =
+    let e : transfer_code c.args.action.now ≡ action_code c.args.action.now =
+    either c.in-Call.is (λ x. let i = x.2 in search (rules, the_lemmas, i))
+    (λ y. either y (λ x. let i = x.1 in search (rules, the_lemmas, i))
+    (λ z. either z (λ x. let i = x.1 in search (rules, the_lemmas, i)) (λ x. let i = x.3 in search (rules, the_lemmas, i)))) in
+    subst (λ f. Makes f c.args.out.now c.add_transfer.new.out) e c.add_transfer.ensures
+
+pub add_action-returns-in-Perform : goal.add_action-returns-in-Perform
+add_action-returns-in-Perform t c =
+    let e : spaces_code c.args.action.now ≡ action_code c.args.action.now =
+    either c.in-Perform.is (λ x. let i = x.2 in search (rules, the_lemmas, i))
+    (λ y. either y (λ x. let i = x.2 in search (rules, the_lemmas, i)) (λ x. let i = x.3 in search (rules, the_lemmas, i))) in
+    subst (λ f. Makes f c.args.out.now c.add_on_spaces.new.out) e c.add_on_spaces.ensures

@@ -94,6 +94,12 @@ in_action-returns-in-LeaveWith t c =
     let e : a ≡ spec.in_action c.args.action.now = search (rules, the_lemmas, c.in-LeaveWith.is) in
     one a c.args.found c.in_value-in-LeaveWith.result e c.in_value-in-LeaveWith.ensures
 
+pub in_action-returns-in-Perform : goal.in_action-returns-in-Perform
+in_action-returns-in-Perform t c =
+    let a = spec.all (map spec.in_value c.as_slice-in-Perform.result.now) in
+    let e : a ≡ spec.in_action c.args.action.now = search (rules, the_lemmas, c.in-Perform.is, c.as_slice-in-Perform.ensures) in
+    one a c.args.found c.in_values.result e c.in_values.ensures
+
 pub in_value-returns-in-Load : goal.in_value-returns-in-Load
 in_value-returns-in-Load t c =
     let a = spec.in_place c.in-Load.place in
@@ -102,8 +108,8 @@ in_value-returns-in-Load t c =
 
 pub in_value-returns-in-Apply : goal.in_value-returns-in-Apply
 in_value-returns-in-Apply t c =
-    let a = spec.all (map spec.in_value c.as_slice.result.now) in
-    let e : a ≡ spec.in_value c.args.value.now = search (rules, the_lemmas, c.in-Apply.is, c.as_slice.ensures) in
+    let a = spec.all (map spec.in_value c.as_slice-in-Apply.result.now) in
+    let e : a ≡ spec.in_value c.args.value.now = search (rules, the_lemmas, c.in-Apply.is, c.as_slice-in-Apply.ensures) in
     one a c.args.found c.in_values.result e c.in_values.ensures
 
 pub in_value-returns-in-If : goal.in_value-returns-in-If
@@ -117,9 +123,9 @@ in_value-returns-in-If t c =
 pub in_value-returns-in-Select : goal.in_value-returns-in-Select
 in_value-returns-in-Select t c =
     let a = spec.in_value c.get-in-Select.result.now in
-    let b = spec.all (map spec.in_value_arm c.as_slice-in-Select.result.now) in
+    let b = spec.all (map spec.in_value_arm c.as_slice.result.now) in
     let d = spec.in_value c.get-in-Select-2.result.now in
-    let e : a ++ (b ++ d) ≡ spec.in_value c.args.value.now = search (rules, the_lemmas, c.in-Select.is, c.get-in-Select.ensures, c.as_slice-in-Select.ensures, c.get-in-Select-2.ensures) in
+    let e : a ++ (b ++ d) ≡ spec.in_value c.args.value.now = search (rules, the_lemmas, c.in-Select.is, c.get-in-Select.ensures, c.as_slice.ensures, c.get-in-Select-2.ensures) in
     three a b d c.args.found c.in_value-found-in-Select.result c.in_value_arms-found.result c.in_value-in-Select.result e c.in_value-found-in-Select.ensures c.in_value_arms-found.ensures c.in_value-in-Select.ensures
 
 pub in_value-returns-in-Unit : goal.in_value-returns-in-Unit

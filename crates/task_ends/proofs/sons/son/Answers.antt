@@ -22,5 +22,5 @@ returns-in_err-memory-clause-father c kinds own h =
 
 pub returns-in_err-packets-clause-err : goal.returns-in_err-packets-clause-err
 returns-in_err-packets-clause-err c =
-    on_err c.from_residual.result (Refused c.args.pool.now c.args.pool.now (roots c.args.task.now.memory) 2)
-    (refused_none c.args.pool.now (roots c.args.task.now.memory) 2)
+    on_err c.from_residual.result (Refused c.args.pool.now c.args.pool.now (roots c.args.task.now.memory) 18)
+    (refused_none c.args.pool.now (roots c.args.task.now.memory) 18)

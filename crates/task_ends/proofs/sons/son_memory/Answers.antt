@@ -1,11 +1,15 @@
 use Rattle.std.proofs.Common.{sym, subst, ◌∙◌}
 use Rattle.page_pool.specs.Pool.{Pages}
 use Rattle.space_memory.specs.Memories.{roots}
-use Rattle.live_task.specs.Below.task_job.proofs.Framed.{only_many, only_stands}
+use Rattle.space_memory.proofs.Framed.{stands_now}
 use Rattle.task_ends.specs.Refused.{Refused}
 use Rattle.task_ends.proofs.Pages as pages
+use Rattle.task_ends.proofs.Settled.{as_many}
 use Rattle.task_ends.proofs.Heirs.{son_of_idle, son_of_running}
 use Rattle.task_ends.proofs.sons.son_memory.Goals as goal
+
+pub inherit-requires : goal.inherit-requires
+inherit-requires c = record { agree = pages.room_for_son c.args.pool.now (roots c.args.task.now.memory) c.requires.agree }
 
 pub free_behind-requires : goal.free_behind-requires
 free_behind-requires c = record {
@@ -16,10 +20,7 @@ free_behind-requires c = record {
 
 pub end-requires : goal.end-requires
 end-requires c = record {
-  agree =
-      only_stands c.inherit.new.pool c.free_behind.new.pool c.in_ok-memory.memory c.free_behind.new.memory c.in-Err.ensures.rest c.in-Err.ensures.frames
-      (pages.son_stands c.args.pool.now c.inherit.new.pool c.args.task.now.memory c.in_ok-memory.memory c.in_ok-memory.ensures.son
-      c.in_ok-memory.ensures.frames c.requires.agree);
+  agree = stands_now c.free_behind.new.pool (roots c.free_behind.new.memory) c.in-Err.ensures.stands;
 }
 
 pub returns-in-Ok : goal.returns-in-Ok
@@ -30,18 +31,14 @@ returns-in-Ok c =
     let task = c.args.task.now in
     let son = c.in_ok-memory.memory in
     let now = c.free_behind.new.memory in
-    let many = only_many p1 p2 son now c.in-Ok.ensures.rest in
+    let is = c.in_ok-memory.ensures.son in
+    let made = c.in_ok-memory.ensures.frames in
     record {
       keeps = λ kinds own h.
-          son_of_running kinds p0 p1 task son own c.in_ok-memory.ensures.son c.in_ok-memory.ensures.keeps h c.in-Running.job c.in-Running.is p2 now
-          c.in-Ok.ensures.freed c.in-Ok.ensures.rest;
-      kept =
-          pages.freed_keeps p0 p1 task.memory son c.in_ok-memory.ensures.son c.in_ok-memory.ensures.frames c.requires.agree p2 now many c.in-Ok.ensures.frames
-          c.in_ok-memory.ensures.keeps;
-      spaces = many ∙ pages.two p0 p1 task.memory son c.in_ok-memory.ensures.son c.in_ok-memory.ensures.frames c.requires.agree;
-      frames =
-          pages.freed_frames p0 p1 task.memory son c.in_ok-memory.ensures.son c.in_ok-memory.ensures.frames c.requires.agree p2 now many
-          c.in-Ok.ensures.frames;
+          son_of_running kinds p0 p1 task son own is c.in_ok-memory.ensures.keeps h c.in-Running.job c.in-Running.is p2 now c.in-Ok.ensures.freed;
+      kept = pages.freed_keeps p0 p1 task.memory son is made c.requires.agree p2 (roots now) c.in-Ok.ensures.frames c.in_ok-memory.ensures.keeps;
+      spaces = as_many son now c.in-Ok.ensures.heads ∙ pages.two p0 p1 task.memory son is made;
+      frames = pages.freed_frames p0 p1 task.memory son is made c.requires.agree p2 (roots now) c.in-Ok.ensures.frames;
       err = tt;
     }
 
@@ -54,17 +51,16 @@ returns-in-Err c =
     let task = c.args.task.now in
     let son = c.in_ok-memory.memory in
     let now = c.free_behind.new.memory in
-    let many = only_many p1 p2 son now c.in-Err.ensures.rest in
+    let is = c.in_ok-memory.ensures.son in
+    let made = c.in_ok-memory.ensures.frames in
     record {
       keeps = tt;
       kept =
-          pages.gone_keeps p0 p1 task.memory son c.in_ok-memory.ensures.son c.in_ok-memory.ensures.frames c.requires.agree p2 now many c.in-Err.ensures.frames
-          p3 c.end.ensures.frames c.in_ok-memory.ensures.keeps;
+          pages.gone_keeps p0 p1 task.memory son is made c.requires.agree p2 p3 (roots now) c.in-Err.ensures.frames c.end.ensures.frames
+          c.in_ok-memory.ensures.keeps;
       spaces = tt;
       frames = tt;
-      err =
-          pages.refused p0 p1 task.memory son c.in_ok-memory.ensures.son c.in_ok-memory.ensures.frames c.requires.agree p2 now many c.in-Err.ensures.frames
-          p3 c.end.ensures.frames;
+      err = pages.refused p0 p1 task.memory son is made c.requires.agree p2 p3 (roots now) c.in-Err.ensures.frames c.end.ensures.frames;
     }
 
 pub returns-in_default : goal.returns-in_default
@@ -73,17 +69,18 @@ returns-in_default c =
     let p1 = c.inherit.new.pool in
     let task = c.args.task.now in
     let son = c.in_ok-memory.memory in
+    let is = c.in_ok-memory.ensures.son in
+    let made = c.in_ok-memory.ensures.frames in
     record {
-      keeps = λ kinds own h.
-          son_of_idle kinds p0 p1 task son own c.in_ok-memory.ensures.son c.in_ok-memory.ensures.keeps h c.in_default.not-Running;
+      keeps = λ kinds own h. son_of_idle kinds p0 p1 task son own is c.in_ok-memory.ensures.keeps h c.in_default.not-Running;
       kept = c.in_ok-memory.ensures.keeps;
-      spaces = pages.two p0 p1 task.memory son c.in_ok-memory.ensures.son c.in_ok-memory.ensures.frames c.requires.agree;
-      frames = c.in_ok-memory.ensures.frames;
+      spaces = pages.two p0 p1 task.memory son is made;
+      frames = pages.made_frames p0 p1 task.memory son is made;
       err = tt;
     }
 
 pub returns-in_err-memory-clause-err : goal.returns-in_err-memory-clause-err
 returns-in_err-memory-clause-err c =
-    pages.on_err c.from_residual.result (Refused c.args.pool.now c.inherit.new.pool (roots c.args.task.now.memory) 2)
-    (subst (λ (p : Pages). Refused c.args.pool.now p (roots c.args.task.now.memory) 2) (sym c.in_err-memory.ensures.err)
-    (pages.refused_none c.args.pool.now (roots c.args.task.now.memory) 2))
+    pages.on_err c.from_residual.result (Refused c.args.pool.now c.inherit.new.pool (roots c.args.task.now.memory) 18)
+    (subst (λ (p : Pages). Refused c.args.pool.now p (roots c.args.task.now.memory) 18) (sym c.in_err-memory.ensures.err)
+    (pages.refused_none c.args.pool.now (roots c.args.task.now.memory) 18))

@@ -12,5 +12,5 @@ keep_text-requires-clause-agree c =
 pub returns-clause-closed : goal.returns-clause-closed
 returns-clause-closed c =
     closed_so c.args.pool.now c.keep_text.new.pool c.args.task.now c.take_text.new.task c.keep_text.new.memory c.in-Some.name c.as_slice.result.now
-    c.in-Some.lines c.as_slice-2.result.now c.in-Some.ensures.1 c.in-Some.ensures.0 c.as_slice.ensures c.as_slice-2.ensures c.keep_text.result
-    c.keep_text.ensures.kept
+    c.in-Some.lines c.as_slice-2.result.now c.in-Some.ensures.1 c.in-Some.ensures.0 c.as_slice.ensures c.as_slice-2.ensures c.requires.sound
+    c.keep_text.result c.keep_text.ensures.kept

@@ -22,8 +22,8 @@ returns-clause-goes g c =
     let left = c.leave_proc-link in
     let now = position_of c.args.s.now in
     let ops = result_ops taken.result in
-    leaves_made (g.M.Memory.holds c.args.m.now) (g.M.Memory.holds c.return_from.new.m) p (instrs.Out c.args.delivers.now) now (linked left.result left.new.stack.ops)
+    leaves_made (g.M.Memory.holds c.args.m.now) (g.M.Memory.holds c.return_from.new.m) (g.M.Memory.heads c.args.m.now) p (instrs.Out c.args.delivers.now) now (linked left.result left.new.stack.ops)
     left.new.stack.frames ops
-    (λ cells. taken.ensures.taken (λ result. out_to p result now.used now.frames cells)
-    ∙ ap (λ fs. out_to p ops now.used fs cells) (sym taken.ensures.frames) ∙ left.ensures.leads p ops now.used cells)
+    (λ mem. taken.ensures.taken (λ result. out_to p result now.used now.frames mem)
+    ∙ ap (λ fs. out_to p ops now.used fs mem) (sym taken.ensures.frames) ∙ left.ensures.leads p ops now.used mem)
     c.return_from.result (control_of c.return_from.new.s) c.args.s.now.waits c.requires.ready.free c.return_from.ensures.goes c.return_from.ensures.freed

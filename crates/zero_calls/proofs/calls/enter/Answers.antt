@@ -11,7 +11,7 @@ pub returns-then-not-have_room-clause-goes : goal.returns-then-not-have_room-cla
 returns-then-not-have_room-clause-goes g c =
     let holds = g.M.Memory.holds c.args.m.now in
     let s = c.args.s.now in
-    entered_full holds holds s.pc s.used c.args.first c.args.base c.args.refines c.args.body c.args.count c.frame_size-more.result s.stack
+    entered_full holds holds (g.M.Memory.heads c.args.m.now) s.pc s.used c.args.first c.args.base c.args.refines c.args.body c.args.count c.frame_size-more.result s.stack
     (all_kinds c.args.variables.now) c.requires.many c.top-operands.result.now c.top-operands.ensures (omega (arith, c.frame_size-more.ensures, c.requires.counted)) s.waits c.requires.ready.free c.if-not-have_room.ensures (λ cells h. h)
 
 pub returns-clause-goes : goal.returns-clause-goes
@@ -19,7 +19,7 @@ returns-clause-goes g c =
     let s = c.args.s.now in
     let before = g.M.Memory.holds c.args.m.now in
     let after = g.M.Memory.holds c.write_frame.new.m in
-    entered_so before after s.pc s.used c.args.first c.args.base c.args.refines c.args.body c.args.count c.frame_size-more.result s.stack
+    entered_so before after (g.M.Memory.heads c.args.m.now) s.pc s.used c.args.first c.args.base c.args.refines c.args.body c.args.count c.frame_size-more.result s.stack
     (all_kinds c.args.variables.now) c.requires.many c.top-operands.result.now c.top-operands.ensures (omega (arith, c.frame_size-more.ensures, c.requires.counted)) c.if-not-have_room.ensures
     (g.met.M.Memory.room c.write_frame.new.m Run) c.enter.new.self s.waits c.requires.ready.free c.in_ok-enter.ensures
     (subst (PutsFree before after s.used (2 + length (flat_map held_cells c.top-operands.result.now) + length (all_kinds c.args.variables.now)) (frame_contents c.top-operands.result.now (all_kinds c.args.variables.now)))
@@ -30,7 +30,7 @@ returns-in-HeapFull-clause-goes g c =
     let s = c.args.s.now in
     let before = g.M.Memory.holds c.args.m.now in
     let after = g.M.Memory.holds c.write_frame.new.m in
-    entered_texts before after s.pc s.used c.args.first c.args.base c.args.refines c.args.body c.args.count c.frame_size-more.result s.stack
+    entered_texts before after (g.M.Memory.heads c.args.m.now) s.pc s.used c.args.first c.args.base c.args.refines c.args.body c.args.count c.frame_size-more.result s.stack
     (all_kinds c.args.variables.now) c.requires.many c.top-operands.result.now c.top-operands.ensures (omega (arith, c.frame_size-more.ensures, c.requires.counted)) c.if-not-have_room.ensures
     (g.met.M.Memory.room c.write_frame.new.m Run) s.waits c.requires.ready.free
     (subst (PutsFree before after s.used (2 + length (flat_map held_cells c.top-operands.result.now) + length (all_kinds c.args.variables.now)) (frame_contents c.top-operands.result.now (all_kinds c.args.variables.now)))

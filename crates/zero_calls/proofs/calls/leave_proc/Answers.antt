@@ -18,8 +18,8 @@ loop-link-preserved c =
     let f = linked c.leave-link.result c.leave-link.new.stack.ops in
     let refines = does_refine c.leave-link.result.refines c.if-not-link.false in
     record {
-      leads = λ p ops used cells.
-          invariant.leads p ops used cells ∙ leaves_more p c.loop-link.stack.frames f below ops used cells c.leave-link.ensures refines;
+      leads = λ p ops used mem.
+          invariant.leads p ops used mem ∙ leaves_more p c.loop-link.stack.frames f below ops used mem c.leave-link.ensures refines;
       fewer =
           omega (arith, invariant.fewer, ap bytes_of c.leave-link.ensures, bytes_upon c.leave-link.new.stack.ops (bytes_of below));
       inside = inside_more c.loop-link.stack.frames f below c.leave-link.ensures refines invariant.inside;

@@ -1,4 +1,4 @@
-use Rattle.std.proofs.Common.{length, map, refl, subst, arith}
+use Rattle.std.proofs.Common.{length, map, refl, subst, arith, ◌∙◌}
 use Rattle.eu_base.specs.Values.{blank_of}
 use Rattle.eu_base.specs.Cells.{held_of}
 use Rattle.zero_calls.proofs.Written.{bare_next, written_more, written_all}
@@ -12,6 +12,7 @@ loop-index-preserved g c = record {
       (c.in_ok-write_blank.ensures.written _ (c.loop-index.invariant.written cells h bare)
       (bare_next c.args.area c.args.at c.loop-index.index (length c.args.variables.now) (map (λ k. held_of (blank_of k)) c.args.variables.now) cells
       c.loop-index-test.true bare));
+  heads = c.write_blank.ensures.heads ∙ c.loop-index.invariant.heads;
   later = omega (arith, c.loop-index.invariant.later, c.write_blank.ensures.cause.later);
   follows = g.met.M.Memory.transitive _ _ _ c.loop-index.invariant.follows c.write_blank.ensures.follows;
 }

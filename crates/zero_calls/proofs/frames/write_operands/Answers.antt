@@ -1,4 +1,4 @@
-use Rattle.std.proofs.Common.{length, subst, arith}
+use Rattle.std.proofs.Common.{length, subst, arith, ◌∙◌}
 use Rattle.eu_base.specs.declared.address.TheConstants.{CELLS}
 use Rattle.code_form.specs.Machine.{held_cells, written_from}
 use Rattle.zero_calls.proofs.Framing.{PutsFree, fits_here, next_cell, free_there, operand_done, operands_full, all_taken}
@@ -39,6 +39,7 @@ loop-index-preserved g c =
           (subst (PutsFree (g.M.Memory.holds c.loop-index.m) (g.M.Memory.holds c.write_operand.new.m) c.loop-index.cell (length (held_cells o)) (held_cells o))
           c.in_default.is c.in_ok-write_operand.ensures.puts _ (c.loop-index.invariant.written cells h free)
           (free_there c.args.at i os o o lt is c.loop-index.cell cells here free));
+      heads = c.write_operand.ensures.heads ∙ c.loop-index.invariant.heads;
       later = omega (arith, c.loop-index.invariant.later, c.write_operand.ensures.cause.later);
       follows = g.met.M.Memory.transitive _ _ _ c.loop-index.invariant.follows c.write_operand.ensures.follows;
     }

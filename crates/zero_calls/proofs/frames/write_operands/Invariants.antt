@@ -11,6 +11,7 @@ invariant-loop-index g l = record {
   cell : l.cell ≡ l.at + length (flat_map held_cells (take l.index l.operands));
   written : (cells : Cells) → g.M.Memory.holds l.fn.m cells → AreFree l.at (length (flat_map held_cells l.operands)) cells
       → g.M.Memory.holds l.m (written_from l.at (flat_map held_cells (take l.index l.operands)) cells);
+  heads : g.M.Memory.heads l.m ≡ g.M.Memory.heads l.fn.m;
   later : g.M.Memory.faults l.fn.m ≤ g.M.Memory.faults l.m;
   follows : g.M.Memory.follows l.fn.m l.m;
 }

@@ -1,4 +1,4 @@
-use Rattle.std.proofs.Common.{◌+◌, length, map, take, refl, subst, arith}
+use Rattle.std.proofs.Common.{◌+◌, length, map, take, refl, subst, arith, ◌∙◌}
 use Rattle.eu_base.specs.Cells.{held_of}
 use Rattle.zero_calls.proofs.Framing.{PutsOne, free_here, value_done, values_full, values_done}
 use Rattle.zero_calls.proofs.frames.write_values.Goals as goal
@@ -11,6 +11,7 @@ loop-index-preserved g c = record {
       (subst (PutsOne (g.M.Memory.holds c.loop-index.m) (g.M.Memory.holds c.write_value.new.m) (c.args.at + c.loop-index.index)
       (held_of c.index-values-index.result)) c.in_default.is c.in_ok-write_value.ensures.puts _ (c.loop-index.invariant.written cells h free)
       (free_here c.args.at c.loop-index.index (length c.args.values.now) (map held_of c.args.values.now) cells c.loop-index-test.true free));
+  heads = c.write_value.ensures.heads ∙ c.loop-index.invariant.heads;
   later = omega (arith, c.loop-index.invariant.later, c.write_value.ensures.cause.later);
   follows = g.met.M.Memory.transitive _ _ _ c.loop-index.invariant.follows c.write_value.ensures.follows;
 }

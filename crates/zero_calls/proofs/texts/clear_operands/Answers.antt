@@ -1,4 +1,4 @@
-use Rattle.std.proofs.Common.{◌≡◌, ◌+◌, length, ap, ◌∙◌, subst, arith}
+use Rattle.std.proofs.Common.{◌≡◌, ◌+◌, length, ap, ◌∙◌, subst, arith, refl}
 use Rattle.std.specs.Prelude.{flat_map}
 use Rattle.eu_base.specs.declared.address.TheConstants.{CELLS}
 use Rattle.eu_base.specs.Cells.{freed}
@@ -23,6 +23,7 @@ pub loop-operand-init : goal.loop-operand-init
 loop-operand-init g c = record {
   cell = omega arith;
   freed = λ cells h stand. freed_none (g.M.Memory.holds c.args.m.now) (g.met.M.Memory.forgets c.args.m.now) c.args.at cells h;
+  heads = refl;
   later = omega arith;
   follows = g.met.M.Memory.reflexive _;
 }
@@ -42,6 +43,7 @@ loop-operand-preserved g c =
           subst (λ n. g.M.Memory.holds c.clear_operand.new.m (freed c.args.at n cells)) to
           (c.in_ok-clear_operand.ensures.cleared c.args.at cells (omega (arith, here)) (c.loop-operand.invariant.freed cells h stand)
           (stand_there c.args.at i os o o lt c.operand-item.is c.loop-operand.cell cells here stand));
+      heads = c.clear_operand.ensures.heads ∙ c.loop-operand.invariant.heads;
       later = omega (arith, c.loop-operand.invariant.later, c.clear_operand.ensures.cause.later);
       follows = g.met.M.Memory.transitive _ _ _ c.loop-operand.invariant.follows c.clear_operand.ensures.follows;
     }

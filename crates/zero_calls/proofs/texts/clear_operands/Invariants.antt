@@ -11,6 +11,7 @@ invariant-loop-operand g l = record {
   cell : l.cell ≡ l.fn.at + length (flat_map held_cells (take l.operand-index l.operands));
   freed : (cells : Cells) → g.M.Memory.holds l.fn.m cells → Stand l.fn.at (flat_map held_cells l.operands) cells
       → g.M.Memory.holds l.m (freed l.fn.at l.cell cells);
+  heads : g.M.Memory.heads l.m ≡ g.M.Memory.heads l.fn.m;
   later : g.M.Memory.faults l.fn.m ≤ g.M.Memory.faults l.m;
   follows : g.M.Memory.follows l.fn.m l.m;
 }

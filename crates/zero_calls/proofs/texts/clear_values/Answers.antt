@@ -1,4 +1,4 @@
-use Rattle.std.proofs.Common.{◌≡◌, ◌+◌, length, sym, subst, arith}
+use Rattle.std.proofs.Common.{◌≡◌, ◌+◌, length, sym, subst, arith, ◌∙◌, refl}
 use Rattle.eu_base.specs.Cells.{run_cell, freed}
 use Rattle.zero_calls.specs.Frames.{HoldsText}
 use Rattle.zero_calls.proofs.Freeing.{text_stands}
@@ -8,6 +8,7 @@ pub loop-index-init : goal.loop-index-init
 loop-index-init g c = record {
   freed = λ from cells low h stand.
       let here : c.args.at ≡ c.args.at + 0 = omega arith in subst (λ n. g.M.Memory.holds c.args.m.now (freed from n cells)) here h;
+  heads = refl;
   later = omega arith;
   follows = g.met.M.Memory.reflexive _;
 }
@@ -21,6 +22,7 @@ loop-index-preserved g c = record {
       (subst (λ b. HoldsText b (cells (run_cell (c.args.at + c.loop-index.index)))) (sym c.is_text.ensures)
       (text_stands c.args.at c.loop-index.index c.args.values.now c.index-values-index.result cells stand c.loop-index-test.true
       c.index-values-index.is)));
+  heads = c.free_cell.ensures.heads ∙ c.loop-index.invariant.heads;
   later = omega (arith, c.loop-index.invariant.later, c.free_cell.ensures.cause.later);
   follows = g.met.M.Memory.transitive _ _ _ c.loop-index.invariant.follows c.free_cell.ensures.follows;
 }

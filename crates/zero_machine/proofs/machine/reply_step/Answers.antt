@@ -24,9 +24,9 @@ returns-clause-fits g c =
     let after = g.M.Memory.holds c.take_reply.new.m in
     let d = control_of c.take_reply.new.s in
     let q = c.in-Ask.name in
-    reply_fits p (position_of s) r c.take_reply.result before after d q c.len-size.ensures.valid
+    reply_fits p (position_of s) r c.take_reply.result before after (g.M.Memory.heads c.args.m.now) d q c.len-size.ensures.valid
     (fits_given p (control_of s) r c.requires.given.1 c.requires.fits) (ap (λ i. Some i) (sym c.in-Ask.is) ∙ c.instr.ensures)
-    (at_reply c.take_reply.result s.waits (λ r. Replies before after q r (position_of s) d) r c.requires.given.1 c.take_reply.ensures.goes)
+    (at_reply c.take_reply.result s.waits (λ r. Replies before after (g.M.Memory.heads c.args.m.now) q r (position_of s) d) r c.requires.given.1 c.take_reply.ensures.goes)
 
 pub returns-clause-spends : goal.returns-clause-spends
 returns-clause-spends g c = λ marks.
@@ -37,9 +37,9 @@ returns-clause-spends g c = λ marks.
     let after = g.M.Memory.holds c.take_reply.new.m in
     let d = control_of c.take_reply.new.s in
     let q = c.in-Ask.name in
-    reply_spends p (position_of s) r c.take_reply.result before after d q c.len-size.ensures.valid
+    reply_spends p (position_of s) r c.take_reply.result before after (g.M.Memory.heads c.args.m.now) d q c.len-size.ensures.valid
     (fits_given p (control_of s) r c.requires.given.1 c.requires.fits) (ap (λ i. Some i) (sym c.in-Ask.is) ∙ c.instr.ensures) marks
-    (at_reply c.take_reply.result s.waits (λ r. Replies before after q r (position_of s) d) r c.requires.given.1 c.take_reply.ensures.goes)
+    (at_reply c.take_reply.result s.waits (λ r. Replies before after (g.M.Memory.heads c.args.m.now) q r (position_of s) d) r c.requires.given.1 c.take_reply.ensures.goes)
 
 pub returns-clause-nearer : goal.returns-clause-nearer
 returns-clause-nearer g c = λ marks.
@@ -50,6 +50,6 @@ returns-clause-nearer g c = λ marks.
     let after = g.M.Memory.holds c.take_reply.new.m in
     let d = control_of c.take_reply.new.s in
     let q = c.in-Ask.name in
-    reply_nears p (position_of s) r c.take_reply.result before after d q c.len-size.ensures.valid
+    reply_nears p (position_of s) r c.take_reply.result before after (g.M.Memory.heads c.args.m.now) d q c.len-size.ensures.valid
     (fits_given p (control_of s) r c.requires.given.1 c.requires.fits) (ap (λ i. Some i) (sym c.in-Ask.is) ∙ c.instr.ensures) marks
-    (at_reply c.take_reply.result s.waits (λ r. Replies before after q r (position_of s) d) r c.requires.given.1 c.take_reply.ensures.goes)
+    (at_reply c.take_reply.result s.waits (λ r. Replies before after (g.M.Memory.heads c.args.m.now) q r (position_of s) d) r c.requires.given.1 c.take_reply.ensures.goes)

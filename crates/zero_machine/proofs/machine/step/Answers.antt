@@ -18,6 +18,7 @@ execute-requires-clause-finds g c =
 pub returns-clause-goes : goal.returns-clause-goes
 returns-clause-goes g c =
     step_goes c.args.code.now (control_of c.args.s.now) c.execute.result (g.M.Memory.holds c.args.m.now) (g.M.Memory.holds c.execute.new.m)
+    (g.M.Memory.heads c.args.m.now) (g.M.Memory.heads c.execute.new.m)
     (control_of c.execute.new.s)
     c.args.marks.now c.execute.new.marks c.instr.result.now c.len-size.ensures.valid
     (fits_free c.args.code.now (control_of c.args.s.now) c.requires.free c.requires.fits)
@@ -26,6 +27,7 @@ returns-clause-goes g c =
 pub returns-clause-fits : goal.returns-clause-fits
 returns-clause-fits g c =
     step_fits c.args.code.now (control_of c.args.s.now) c.execute.result (g.M.Memory.holds c.args.m.now) (g.M.Memory.holds c.execute.new.m)
+    (g.M.Memory.heads c.args.m.now) (g.M.Memory.heads c.execute.new.m)
     (control_of c.execute.new.s)
     c.args.marks.now c.execute.new.marks c.instr.result.now c.len-size.ensures.valid
     (fits_free c.args.code.now (control_of c.args.s.now) c.requires.free c.requires.fits)
@@ -34,6 +36,7 @@ returns-clause-fits g c =
 pub returns-clause-spends : goal.returns-clause-spends
 returns-clause-spends g c =
     step_spends c.args.code.now (control_of c.args.s.now) c.execute.result (g.M.Memory.holds c.args.m.now) (g.M.Memory.holds c.execute.new.m)
+    (g.M.Memory.heads c.args.m.now) (g.M.Memory.heads c.execute.new.m)
     (control_of c.execute.new.s)
     c.args.marks.now c.execute.new.marks c.instr.result.now c.len-size.ensures.valid
     (fits_free c.args.code.now (control_of c.args.s.now) c.requires.free c.requires.fits)
@@ -42,6 +45,7 @@ returns-clause-spends g c =
 pub returns-clause-nearer : goal.returns-clause-nearer
 returns-clause-nearer g c =
     step_nears c.args.code.now (control_of c.args.s.now) c.execute.result (g.M.Memory.holds c.args.m.now) (g.M.Memory.holds c.execute.new.m)
+    (g.M.Memory.heads c.args.m.now) (g.M.Memory.heads c.execute.new.m)
     (control_of c.execute.new.s)
     c.args.marks.now c.execute.new.marks c.instr.result.now c.len-size.ensures.valid
     (fits_free c.args.code.now (control_of c.args.s.now) c.requires.free c.requires.fits)

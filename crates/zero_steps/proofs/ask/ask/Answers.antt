@@ -7,8 +7,8 @@ use Rattle.zero_steps.proofs.Asking.{due}
 use Rattle.zero_steps.proofs.ask.ask.Goals as goal
 
 pub returns-then-marks-eq0 : goal.returns-then-marks-eq0
-returns-then-marks-eq0 c = λ p cells.
+returns-then-marks-eq0 c = λ p mem.
     let now = position_of c.args.s.now in
-    ap (λ w. Over (rest_at halts.Marked (record { position = now; waits = w }) (scene_of cells c.args.marks.now))) c.requires.ready.free
-    ∙ due (request_size c.args.name) now.ops (λ os ops. Asks now (request_of c.args.name (map value_in os)) cells) now cells c.args.marks.now
+    ap (λ w. Over (rest_at halts.Marked (record { position = now; waits = w }) (scene_of mem c.args.marks.now))) c.requires.ready.free
+    ∙ due (request_size c.args.name) now.ops (λ os ops. Asks now (request_of c.args.name (map value_in os)) mem) now mem c.args.marks.now
     c.requires.finds c.if-marks-eq0.true

@@ -5,10 +5,16 @@ use Rattle.eu_base.specs.Cells.{cell_blocks}
 use Rattle.zero_steps.specs.Reading.{blocks_from}
 use Rattle.zero_steps.proofs.Along.{steps_cell, step_on, takes_at, blocks_more}
 use Rattle.zero_steps.proofs.Storing.{at_item}
+use Rattle.zero_steps.proofs.Placed.{steps_there}
 use Rattle.zero_steps.proofs.cells.blocks_at.Goals as goal
 
-pub old_blocks-requires : goal.old_blocks-requires
-old_blocks-requires g c = subst IsCell (sym c.loop-value.invariant.place) (steps_cell c.loop-value.value-index c.args.at c.requires)
+pub old_blocks-requires-clause-cell : goal.old_blocks-requires-clause-cell
+old_blocks-requires-clause-cell g c = subst IsCell (sym c.loop-value.invariant.place) (steps_cell c.loop-value.value-index c.args.at c.requires.cell)
+
+pub old_blocks-requires-clause-there : goal.old_blocks-requires-clause-there
+old_blocks-requires-clause-there g c =
+    steps_there (g.M.Memory.heads c.args.m.now) (g.M.Memory.heads c.loop-value.m) c.loop-value.value-index c.args.at c.loop-value.place c.loop-value.invariant.place
+    c.loop-value.invariant.heads c.requires.there
 
 pub loop-value-preserved : goal.loop-value-preserved
 loop-value-preserved g c = record {
@@ -26,6 +32,7 @@ loop-value-preserved g c = record {
       let before = c.loop-value.invariant.had cells h taken in
       omega (arith, more, rest, old, here, before, c.saturating_add-had.ensures);
   kept = λ cells h. c.in_ok-old_blocks.ensures.kept cells (c.loop-value.invariant.kept cells h);
+  heads = c.old_blocks.ensures.heads ∙ c.loop-value.invariant.heads;
   later = omega (arith, c.loop-value.invariant.later, c.old_blocks.ensures.cause.later);
   follows = g.met.M.Memory.transitive _ _ _ c.loop-value.invariant.follows c.old_blocks.ensures.follows;
 }

@@ -12,6 +12,7 @@ invariant-loop-value g l = record {
   had : (cells : Cells) → g.M.Memory.holds l.fn.m cells → takes_all l.values l.fn.at cells ≡ true
       → l.had ≡ min (blocks_from cells l.fn.at (take l.value-index l.values)) (2 ^ 64 - 1);
   kept : (cells : Cells) → g.M.Memory.holds l.fn.m cells → g.M.Memory.holds l.m cells;
+  heads : g.M.Memory.heads l.m ≡ g.M.Memory.heads l.fn.m;
   later : g.M.Memory.faults l.fn.m ≤ g.M.Memory.faults l.m;
   follows : g.M.Memory.follows l.fn.m l.m;
 }

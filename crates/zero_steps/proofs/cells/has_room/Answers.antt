@@ -1,5 +1,6 @@
 use Rattle.std.proofs.Common.{refl}
 use Rattle.zero_steps.proofs.Storing.{few_values, tells_less, tells_rooms}
+use Rattle.zero_steps.proofs.Placed.{still_there}
 use Rattle.zero_steps.proofs.cells.has_room.Goals as goal
 
 pub returns-then-needed-had-clause-fits : goal.returns-then-needed-had-clause-fits
@@ -18,3 +19,6 @@ returns-clause-follows g c = g.met.M.Memory.transitive _ _ _ c.blocks_at.ensures
 
 pub returns-in_err-rooms-clause-follows : goal.returns-in_err-rooms-clause-follows
 returns-in_err-rooms-clause-follows g c = g.met.M.Memory.transitive _ _ _ c.blocks_at.ensures.follows c.rooms.ensures.follows
+
+pub rooms-requires : goal.rooms-requires
+rooms-requires g c = record { there = still_there (g.M.Memory.heads c.args.m.now) (g.M.Memory.heads c.blocks_at.new.m) c.args.at.area c.blocks_at.ensures.heads c.requires.there }

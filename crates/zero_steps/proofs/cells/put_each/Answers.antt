@@ -1,4 +1,4 @@
-use Rattle.std.proofs.Common.{◌≡◌, ◌≤◌, true, sym, subst, arith, map}
+use Rattle.std.proofs.Common.{◌≡◌, ◌≤◌, true, sym, subst, arith, map, ◌∙◌}
 use Rattle.std.proofs.lemmas.List.{length-map, take_all}
 use Rattle.eu_base.specs.Room.{most_blocks}
 use Rattle.eu_base.specs.Cells.{Cells, IsCell, held_of, written, area_blocks}
@@ -6,10 +6,16 @@ use Rattle.code_form.specs.Machine.{takes, written_all}
 use Rattle.zero_steps.specs.Reading.{shown}
 use Rattle.zero_steps.proofs.Along.{steps_cell, step_on}
 use Rattle.zero_steps.proofs.Storing.{few_values, at_item, put_step}
+use Rattle.zero_steps.proofs.Placed.{steps_there}
 use Rattle.zero_steps.proofs.cells.put_each.Goals as goal
 
-pub put_one-requires : goal.put_one-requires
-put_one-requires g c = subst IsCell (sym c.loop-value.invariant.place) (steps_cell c.loop-value.value-index c.args.at c.requires.cell)
+pub put_one-requires-clause-cell : goal.put_one-requires-clause-cell
+put_one-requires-clause-cell g c = subst IsCell (sym c.loop-value.invariant.place) (steps_cell c.loop-value.value-index c.args.at c.requires.cell)
+
+pub put_one-requires-clause-there : goal.put_one-requires-clause-there
+put_one-requires-clause-there g c =
+    steps_there (g.M.Memory.heads c.args.m.now) (g.M.Memory.heads c.loop-value.m) c.loop-value.value-index c.args.at c.loop-value.place c.loop-value.invariant.place
+    c.loop-value.invariant.heads c.requires.there
 
 pub loop-value-preserved : goal.loop-value-preserved
 loop-value-preserved g c = record {
@@ -24,6 +30,7 @@ loop-value-preserved g c = record {
       → area_blocks p.area (written cells p (held_of (shown c.args.texts v))) ≤ most_blocks → after (written cells p (held_of (shown c.args.texts v))))
       c.loop-value.invariant.place c.in_ok-put_one.ensures.put)
       (c.loop-value.invariant.put cells h taken fits);
+  heads = c.put_one.ensures.heads ∙ c.loop-value.invariant.heads;
   later = omega (arith, c.loop-value.invariant.later, c.put_one.ensures.cause.later);
   follows = g.met.M.Memory.transitive _ _ _ c.loop-value.invariant.follows c.put_one.ensures.follows;
 }

@@ -1,4 +1,5 @@
 use Rattle.zero_steps.proofs.Contents.{appended, not_appended}
+use Rattle.zero_steps.proofs.Placed.{still_there}
 use Rattle.zero_steps.proofs.change.append_at.Goals as goal
 
 pub returns-in-Ok-clause-changes : goal.returns-in-Ok-clause-changes
@@ -19,3 +20,7 @@ returns-in-Ok-clause-follows g c = g.met.M.Memory.transitive _ _ _ c.text.ensure
 
 pub returns-in_err-set_text-in-Ok-clause-follows : goal.returns-in_err-set_text-in-Ok-clause-follows
 returns-in_err-set_text-in-Ok-clause-follows g c = g.met.M.Memory.transitive _ _ _ c.text.ensures.follows c.set_text.ensures.follows
+
+pub set_text-requires-clause-there : goal.set_text-requires-clause-there
+set_text-requires-clause-there g c =
+    still_there _ _ c.args.at.area c.text.ensures.heads c.requires.there

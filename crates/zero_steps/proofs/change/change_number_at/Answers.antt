@@ -5,6 +5,7 @@ use Rattle.eu_base.specs.declared.value.Value.TheVariants.{Int}
 use Rattle.eu_base.specs.Values.{cell_of}
 use Rattle.zero_steps.proofs.Accessing.{same_number}
 use Rattle.zero_steps.proofs.Contents.{number_changed, number_stops}
+use Rattle.zero_steps.proofs.Placed.{still_there}
 use Rattle.zero_steps.proofs.change.change_number_at.Goals as goal
 
 pub returns-in_ok-set_cell-in-Ok-clause-changes : goal.returns-in_ok-set_cell-in-Ok-clause-changes
@@ -29,3 +30,7 @@ returns-in_ok-set_cell-in-Ok-clause-follows g c = g.met.M.Memory.transitive _ _ 
 
 pub returns-in_err-set_cell-in-Ok-clause-follows : goal.returns-in_err-set_cell-in-Ok-clause-follows
 returns-in_err-set_cell-in-Ok-clause-follows g c = g.met.M.Memory.transitive _ _ _ c.cell.ensures.follows c.set_cell.ensures.follows
+
+pub set_cell-requires-clause-there : goal.set_cell-requires-clause-there
+set_cell-requires-clause-there g c =
+    still_there _ _ c.args.at.area c.cell.ensures.heads c.requires.there

@@ -1,7 +1,7 @@
 use Rattle.std.proofs.Common.{nat_eq, sym, subst, [], arith}
 use Rattle.page_table.specs.Frames.{Stands, Frames}
 use Rattle.live_spaces.specs.Live.{LiveData, space_roots, without}
-use Rattle.live_spaces.proofs.Numbers.{numbered_without}
+use Rattle.live_spaces.proofs.Numbers.{numbered_without, gone_without}
 use Rattle.live_spaces.proofs.Roots.{one_stands, gone_frames, others_keep}
 use Rattle.live_spaces.proofs.live.Spaces.forget.Goals as goal
 
@@ -25,3 +25,6 @@ returns-clause-keeps c =
     let stands = subst (λ (live : LiveData). Stands c.args.pool.now (space_roots live.spaces) 0) (sym c.self.view_is) c.requires.agree in
     rw c.shift_remove.ensures.entries
     (others_keep (nat_eq c.args.s.0) _ _ (sym c.in-Some.ensures.value) _ _ [] 0 (omega arith) c.forget.ensures.frames stands)
+
+pub returns-clause-gone : goal.returns-clause-gone
+returns-clause-gone c = rw c.shift_remove.ensures.entries (gone_without 0 c.args.s.0 _ _ c.self.invariant.rise)

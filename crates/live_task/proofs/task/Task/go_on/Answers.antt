@@ -1,22 +1,21 @@
 use Rattle.std.proofs.Common.{ap, None, Some}
-use Rattle.space_memory.specs.Changes.{only_frames_then}
+use Rattle.space_memory.specs.Memories.{roots}
+use Rattle.space_memory.proofs.Framed.{stands_now}
 use Rattle.task_job.specs.declared.job.Job.{Job}
-use Rattle.task_job.proofs.Framed.{only_stands}
+use Rattle.live_task.proofs.Sounding.{still_few, over_frames}
 use Rattle.live_task.proofs.Tasking.{running, went_marked, went_asks, went_ended, went_stopped, whole_job}
 use Rattle.live_task.proofs.task.Task.go_on.Goals as goal
 
 pub over-requires : goal.over-requires
 over-requires c = record {
   agree =
-      only_stands c.args.pool.now c.go_on.new.pool c.args.self.now.memory c.go_on.new.memory c.in-Ok-Ended.ensures.rest c.in-Ok-Ended.ensures.frames
-      c.requires.agree;
+      stands_now c.go_on.new.pool (roots c.go_on.new.memory) c.in-Ok-Ended.ensures.stands;
 }
 
 pub over-requires-in-Ok-Stopped : goal.over-requires-in-Ok-Stopped
 over-requires-in-Ok-Stopped c = record {
   agree =
-      only_stands c.args.pool.now c.go_on.new.pool c.args.self.now.memory c.go_on.new.memory c.in-Ok-Stopped.ensures.rest c.in-Ok-Stopped.ensures.frames
-      c.requires.agree;
+      stands_now c.go_on.new.pool (roots c.go_on.new.memory) c.in-Ok-Stopped.ensures.stands;
 }
 
 pub returns-in-Ok-Marked-clause-went : goal.returns-in-Ok-Marked-clause-went
@@ -49,8 +48,12 @@ returns-in-Ok-Ended-clause-whole c =
 
 pub returns-in-Ok-Ended-clause-frames : goal.returns-in-Ok-Ended-clause-frames
 returns-in-Ok-Ended-clause-frames c =
-    only_frames_then c.args.pool.now c.go_on.new.pool c.over.new.pool c.args.self.now.memory c.go_on.new.memory c.over.new.self.memory
-    c.in-Ok-Ended.ensures.rest c.in-Ok-Ended.ensures.frames c.over.ensures.frames
+    over_frames c.args.pool.now c.go_on.new.pool c.over.new.pool (roots c.args.self.now.memory) (roots c.go_on.new.memory)
+    (roots c.over.new.self.memory) c.in-Ok-Ended.ensures.stands c.over.ensures.as_many c.in-Ok-Ended.ensures.frames c.over.ensures.frames
+
+pub returns-in-Ok-Ended-clause-few : goal.returns-in-Ok-Ended-clause-few
+returns-in-Ok-Ended-clause-few c =
+    still_few c.go_on.new.pool (roots c.go_on.new.memory) (roots c.over.new.self.memory) c.in-Ok-Ended.ensures.stands c.over.ensures.as_many
 
 pub returns-in-Ok-Stopped-clause-whole : goal.returns-in-Ok-Stopped-clause-whole
 returns-in-Ok-Stopped-clause-whole c =
@@ -59,5 +62,9 @@ returns-in-Ok-Stopped-clause-whole c =
 
 pub returns-in-Ok-Stopped-clause-frames : goal.returns-in-Ok-Stopped-clause-frames
 returns-in-Ok-Stopped-clause-frames c =
-    only_frames_then c.args.pool.now c.go_on.new.pool c.over-in-Ok-Stopped.new.pool c.args.self.now.memory c.go_on.new.memory c.over-in-Ok-Stopped.new.self.memory
-    c.in-Ok-Stopped.ensures.rest c.in-Ok-Stopped.ensures.frames c.over-in-Ok-Stopped.ensures.frames
+    over_frames c.args.pool.now c.go_on.new.pool c.over-in-Ok-Stopped.new.pool (roots c.args.self.now.memory) (roots c.go_on.new.memory)
+    (roots c.over-in-Ok-Stopped.new.self.memory) c.in-Ok-Stopped.ensures.stands c.over-in-Ok-Stopped.ensures.as_many c.in-Ok-Stopped.ensures.frames c.over-in-Ok-Stopped.ensures.frames
+
+pub returns-in-Ok-Stopped-clause-few : goal.returns-in-Ok-Stopped-clause-few
+returns-in-Ok-Stopped-clause-few c =
+    still_few c.go_on.new.pool (roots c.go_on.new.memory) (roots c.over-in-Ok-Stopped.new.self.memory) c.in-Ok-Stopped.ensures.stands c.over-in-Ok-Stopped.ensures.as_many

@@ -1,7 +1,6 @@
-use Rattle.std.proofs.Common.{arith}
 use Rattle.std.proofs.lemmas.Result.{on_ok_weaker}
 use Rattle.task_texts.specs.Below.source_machine.specs.Tasks.{replied, with_doing}
-use Rattle.live_tasks.proofs.Standing.{reads, stood, call_sound, call_stands, call_fits, call_each}
+use Rattle.live_tasks.proofs.Standing.{reads, stood, call_sound, call_whole, call_fits, call_each}
 use Rattle.live_tasks.proofs.tasks.Tasks.answer.Goals as goal
 
 pub answer-requires-clause-sound : goal.answer-requires-clause-sound
@@ -14,13 +13,13 @@ pub answer-requires-clause-agree : goal.answer-requires-clause-agree
 answer-requires-clause-agree c =
     let at = reads c.self.inside.pool c.self.inside.tasks.items c.args.self.now c.args.k c.index_mut-task.result.now c.self.view_is c.requires.task
     c.index_mut-task.ensures.value in
-    call_stands c.self.inside.pool c.self.inside.pool c.self.inside.tasks.items c.args.k c.index_mut-task.result.now at c.self.invariant 0 (omega arith)
+    call_whole c.self.inside.pool c.self.inside.pool c.self.inside.tasks.items c.args.k c.index_mut-task.result.now at c.self.invariant
 
 pub invariant_of-self : goal.invariant_of-self
 invariant_of-self c =
     let at = reads c.self.inside.pool c.self.inside.tasks.items c.args.self.now c.args.k c.index_mut-task.result.now c.self.view_is c.requires.task
     c.index_mut-task.ensures.value in
-    call_fits c.self.inside.pool c.answer.new.pool c.self.inside.tasks.items c.args.k c.index_mut-task.result.now at c.self.invariant c.answer.new.self c.answer.ensures.as_many c.answer.ensures.frames c.answer.ensures.sound
+    call_fits c.self.inside.pool c.answer.new.pool c.self.inside.tasks.items c.args.k c.index_mut-task.result.now at c.self.invariant c.answer.new.self c.answer.ensures.frames c.answer.ensures.few c.answer.ensures.sound
 
 pub returns : goal.returns
 returns c =
@@ -28,6 +27,6 @@ returns c =
     c.index_mut-task.ensures.value in
     on_ok_weaker c.answer.result (λ answers kinds_of owns h.
     let all = stood kinds_of c.self.inside.pool c.self.inside.tasks.items c.args.self.now owns c.self.view_is h in
-    call_each c.self.inside.pool c.answer.new.pool c.self.inside.tasks.items c.args.k c.index_mut-task.result.now at c.self.invariant c.answer.new.self c.answer.ensures.as_many c.answer.ensures.frames
+    call_each c.self.inside.pool c.answer.new.pool c.self.inside.tasks.items c.args.k c.index_mut-task.result.now at c.self.invariant c.answer.new.self c.answer.ensures.frames
     kinds_of owns all (λ own. with_doing (replied c.args.reply own.doing) own) (λ own mine. answers (kinds_of own.packets) own mine))
     c.answer.ensures.answered

@@ -1,4 +1,5 @@
 use Rattle.std.proofs.Common.{◌≡◌, ◌++◌, ◌∷◌, [], List, get_or, arith, sym, ◌∙◌, ap, subst, length, ◌<◌}
+use Rattle.space_memory.specs.Memories.{most_roots}
 use Rattle.task_texts.specs.Below.live_task.specs.declared.task.Task.{Task}
 use Rattle.task_texts.specs.Below.source_machine.specs.Stores.{heir}
 use Rattle.task_texts.specs.Below.source_machine.specs.Tasks.{Idle, now}
@@ -13,7 +14,7 @@ pub son-requires : goal.son-requires
 son-requires c =
     let at = reads c.self.inside.pool c.self.inside.tasks.items c.args.self.now c.args.father c.index.result.now c.self.view_is c.requires.father
     (subst (λ (tasks : List Task). c.index.result.now ≡ get_or tasks c.args.father c.index.result.now) c.reserve.ensures.items c.index.ensures) in
-    record { agree = call_stands c.self.inside.pool c.self.inside.pool c.self.inside.tasks.items c.args.father c.index.result.now at c.self.invariant 2 (omega arith) }
+    record { agree = call_stands c.self.inside.pool c.self.inside.pool c.self.inside.tasks.items c.args.father c.index.result.now at c.self.invariant most_roots (omega arith) }
 
 pub invariant_of-self-in_err-son : goal.invariant_of-self-in_err-son
 invariant_of-self-in_err-son c =

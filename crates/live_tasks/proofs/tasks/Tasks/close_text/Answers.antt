@@ -2,7 +2,9 @@ use Rattle.std.proofs.Common.{arith}
 use Rattle.source_texts.specs.Sources.{source_space}
 use Rattle.task_texts.specs.Below.source_machine.specs.Stores.{with_named}
 use Rattle.task_texts.specs.Below.source_machine.specs.Tasks.{Idle, with_doing}
-use Rattle.live_tasks.proofs.Standing.{reads, stood, stands_at, but_one, call_sound, call_stands, more_puts}
+use Rattle.live_tasks.proofs.Standing.{reads, stood, stands_at, but_one, call_sound, call_stands, call_puts}
+use Rattle.space_memory.specs.Changes.{frames_before}
+use Rattle.live_tasks.specs.Tasks.{task_roots}
 use Rattle.live_tasks.proofs.Closing.{both_ok, closed_fits}
 use Rattle.live_tasks.proofs.tasks.Tasks.close_text.Goals as goal
 
@@ -33,8 +35,9 @@ returns c =
     both_ok c.close_text-closed.result (λ frames closes kinds_of owns own name lines store h has entering.
     let all = stood kinds_of c.self.inside.pool c.self.inside.tasks.items c.args.self.now owns c.self.view_is h in
     let mine = stands_at kinds_of c.self.inside.pool c.self.inside.tasks.items owns c.args.k c.index_mut-task.result.now own all at has in
-    more_puts c.self.inside.pool c.close_text-closed.new.pool c.self.inside.tasks.items c.args.k c.index_mut-task.result.now at c.self.invariant
-    c.close_text-closed.new.task (omega (arith, c.close_text-closed.ensures.room)) frames kinds_of owns
+    call_puts c.self.inside.pool c.close_text-closed.new.pool c.self.inside.tasks.items c.args.k c.index_mut-task.result.now at c.self.invariant
+    c.close_text-closed.new.task (frames_before c.self.inside.pool c.close_text-closed.new.pool (task_roots c.index_mut-task.result.now)
+    (task_roots c.close_text-closed.new.task) c.has_few.ensures frames) kinds_of owns
     (but_one kinds_of c.self.inside.pool c.self.inside.tasks.items owns c.args.k all) own has
     (with_doing (Idle (with_named name (source_space lines) store)))
     (closes (kinds_of own.packets) own name lines store entering mine))

@@ -4,17 +4,18 @@ use Rattle.eu_base.specs.declared.value.Kind.{Kind}
 use Rattle.task_texts.specs.Below.source_machine.specs.Tasks.{Idle, store_in, with_doing}
 use Rattle.task_texts.specs.Below.source_machine.specs.Monitor.{with_packet}
 use Rattle.task_texts.specs.Below.live_task.specs.Stands.{StandsFor}
-use Rattle.live_tasks.proofs.Standing.{reads, call_sound, call_fits}
-use Rattle.live_tasks.proofs.Over.{overs, installed_many, installed_frames, installs}
+use Rattle.live_tasks.proofs.Standing.{reads, call_sound, call_small, call_fits}
+use Rattle.live_tasks.proofs.Over.{overs, installed_small, installed_frames, installs}
 use Rattle.live_tasks.proofs.tasks.Tasks.install.Goals as goal
 
 pub invariant_of-self : goal.invariant_of-self
 invariant_of-self c =
     let at = reads c.self.inside.pool c.self.inside.tasks.items c.args.self.now c.args.k c.index_mut-task.result.now c.self.view_is c.requires.task
     c.index_mut-task.ensures.value in
-    let many = installed_many c.index_mut-task.result.now c.install.new.self c.args.number c.install.result c.install.ensures.ok c.install.ensures.err in
+    let small = installed_small c.index_mut-task.result.now c.install.new.self c.args.number c.install.result c.install.ensures.ok c.install.ensures.err
+    (call_small c.self.inside.pool c.self.inside.pool c.self.inside.tasks.items c.args.k c.index_mut-task.result.now at c.self.invariant) in
     let frames = installed_frames c.index_mut-task.result.now c.install.new.self c.args.number c.install.result c.install.ensures.ok c.install.ensures.err c.self.inside.pool in
-    call_fits c.self.inside.pool c.self.inside.pool c.self.inside.tasks.items c.args.k c.index_mut-task.result.now at c.self.invariant c.install.new.self many frames (c.install.ensures.sound (call_sound c.self.inside.pool c.self.inside.pool c.self.inside.tasks.items c.args.k c.index_mut-task.result.now at c.self.invariant))
+    call_fits c.self.inside.pool c.self.inside.pool c.self.inside.tasks.items c.args.k c.index_mut-task.result.now at c.self.invariant c.install.new.self frames small (c.install.ensures.sound (call_sound c.self.inside.pool c.self.inside.pool c.self.inside.tasks.items c.args.k c.index_mut-task.result.now at c.self.invariant))
 
 pub returns : goal.returns
 returns c =

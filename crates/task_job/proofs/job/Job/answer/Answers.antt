@@ -1,27 +1,22 @@
 use Rattle.std.proofs.Common.{refl}
-use Rattle.space_memory.specs.Changes.{only_then, only_frames_then}
+use Rattle.space_memory.specs.Memories.{roots}
+use Rattle.space_memory.specs.Changes.{memory_frames_then}
 use Rattle.source_machine.specs.Tasks.{with_reply}
-use Rattle.task_job.proofs.Framed.{only_stands}
 use Rattle.task_job.proofs.Standing.{at_run, asked_is, takes_reply, settles}
 use Rattle.task_job.proofs.job.Job.answer.Goals as goal
 
 pub go_over-requires : goal.go_over-requires
-go_over-requires c = record {
-  fits = c.in_ok-answer_over.ensures.fits;
-  agree =
-      only_stands c.args.pool.now c.answer_over.new.pool c.args.memory.now c.answer_over.new.memory c.in_ok-answer_over.ensures.rest
-      c.in_ok-answer_over.ensures.frames c.requires.agree;
-}
+go_over-requires c = record { fits = c.in_ok-answer_over.ensures.fits; agree = c.in_ok-answer_over.ensures.stands }
 
 pub returns-clause-answered : goal.returns-clause-answered
 returns-clause-answered c kinds command h =
     let q = asked_is c.args.self.now.run.waits c.requires.asks in
     let t =
     takes_reply kinds c.args.pool.now c.answer_over.new.pool c.args.memory.now c.answer_over.new.memory c.args.self.now command q.0 c.args.reply
-    c.answer_over.new.run h.reaches q.1 (c.in_ok-answer_over.ensures.answered q.0 q.1) c.in_ok-answer_over.ensures.kept c.in_ok-answer_over.ensures.rest in
+    c.answer_over.new.run h.reaches q.1 (c.in_ok-answer_over.ensures.answered q.0 q.1) c.in_ok-answer_over.ensures.kept c.in_ok-answer_over.ensures.heads in
     settles kinds c.answer_over.new.pool c.go_over.new.pool c.answer_over.new.memory c.go_over.new.memory
     (at_run c.args.self.now c.answer_over.new.run) (with_reply c.args.reply command) t 0 c.go_over.new.marks c.in_ok-go_over.field-0
-    c.go_over.new.run c.in_ok-go_over.ensures.rests c.in_ok-go_over.ensures.marks c.in_ok-go_over.ensures.rest refl
+    c.go_over.new.run c.in_ok-go_over.ensures.rests c.in_ok-go_over.ensures.marks refl
 
 pub returns-clause-sound : goal.returns-clause-sound
 returns-clause-sound c = record {
@@ -30,22 +25,12 @@ returns-clause-sound c = record {
   fits = c.in_ok-go_over.ensures.fits;
 }
 
-pub returns-clause-rest : goal.returns-clause-rest
-returns-clause-rest c =
-    only_then c.args.pool.now c.answer_over.new.pool c.go_over.new.pool c.args.memory.now c.answer_over.new.memory c.go_over.new.memory
-    c.in_ok-answer_over.ensures.rest c.in_ok-go_over.ensures.rest
-
 pub returns-clause-frames : goal.returns-clause-frames
 returns-clause-frames c =
-    only_frames_then c.args.pool.now c.answer_over.new.pool c.go_over.new.pool c.args.memory.now c.answer_over.new.memory c.go_over.new.memory
-    c.in_ok-answer_over.ensures.rest c.in_ok-answer_over.ensures.frames c.in_ok-go_over.ensures.frames
-
-pub returns-in_err-go_over-clause-rest : goal.returns-in_err-go_over-clause-rest
-returns-in_err-go_over-clause-rest c =
-    only_then c.args.pool.now c.answer_over.new.pool c.go_over.new.pool c.args.memory.now c.answer_over.new.memory c.go_over.new.memory
-    c.in_ok-answer_over.ensures.rest c.in_err-go_over.ensures.rest
+    memory_frames_then c.args.pool.now c.answer_over.new.pool c.go_over.new.pool (roots c.args.memory.now) (roots c.answer_over.new.memory)
+    (roots c.go_over.new.memory) c.in_ok-answer_over.ensures.frames c.in_ok-go_over.ensures.frames
 
 pub returns-in_err-go_over-clause-frames : goal.returns-in_err-go_over-clause-frames
 returns-in_err-go_over-clause-frames c =
-    only_frames_then c.args.pool.now c.answer_over.new.pool c.go_over.new.pool c.args.memory.now c.answer_over.new.memory c.go_over.new.memory
-    c.in_ok-answer_over.ensures.rest c.in_ok-answer_over.ensures.frames c.in_err-go_over.ensures.frames
+    memory_frames_then c.args.pool.now c.answer_over.new.pool c.go_over.new.pool (roots c.args.memory.now) (roots c.answer_over.new.memory)
+    (roots c.go_over.new.memory) c.in_ok-answer_over.ensures.frames c.in_err-go_over.ensures.frames

@@ -1,16 +1,14 @@
 use Rattle.cell_kinds.specs.Kinds.{packet_kinds}
-use Rattle.space_memory.specs.Changes.{only_then, only_frames_then}
+use Rattle.space_memory.specs.Memories.{roots}
+use Rattle.space_memory.specs.Changes.{memory_frames_then}
 use Rattle.source_machine.specs.Tasks.{starting}
-use Rattle.task_job.proofs.Framed.{only_stands}
 use Rattle.task_job.proofs.Standing.{if_given, starts}
 use Rattle.task_job.proofs.job.Job.of.Goals as goal
 
 pub settle-requires : goal.settle-requires
 settle-requires c = record {
   sound = record { unit = c.requires.unit; behaves = c.requires.behaves; fits = c.in-Ok.ensures.fits };
-  agree =
-      only_stands c.args.pool.now c.start_over.new.pool c.args.memory.now c.start_over.new.memory c.in-Ok.ensures.rest c.in-Ok.ensures.frames
-      c.requires.agree;
+  agree = c.in-Ok.ensures.stands;
 }
 
 pub returns-in-Ok-clause-starts : goal.returns-in-Ok-clause-starts
@@ -19,14 +17,9 @@ returns-in-Ok-clause-starts c =
     (λ job settled store h.
     settled (packet_kinds c.args.unit.core.packets) (starting c.args.unit store)
     (starts c.args.pool.now c.start_over.new.pool c.args.memory.now c.start_over.new.memory c.args.unit c.args.code c.in-Ok.run' store
-    c.requires.behaves h c.in-Ok.ensures.run c.in-Ok.ensures.made c.in-Ok.ensures.rest)) c.settle.ensures.settled
-
-pub returns-in-Ok-clause-rest : goal.returns-in-Ok-clause-rest
-returns-in-Ok-clause-rest c =
-    only_then c.args.pool.now c.start_over.new.pool c.settle.new.pool c.args.memory.now c.start_over.new.memory c.settle.new.memory
-    c.in-Ok.ensures.rest c.settle.ensures.rest
+    c.requires.behaves h c.in-Ok.ensures.run c.in-Ok.ensures.made c.in-Ok.ensures.heads)) c.settle.ensures.settled
 
 pub returns-in-Ok-clause-frames : goal.returns-in-Ok-clause-frames
 returns-in-Ok-clause-frames c =
-    only_frames_then c.args.pool.now c.start_over.new.pool c.settle.new.pool c.args.memory.now c.start_over.new.memory c.settle.new.memory
-    c.in-Ok.ensures.rest c.in-Ok.ensures.frames c.settle.ensures.frames
+    memory_frames_then c.args.pool.now c.start_over.new.pool c.settle.new.pool (roots c.args.memory.now) (roots c.start_over.new.memory)
+    (roots c.settle.new.memory) c.in-Ok.ensures.frames c.settle.ensures.frames

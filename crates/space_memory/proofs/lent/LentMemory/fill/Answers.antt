@@ -1,0 +1,40 @@
+use Rattle.std.proofs.Common.{refl, sym, ap, ◌∙◌, subst}
+use Rattle.eu_base.specs.DataSpaces.{Head}
+use Rattle.live_spaces.specs.Kept.{IsOfKind}
+use Rattle.space_memory.specs.Memories.{MemoryData}
+use Rattle.space_memory.specs.Changes.{kind_none, frames_before}
+use Rattle.space_memory.proofs.Framed.{stands_now, whole_after}
+use Rattle.space_memory.proofs.Changed.{head_is, live_here, few_filled, heads_filled, cells_filled}
+use Rattle.space_memory.proofs.lent.LentMemory.fill.Goals as goal
+
+pub fill-requires-clause-live : goal.fill-requires-clause-live
+fill-requires-clause-live c = live_here c.args.s c.args.self.now.memory.now c.requires.live
+
+pub fill-requires-clause-empty : goal.fill-requires-clause-empty
+fill-requires-clause-empty c = ap (λ (h : Head). h.shape) (sym (head_is c.args.s c.args.self.now.memory.now)) ∙ c.requires.empty
+
+pub fill-requires-clause-agree : goal.fill-requires-clause-agree
+fill-requires-clause-agree c = stands_now _ _ c.args.self.now.agree
+
+pub invariant_of-self : goal.invariant_of-self
+invariant_of-self c = record {
+  agree = whole_after _ _ _ _ (few_filled c.args.self.now.memory.now _ c.args.s c.fill.ensures.others c.args.self.now.agree.few) c.fill.ensures.frames c.args.self.now.agree;
+}
+
+pub returns-clause-heads : goal.returns-clause-heads
+returns-clause-heads c =
+    heads_filled _ _ c.args.self.now.memory.now _ c.args.s c.args.shape.now (live_here c.args.s c.args.self.now.memory.now c.requires.live) c.fill.ensures.others _ c.fill.ensures.filled
+
+pub returns-clause-filled : goal.returns-clause-filled
+returns-clause-filled c =
+    cells_filled _ _ c.args.self.now.memory.now _ c.args.s c.args.shape.now (live_here c.args.s c.args.self.now.memory.now c.requires.live) c.fill.ensures.others _ c.requires.cells c.fill.ensures.keeps
+    c.fill.ensures.filled
+
+pub returns-clause-follows : goal.returns-clause-follows
+returns-clause-follows c = record {
+  memory_name = refl;
+  pool_name = refl;
+  run_kind = subst (λ (m : MemoryData). IsOfKind c.args.self.now.memory.now.run m.run) (sym c.fill.ensures.others) (kind_none c.args.self.now.memory.now.run);
+  packets_kind = subst (λ (m : MemoryData). IsOfKind c.args.self.now.memory.now.packets m.packets) (sym c.fill.ensures.others) (kind_none c.args.self.now.memory.now.packets);
+  frames = frames_before _ _ _ _ (few_filled c.args.self.now.memory.now _ c.args.s c.fill.ensures.others c.args.self.now.agree.few) c.fill.ensures.frames;
+}

@@ -1,0 +1,39 @@
+use Rattle.std.proofs.Common.{◌≡◌, refl, sym, ap, ◌∙◌, subst}
+use Rattle.std.proofs.lemmas.Int.{to_z-of_z}
+use mir.Syntax.{w16}
+use Rattle.live_spaces.specs.Live.{the_space}
+use Rattle.live_spaces.specs.Kept.{IsOfKind}
+use Rattle.page_table.specs.Entries.{Names}
+use Rattle.space_memory.specs.Memories.{MemoryData, changed, StandsWhole, MemoryFrames, memory_heads, roots}
+use Rattle.space_memory.specs.Changes.{kind_none, memory_frames_none}
+use Rattle.space_memory.proofs.Changed.{kind_heads, kind_still, live_here}
+use Rattle.space_memory.proofs.lent.LentMemory.set_kind.Goals as goal
+
+pub set_kind-requires : goal.set_kind-requires
+set_kind-requires c = record { live = live_here c.args.s c.args.self.now.memory.now c.requires.live }
+
+pub invariant_of-self : goal.invariant_of-self
+invariant_of-self c = record {
+  agree = subst (λ (names : Names). StandsWhole c.args.self.now.pool.now names) (sym c.set_kind.ensures.roots) c.args.self.now.agree;
+}
+
+pub returns-clause-heads : goal.returns-clause-heads
+returns-clause-heads c = ap memory_heads
+    (subst (λ z. c.set_kind.new.self ≡ changed c.args.s.0 (record (the_space c.args.s.0 c.args.self.now.memory.now.spaces) { kind = z }) c.args.self.now.memory.now) (to_z-of_z w16 c.args.n c.ranges.n)
+    c.set_kind.ensures.kind) ∙ kind_heads c.args.s c.args.n c.args.self.now.memory.now
+
+pub returns-clause-kept : goal.returns-clause-kept
+returns-clause-kept c =
+    kind_still c.args.self.now.pool.now c.args.self.now.memory.now _ c.args.s c.args.n (live_here c.args.s c.args.self.now.memory.now c.requires.live)
+    (subst (λ z. c.set_kind.new.self ≡ changed c.args.s.0 (record (the_space c.args.s.0 c.args.self.now.memory.now.spaces) { kind = z }) c.args.self.now.memory.now) (to_z-of_z w16 c.args.n c.ranges.n)
+    c.set_kind.ensures.kind)
+
+pub returns-clause-follows : goal.returns-clause-follows
+returns-clause-follows c = record {
+  memory_name = refl;
+  pool_name = refl;
+  run_kind = subst (λ (m : MemoryData). IsOfKind c.args.self.now.memory.now.run m.run) (sym c.set_kind.ensures.kind) (kind_none c.args.self.now.memory.now.run);
+  packets_kind = subst (λ (m : MemoryData). IsOfKind c.args.self.now.memory.now.packets m.packets) (sym c.set_kind.ensures.kind) (kind_none c.args.self.now.memory.now.packets);
+  frames = subst (λ (names : Names). MemoryFrames c.args.self.now.pool.now c.args.self.now.pool.now (roots c.args.self.now.memory.now) names) (sym c.set_kind.ensures.roots)
+      (memory_frames_none c.args.self.now.pool.now (roots c.args.self.now.memory.now));
+}
