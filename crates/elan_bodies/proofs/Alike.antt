@@ -79,6 +79,7 @@ module _ (j k : Known) (z : Scope) (calls : j.calls ≡ k.calls) where
       → r.denoted j Expression at s x home i d ≡ r.denoted k Expression at s x home i d
   denoted_alike at s x home i (denotes.Variable t) h = refl
   denoted_alike at s x home i (denotes.Constant t) h = refl
+  denoted_alike at s x home i (denotes.Bound t) h = refl
   denoted_alike at s x home i (denotes.Parameter p) h = refl
   denoted_alike at s x home i denotes.Procedure h = refl
   denoted_alike at s x home i (denotes.Denoter q) h = refl
@@ -93,6 +94,7 @@ module _ (j k : Known) (z : Scope) (calls : j.calls ≡ k.calls) where
       → r.denoted j Counter at s x home i d ≡ r.denoted k Counter at s x home i d
   counted_alike at s x home i (denotes.Variable t) = refl
   counted_alike at s x home i (denotes.Constant t) = refl
+  counted_alike at s x home i (denotes.Bound t) = refl
   counted_alike at s x home i (denotes.Parameter p) = refl
   counted_alike at s x home i denotes.Procedure = refl
   counted_alike at s x home i denotes.Refinement = refl

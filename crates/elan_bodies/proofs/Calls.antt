@@ -375,9 +375,9 @@ module _ (s : Scope) where
   unit_calls (t.Let at items) = whole at form.definition (all_of (map (shape.let_item s) items)) refl ∙ lets_call items
   unit_calls (t.Variables at of items) = whole at form.declaration (all_of (map (shape.item s) (map fst items))) refl ∙ items_call held.Variable of items
   unit_calls (t.Constants at of items) = whole at form.declaration (all_of (map (shape.item s) (map fst items))) refl ∙ items_call held.Constant of items
-  unit_calls (t.Bound at of items) = refl
+  unit_calls (t.Bound at of items) = whole at form.declaration (all_of (map (shape.item s) (map fst items))) refl ∙ items_call held.Bound of items
   unit_calls (t.Value a) = one_calls (form.place (shape.expr s a.0)) form.statement (shape.expr s a.0) refl ∙ a.1
-  unit_calls (t.Becomes at a b) = two_found at (form.assignment s) (shape.expr s a.0) (shape.expr s b.0) (nodes.in_expr a.0) (nodes.in_expr b.0) refl a.1 b.1
+  unit_calls (t.Becomes at a b) = two_found at (form.assignment s (shape.is_name (shape.expr s a.0))) (shape.expr s a.0) (shape.expr s b.0) (nodes.in_expr a.0) (nodes.in_expr b.0) refl a.1 b.1
   unit_calls (t.Loop at None None us None) = loop_calls at absent absent us [] [] refl refl
   unit_calls (t.Loop at None None us (Some v)) = loop_calls at absent (shape.expr s v.0) us [] (nodes.in_expr v.0) refl v.1
   unit_calls (t.Loop at None (Some c) us None) = loop_calls at (shape.expr s c.0) absent us (nodes.in_expr c.0) [] c.1 refl

@@ -152,6 +152,7 @@ module _ (j k : Known) (below : Below j k) where
       → r.denoted k u at s x home i d ≡ gives n → m ≡ n
   denoted_same u at s x home i (denotes.Variable t) m n h g = gives_is m n (sym h ∙ g)
   denoted_same u at s x home i (denotes.Constant t) m n h g = gives_is m n (sym h ∙ g)
+  denoted_same u at s x home i (denotes.Bound t) m n h g = gives_is m n (sym h ∙ g)
   denoted_same u at s x home i (denotes.Parameter p) m n h g = gives_is m n (sym h ∙ g)
   denoted_same u at s x home i denotes.Procedure m n h g = gives_is m n (sym h ∙ g)
   denoted_same u at s x home i (denotes.Denoter q) m n h g = gives_is m n (sym h ∙ g)

@@ -68,6 +68,7 @@ module _ (k : Known) (n : ℕ) (untold : delivery_at k n ≡ Open) where
       → (if scope.is_refinement d then o else None) ≡ Some n → scope.refinement_named s x ≡ Some n → c.denoted k Expression at s x home i d ≡ gives m → ⊥
   denoted_open at s x home i (denotes.Variable t) o m g r h = absurd cc
   denoted_open at s x home i (denotes.Constant t) o m g r h = absurd cc
+  denoted_open at s x home i (denotes.Bound t) o m g r h = absurd cc
   denoted_open at s x home i (denotes.Parameter p) o m g r h = absurd cc
   denoted_open at s x home i denotes.Procedure o m g r h = absurd cc
   denoted_open at s x home i (denotes.Denoter q) o m g r h = absurd cc

@@ -204,6 +204,7 @@ export_place (export.Sign at s) = at
 abbrev pub may_show_name : Denotes → Option Bool
 may_show_name (denotes.Variable t) = Some false
 may_show_name (denotes.Constant t) = Some true
+may_show_name (denotes.Bound t) = Some false
 may_show_name (denotes.Parameter p) = Some false
 may_show_name denotes.Procedure = Some true
 may_show_name denotes.Refinement = None

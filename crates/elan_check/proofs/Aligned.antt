@@ -129,7 +129,7 @@ abbrev pub Frames : ℕ → List Body → Option Within → Type 0
 Frames before all None = Unit {0}
 Frames before all (Some v) =
     (fs : List core.Formal) × (vs : List Kind) × (scope_of (slice_get all (before + v.number)) ≡ Some (owner.Own fs vs))
-    × (frame_of (owner.Own fs vs) ≡ held_cells v.names) × AllSized (all_held v.names)
+    × (frame_of (owner.Own fs vs) ≡ held_cells v.names) × AllSized v.names
 
 -- what a scope tells that is the same in all of its bodies: the names of the level, and what stands around it
 abbrev pub surroundings : Scope → List Entry × List Inserted × ℕ × Home
@@ -141,7 +141,7 @@ within n names types = Some (record { number = n; names = names; types = types }
 abbrev pub Stands : ℕ → List Body → ℕ → What → Scope → Body → Type 0
 Stands before all n (Routine sort ps r) z b =
     (names : List Entry) × (types : List TypeName) × (z.routine ≡ within n names types) × (z.refinement ≡ None) × (frame_of b.scope ≡ held_cells names)
-    × AllSized (all_held names)
+    × AllSized names
 Stands before all n (Refinement home) z b = (z.refinement ≡ Some n) × (number_of z.routine ≡ home) × Frames before all z.routine
 
 module _ (kn : Known) (s : Scope) (all : List Body) where
@@ -245,6 +245,7 @@ module _ (kn : Known) (s : Scope) (all : List Body) where
   declared_as_quiet : (at : ℕ) (home : Home) (n : ℕ) (d : Denotes) → u.bodies_in (calls.declared_as at home n d) ≡ []
   declared_as_quiet at home n (denotes.Variable t) = refl
   declared_as_quiet at home n (denotes.Constant t) = refl
+  declared_as_quiet at home n (denotes.Bound t) = refl
   declared_as_quiet at home n (denotes.Parameter p) = refl
   declared_as_quiet at home n denotes.Procedure = refl
   declared_as_quiet at home n denotes.Refinement = refl

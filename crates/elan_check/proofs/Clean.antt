@@ -2,7 +2,9 @@
 use Rattle.std.proofs.Common.{◌≡◌, ℕ, zero, suc, Bool, true, false, ◌||◌, List, [], ◌∷◌, ◌++◌, Option, Some, None, refl, subst}
 use Rattle.std.specs.Prelude.{flat_map, map, slice_get}
 use Rattle.elan_types.specs.declared.elan_type.Parameter.{Parameter}
+use Rattle.elan_types.specs.declared.elan_type.ElanType.TheVariants.{Dataspace}
 use Rattle.elan_types.specs.Types.{is_open}
+use Rattle.elan_types.proofs.Types.{dataspace_closed}
 use Rattle.elan_tree.specs.declared.written_type.Name.{Name}
 use Rattle.elan_tree.specs.declared.written_type.Constant.TheVariants as constants
 use Rattle.elan_tree.specs.declared.written_type.Formal.{Formal}
@@ -12,9 +14,10 @@ use Rattle.elan_tree.specs.declared.tree.Refinement.{Refinement}
 use Rattle.elan_tree.specs.declared.tree.Level.{Level}
 use Rattle.elan_tree.specs.declared.tree.LevelUnit.{LevelUnit}
 use Rattle.elan_tree.specs.declared.tree.LevelUnit.TheVariants as level
-use Rattle.elan_walk.specs.declared.node.Held.TheVariants.{Variable, Constant}
+use Rattle.elan_walk.specs.declared.node.Held.TheVariants.{Variable, Constant, Bound}
 use Rattle.elan_walk.specs.Nodes as nodes
-use Rattle.elan_walk.specs.Nodes.{Node, alone, other, sign, of_type, item, let_name, abbreviation, new_type, unbuilt}
+use Rattle.elan_walk.specs.Nodes.{Node, alone, other, sign, of_type, item, let_name, abbreviation, new_type, content}
+use Rattle.elan_names.specs.declared.entry.Denotes.{Denotes}
 use Rattle.elan_names.specs.declared.entry.Denotes.TheVariants as denotes
 use Rattle.elan_names.specs.declared.entry.Entry.{Entry}
 use Rattle.elan_names.specs.declared.type_name.TypeName.{TypeName}
@@ -24,7 +27,7 @@ use Rattle.value_rules.specs.Calls.{holds_open}
 use Rattle.type_definitions.specs.declared.definition.Definition.{Definition}
 use Rattle.type_definitions.specs.Definitions as definitions
 use Rattle.type_names.specs.Types as names
-use Rattle.type_names.specs.Types.{type_in, defined_by, first_from, names_of, body_definitions, parameter_definitions, refinement_definitions, in_refinements}
+use Rattle.type_names.specs.Types.{meant, look, type_in, defined_by, first_from, names_of, body_definitions, parameter_definitions, refinement_definitions, in_refinements}
 use Rattle.type_names.specs.Types.{unit_definitions, level_definitions, level_types, body_types}
 use Rattle.type_names.specs.Faults.{Here, here, node_faults, nodes_faults, named_faults, or_named, written_faults, unit_faults, routine_faults, level_faults}
 use Rattle.type_names.proofs.Sound.{Mean, Sound, written_means, names_mean, seen_mean}
@@ -61,8 +64,8 @@ module _ (h : Here) where
 
   -- ---- types
 
-  phrase_means : Mean h.seen → (of : TypePhrase) → written_faults h of ≡ [] → is_open (type_in h.seen of) ≡ false
-  phrase_means m of e = written_means h m of e
+  phrase_means : Mean h.seen → (of : TypePhrase) (inside : Bool) → written_faults h of inside ≡ [] → is_open (meant (look h.seen) of inside) ≡ false
+  phrase_means m of inside e = written_means h m of inside e
 
   -- ---- definitions
 
@@ -85,9 +88,9 @@ module _ (h : Here) where
 
   node_sound : (n : Node) → node_faults h n ≡ [] → AllSound (defined_by n)
   node_sound (abbreviation n of) e =
-      let p = or_none (written_faults h of) (named_faults h n.at of (first_from 0 h.definitions n.text)) e in ((p.1, p.0), tt)
+      let p = or_none (written_faults h of true) (named_faults h n.at of (first_from 0 h.definitions n.text)) e in ((p.1, p.0), tt)
   node_sound (new_type at n of) e =
-      let p = or_none (written_faults h of) (named_faults h at of (first_from 0 h.definitions n.text)) e in ((p.1, p.0), tt)
+      let p = or_none (written_faults h of true) (named_faults h at of (first_from 0 h.definitions n.text)) e in ((p.1, p.0), tt)
   node_sound (let_name n (constants.Number at k)) e = (tt, tt)
   node_sound (let_name n (constants.Text at x)) e = (tt, tt)
   node_sound (let_name n (constants.Truth at c)) e = (tt, tt)
@@ -96,7 +99,7 @@ module _ (h : Here) where
   node_sound (other n) e = tt
   node_sound (sign o) e = tt
   node_sound (of_type of) e = tt
-  node_sound unbuilt e = tt
+  node_sound (content of) e = tt
 
   nodes_sound : (ns : List Node) → Clean ns → AllSound (flat_map defined_by ns)
   nodes_sound [] c = tt
@@ -138,17 +141,28 @@ open_append [] qs h k = k
 open_append (p ∷ ps) qs h k =
     let n = neither (is_open p.of) (has_open ps) h in or_false (is_open p.of) (has_open (ps ++ qs)) n.0 (open_append ps qs n.1 k)
 
+-- A BOUND variable holds a data space.
+one_held : (d : Denotes) → holds_open d ≡ false → has_open (held d) ≡ false
+one_held (denotes.Variable t) e = e
+one_held (denotes.Constant t) e = e
+one_held (denotes.Bound t) e = or_false (is_open Dataspace) false dataspace_closed refl
+one_held (denotes.Parameter p) e = e
+one_held denotes.Procedure e = e
+one_held denotes.Refinement e = e
+one_held (denotes.Denoter c) e = e
+
 held_closed : (es : List Entry) → Closed es → has_open (all_held es) ≡ false
 held_closed [] c = refl
-held_closed (e ∷ es) c = open_append (held e.denotes) (all_held es) c.0 (held_closed es c.1)
+held_closed (e ∷ es) c = open_append (held e.denotes) (all_held es) (one_held e.denotes c.0) (held_closed es c.1)
 
 module _ (h : Here) (m : Mean h.seen) where
-  one_closed : (of : TypePhrase) → written_faults h of ≡ [] → (is_open (type_in h.seen of) || false) ≡ false
-  one_closed of e = or_false (is_open (type_in h.seen of)) false (phrase_means h m of e) refl
+  one_closed : (of : TypePhrase) → written_faults h of false ≡ [] → (is_open (type_in h.seen of) || false) ≡ false
+  one_closed of e = or_false (is_open (type_in h.seen of)) false (phrase_means h m of false e) refl
 
   node_closed : (n : Node) → node_faults h n ≡ [] → Closed (d.declared h.seen n)
   node_closed (item Variable of n) e = (one_closed of e, tt)
   node_closed (item Constant of n) e = (one_closed of e, tt)
+  node_closed (item Bound of n) e = (phrase_means h m of true e, tt)
   node_closed (let_name n c) e = (refl, tt)
   node_closed (alone n) e = tt
   node_closed (other n) e = tt
@@ -156,7 +170,7 @@ module _ (h : Here) (m : Mean h.seen) where
   node_closed (of_type of) e = tt
   node_closed (abbreviation n of) e = tt
   node_closed (new_type at n of) e = tt
-  node_closed unbuilt e = tt
+  node_closed (content of) e = tt
 
   nodes_closed : (ns : List Node) → Clean h ns → Closed (flat_map (d.declared h.seen) ns)
   nodes_closed [] c = tt
@@ -177,11 +191,11 @@ module _ (h : Here) (m : Mean h.seen) where
   formals_closed (f ∷ fs) c =
       let p = clean_both h (map other f.names) (nodes.formals fs) c.1 in
       closed_append (b.named_as f.names (denotes.Parameter (b.parameter h.seen f))) (b.parameter_names h.seen fs)
-      (named_closed f.names (b.parameter h.seen f) (phrase_means h m f.of c.0)) (formals_closed fs p.1)
+      (named_closed f.names (b.parameter h.seen f) (phrase_means h m f.of false c.0)) (formals_closed fs p.1)
 
   result_closed : (r : Option TypePhrase) → Clean h (nodes.result r) → is_open_result (b.result h.seen r) ≡ false
   result_closed None c = refl
-  result_closed (Some of) c = phrase_means h m of c.0
+  result_closed (Some of) c = phrase_means h m of false c.0
 
 -- ---- a level
 

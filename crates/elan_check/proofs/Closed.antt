@@ -1,6 +1,6 @@
 -- Where no name and no heading has a type without meaning, nothing hangs on one.
 use Rattle.std.proofs.Common.{◌≡◌, ℕ, zero, suc, ◌+◌, Bool, true, false, ◌||◌, ◌&&◌, if◌then◌else◌, List, [], ◌∷◌, ◌++◌, Option, Some, None, refl, sym, ap, subst, ◌∙◌}
-use Rattle.std.specs.Prelude.{nat_eq, option_map, option_and_then, option_to_list, slice_get, map}
+use Rattle.std.specs.Prelude.{is_none, nat_eq, option_map, option_and_then, option_to_list, slice_get, map}
 use Rattle.elan_types.specs.declared.core_phrase.Exit.{Exit}
 use Rattle.std.specs.Option.{option_or, option_map_or}
 use Rattle.std.specs.Str.{bytes_eq}
@@ -35,6 +35,7 @@ use Rattle.elan_meant.specs.Operands.{takes, may_take, is_unclear, becomes}
 use Rattle.elan_meant.specs.Parts.{nth}
 use Rattle.value_rules.specs.Calls as c
 use Rattle.value_rules.specs.Calls.{holds_open, denotes_open, is_open_name, declares_open, is_open_type}
+use Rattle.unit_rules.specs.Units.{binding_if}
 use Rattle.elan_rules.specs.Rules.{hangs_on}
 use Rattle.elan_judge.proofs.InScope.{Names}
 use Rattle.type_names.proofs.Sound.{Mean}
@@ -186,6 +187,7 @@ denotes_closed : (z : Scope) → ScopeClosed z → (x : List ℕ) (d : Denotes) 
 denotes_closed z h x denotes.Procedure e = nothing_unclear z h.headings Procedure x []
 denotes_closed z h x (denotes.Variable t) e = e
 denotes_closed z h x (denotes.Constant t) e = e
+denotes_closed z h x (denotes.Bound t) e = e
 denotes_closed z h x (denotes.Parameter p) e = e
 denotes_closed z h x denotes.Refinement e = e
 denotes_closed z h x (denotes.Denoter d) e = e
@@ -237,13 +239,14 @@ leave_closed z h (Some e) = heading_at z.headings e.1 h.headings
 
 pub nothing_hangs : (z : Scope) → ScopeClosed z → (at : ℕ) (f : Plain) → Names z (plain f) → (ms : List Meant) → hangs_on at f ms ≡ false
 nothing_hangs z h at (form.applied y sort x) i ms = ap (λ (v : Scope). is_unclear v sort x ms) i ∙ nothing_unclear z h.headings sort x ms
-nothing_hangs z h at (form.assignment y) i ms =
-    ap (λ (v : Scope). is_unclear v Operator becomes (nth ms 0 ∷ nth ms 1 ∷ [])) i ∙ nothing_unclear z h.headings Operator becomes (nth ms 0 ∷ nth ms 1 ∷ [])
+nothing_hangs z h at (form.assignment y named) i ms =
+    let operands = nth ms 0 ∷ nth ms 1 ∷ [] in
+    and_false (is_none (binding_if named (nth ms 0) (nth ms 1))) (is_unclear y Operator becomes operands)
+    (ap (λ (v : Scope). is_unclear v Operator becomes operands) i ∙ nothing_unclear z h.headings Operator becomes operands)
 nothing_hangs z h at (form.declares y x) i ms = ap (λ (v : Scope). declares_open at (scope.find_own v x)) i ∙ declares_closed z h at x
 nothing_hangs z h at (form.type_name y x) i ms = ap (λ (v : Scope). is_open_type at (scope.find_own_type v x)) i ∙ type_closed z h at x
 nothing_hangs z h at (form.heading y sort x ps r missing) i ms = absurd i
 nothing_hangs z h at form.absent i ms = refl
-nothing_hangs z h at form.not_built i ms = refl
 nothing_hangs z h at (form.number n) i ms = refl
 nothing_hangs z h at (form.truth b) i ms = refl
 nothing_hangs z h at (form.text x) i ms = refl

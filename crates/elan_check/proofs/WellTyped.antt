@@ -147,7 +147,7 @@ module _ (env : Env) (sound : IsSound env) (t : Tree) (us : List Action) (own : 
   seen_sized : SizedNames s.types
   seen_sized = names_sized env.types (shown_types env) (level_definitions w) sound.sized
 
-  sized_level : AllSized (all_held s.level)
+  sized_level : AllSized s.level
   sized_level = level_sized s.types seen_sized w
 
   sized_inside : BodiesSized s.types
@@ -281,8 +281,8 @@ module _ (env : Env) (sound : IsSound env) (t : Tree) (us : List Action) (own : 
         bodies = bodies_fit rs;
       }
 
-  sized_at : (z : Scope) → surroundings z ≡ surroundings s → AllSized (all_held z.level)
-  sized_at z e = subst (λ (a : List Entry × List Inserted × ℕ × HeldIn). AllSized (all_held a.0)) (sym e) sized_level
+  sized_at : (z : Scope) → surroundings z ≡ surroundings s → AllSized z.level
+  sized_at z e = subst (λ (a : List Entry × List Inserted × ℕ × HeldIn). AllSized a.0) (sym e) sized_level
 
   bodies_at : AllRows → (z : Scope) → z.headings ≡ s.headings → surroundings z ≡ surroundings s → (n : ℕ) (h : Heading)
       → slice_get z.headings n ≡ Some h → BodyFits z.bodies_before (slice_get all (z.bodies_before + n)) h (delivery_at kn n)
@@ -302,7 +302,7 @@ module _ (env : Env) (sound : IsSound env) (t : Tree) (us : List Action) (own : 
 
   routine_fits : AllRows → (n : ℕ) (c : Body) (z : Scope) (fs : List Formal) (ks : List Kind) (names : List Entry) (types : List TypeName)
       → slice_get all (before + n) ≡ Some c → z.headings ≡ s.headings → surroundings z ≡ surroundings s → c.scope ≡ owner.Own fs ks → z.routine ≡ within n names types
-      → z.refinement ≡ None → frame_of c.scope ≡ held_cells names → AllSized (all_held names) → Fits (stand n) z kn
+      → z.refinement ≡ None → frame_of c.scope ≡ held_cells names → AllSized names → Fits (stand n) z kn
   routine_fits rs n c z fs ks names types i zh zl is_own rt rf fr si =
       let owned : owner_in all (Some (before + n)) ≡ Some (before + n) =
       owner_here (before + n) c i ∙ ap (λ (o : Owner). owner_at (before + n) (Some o)) is_own in

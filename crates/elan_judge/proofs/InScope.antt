@@ -38,7 +38,7 @@ module _ (s : Scope) where
   Names (plain (form.start_name z x)) = z ≡ s
   Names (plain (form.declares z x)) = z ≡ s
   Names (plain (form.type_name z x)) = z ≡ s
-  Names (plain (form.assignment z)) = z ≡ s
+  Names (plain (form.assignment z named)) = z ≡ s
   Names (form.leave z x) = z ≡ s
   Names (plain (form.heading z sort x ps r missing)) = ⊥
   Names (plain (form.body o r)) = ⊥
@@ -244,7 +244,7 @@ module _ (s : Scope) where
   unit_in_layer (t.Let at items) = (tt, lets_in items)
   unit_in_layer (t.Variables at of items) = (tt, items_in items)
   unit_in_layer (t.Constants at of items) = (tt, items_in items)
-  unit_in_layer (t.Bound at of items) = (tt, tt)
+  unit_in_layer (t.Bound at of items) = (tt, items_in items)
   unit_in_layer (t.Value a) = (tt, (a.1, tt))
   unit_in_layer (t.Becomes at a b) = (refl, (a.1, (b.1, tt)))
   unit_in_layer (t.Loop at None None us None) = loop_in at None absent us absent tt (tt, tt) (tt, tt)

@@ -254,6 +254,22 @@ module _ (s : Scope) where
         (ap (λ (l : List Item). Some (phrase at (plain form.declaration) (all_of (map (shape.item s) l)))) e
         ∙ sym (ap (shape.unit s) (i ∙ sym (statement.rolls-Variables at of xs)) ∙ rw fold-roll-Unit refl)) h
 
+    -- as those of variables
+    pub bound_is : (w : Statement) (at : ℕ) (of : TypePhrase) (xs xs' : List Item) → w ≡ statement.Bound at of xs → xs' ≡ xs
+        → Is q (judged known (phrase at (plain form.declaration) (all_of (map (shape.item s) xs')))) → Is q (judged known (shape.written (shape.unit s w)))
+    bound_is w at of xs xs' i e h =
+        subst (λ (o : Option Phrase). Is q (judged known (shape.written o)))
+        (ap (λ (l : List Item). Some (phrase at (plain form.declaration) (all_of (map (shape.item s) l)))) e
+        ∙ sym (ap (shape.unit s) (i ∙ sym (statement.rolls-Bound at of xs)) ∙ rw fold-roll-Unit refl)) h
+
+    pub becomes_is : (w : Statement) (at : ℕ) (a b : Expr) (named : Bool) → w ≡ statement.Becomes at a b → named ≡ shape.is_name (shape.expr s a)
+        → Is q (judged known (pair at (form.assignment s named) (shape.expr s a) (shape.expr s b)))
+        → Is q (judged known (shape.written (shape.unit s w)))
+    becomes_is w at a b named i e h =
+        subst (λ (o : Option Phrase). Is q (judged known (shape.written o)))
+        (ap (λ (n : Bool). Some (pair at (form.assignment s n) (shape.expr s a) (shape.expr s b))) e
+        ∙ sym (ap (shape.unit s) (i ∙ sym (statement.rolls-Becomes at a b)) ∙ rw fold-roll-Unit refl)) h
+
     pub let_is : (w : Statement) (at : ℕ) (xs xs' : List LetItem) → w ≡ statement.Let at xs → xs' ≡ xs
         → Is q (judged known (phrase at (plain form.definition) (all_of (map (shape.let_item s) xs')))) → Is q (judged known (shape.written (shape.unit s w)))
     let_is w at xs xs' i e h =

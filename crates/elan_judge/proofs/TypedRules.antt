@@ -26,7 +26,9 @@ use Rattle.elan_rules.proofs.Typed as ty
 use Rattle.elan_rules.proofs.Typed.{Gives, MayGive, on_if, on_bind, on_told, on_unless}
 use Rattle.elan_rules.proofs.TypeEquations.{Stand}
 use Rattle.elan_rules.proofs.TypedUnits.{number_good, truth_good, text_good, bracketed_good, concr_good, cand_good, cor_good, assigned_good, initial_good, in_order_good}
-use Rattle.elan_rules.proofs.TypedUnits.{indexed_good, field_part_good, alone_good, without_value_good, must_deliver_good}
+use Rattle.elan_types.specs.declared.core_phrase.Action.{Action}
+use Rattle.unit_rules.specs.Units.{binding_if}
+use Rattle.elan_rules.proofs.TypedUnits.{MayTyped, named_binding_good, indexed_good, field_part_good, alone_good, without_value_good, must_deliver_good}
 use Rattle.elan_rules.proofs.TypedChoices.{choice_good, selected_good, label_named_good}
 use Rattle.elan_rules.proofs.TypedLoops.{counted_good, loop_good}
 use Rattle.elan_rules.proofs.TypedCalls.{Fits, named_good, applied_good, start_named_good, declared_good, leaving_good}
@@ -50,11 +52,18 @@ module _ (here : Stand) (s : Scope) (k : Known) (fits : Fits here s k) where
   assignment_by at known m n None g i h = assigned_good here at m n g i
 
   -- An own operator is called as operators are.
-  assignment_good : (at : ℕ) (m n : Meant) → Good m → Good n → Gives Good (all.assignment at s m n)
-  assignment_good at m n g i =
+  unbound_good : (at : ℕ) (m n : Meant) → Good m → Good n → Gives Good (all.assignment_as at m n (chosen s Operator becomes (m ∷ n ∷ [])))
+  unbound_good at m n g i =
       let ms = m ∷ n ∷ [] in
       assignment_by at (scope.is_known s Operator becomes (length ms)) m n (chosen s Operator becomes ms) g i
       (applied_good here s k fits at Operator becomes ms (g, (i, tt)))
+
+  assignment_good : (at : ℕ) (named : Bool) (m n : Meant) → Good m → Good n → Gives Good (all.assignment at s named m n)
+  assignment_good at named m n g i = by_binding (binding_if named m n) (named_binding_good here named m n g i)
+    where
+      by_binding : (o : Option Action) → MayTyped here o → Gives Good (all.assignment_or at s m n o)
+      by_binding None h = unbound_good at m n g i
+      by_binding (Some a) h = ty.unit_typed here (a ∷ []) (ty.single_typed here a h)
 
   type_good : (at : ℕ) (o : Option TypeName) → Gives Good (r.type_declared at o)
   type_good at None = tt
@@ -72,7 +81,6 @@ module _ (here : Stand) (s : Scope) (k : Known) (fits : Fits here s k) where
 
   plain_rules : (at : ℕ) (f : Plain) (ms : List Meant) → Names s (plain f) → AllGood ms → Gives Good (rule at f ms)
   plain_rules at form.absent ms i g = tt
-  plain_rules at form.not_built ms i g = tt
   plain_rules at (form.number n) ms i g = number_good here at n
   plain_rules at (form.truth b) ms i g = truth_good here at b
   plain_rules at (form.text x) ms i g = text_good here at x
@@ -97,8 +105,8 @@ module _ (here : Stand) (s : Scope) (k : Known) (fits : Fits here s k) where
   plain_rules at (form.type_name z x) ms i g = type_good at (scope.find_own_type z x)
   plain_rules at (form.exported doubled may) ms i g = on_if Good doubled _ _ (λ e. tt) (λ e. exported_good at may)
   plain_rules at form.statement ms i g = alone_good here (p.nth ms 0) (good_part ms 0 g)
-  plain_rules at (form.assignment z) ms i g =
-      in_scope (λ y. all.assignment at y (p.nth ms 0) (p.nth ms 1)) z i (assignment_good at (p.nth ms 0) (p.nth ms 1) (good_part ms 0 g) (good_part ms 1 g))
+  plain_rules at (form.assignment z named) ms i g =
+      in_scope (λ y. all.assignment at y named (p.nth ms 0) (p.nth ms 1)) z i (assignment_good at named (p.nth ms 0) (p.nth ms 1) (good_part ms 0 g) (good_part ms 1 g))
   plain_rules at form.loop ms i g = loop_good here at (p.nth ms 0) (p.nth ms 1) (p.nth ms 2) (good_part ms 0 g) (good_part ms 1 g) (good_part ms 2 g)
   plain_rules at (form.count w) ms i g =
       counted_good here at w (p.nth ms 0) (p.nth ms 1) (p.nth ms 2) (p.nth ms 3) (p.nth ms 4) (p.nth ms 5) (good_part ms 0 g) (good_part ms 1 g)

@@ -36,6 +36,11 @@ use Rattle.elan_scope.specs.Phrase.{Phrase, phrase, part, none, row, leaf, aroun
 abbrev pub written : Option Phrase → Phrase
 written o = unwrap_or o (leaf 0 form.absent)
 
+-- an identifier without actuals
+abbrev pub is_name : Phrase → Bool
+is_name (phrase at (form.named u s x) ps) = true
+is_name p = false
+
 -- ---- lists of units
 
 -- a unit that is asked for this: where it is open, it delivers what it will
@@ -157,10 +162,10 @@ module _ (s : Scope) where
   unit_step (t.Variables at of items) = Some (row at form.declaration items)
   unit_step (t.Constants at of items) = Some (row at form.declaration items)
   unit_step (t.Value a) = Some (around (place a) form.statement a)
-  unit_step (t.Becomes at a b) = Some (pair at (form.assignment s) a b)
+  unit_step (t.Becomes at a b) = Some (pair at (form.assignment s (is_name a)) a b)
   unit_step (t.Loop at k condition us until) = Some (loop at k (written condition) (units Nothing us) (written until))
   unit_step (t.Let at items) = Some (row at form.definition (map let_item items))
-  unit_step (t.Bound at of items) = Some (leaf at form.not_built)
+  unit_step (t.Bound at of items) = Some (row at form.declaration items)
   unit_step (t.Leave at n value) = Some (phrase at (form.leave s n.text) (part (written value) none))
 
   abbrev pub branch_step : Layer Branch-F → Phrase × Phrase

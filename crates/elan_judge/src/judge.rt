@@ -29,7 +29,7 @@ use elan_scope::known::Known;
 use elan_scope::scope::{Scope, Usage};
 use elan_scope::trouble::Trouble;
 use elan_tree::{Branch, Case, Counter, Expr, Item, Limit, Name, Unit};
-use elan_types::{Way, Why};
+use elan_types::Way;
 use elan_unbuilt::operator_text;
 use eu_base::List;
 use std::alloc::Global;
@@ -55,6 +55,16 @@ fn way(limit: &Limit) -> Way
         Limit::Without => Way::Up,
         Limit::Upto(_) => Way::Up,
         Limit::Downto(_) => Way::Down,
+    }
+}
+
+// Whether it is an identifier without actuals.
+fn is_name(expr: &Expr) -> bool
+    ensures { (s : Scope) → result ≡ shape.is_name (shape.expr s expr.now) }
+{
+    match expr {
+        Expr::Named(_) => true,
+        _ => false,
     }
 }
 
@@ -370,9 +380,10 @@ fn judge_unit(alloc: Global, known: &Known, scope: &Scope, unit: &Unit) -> Judge
             alone(alloc, value)
         }
         Unit::Becomes { at, left, right } => {
+            let named = is_name(left);
             let left = judge(alloc, known, scope, left);
             let right = judge(alloc, known, scope, right);
-            assignment_phrase(alloc, *at, scope, left, right)
+            assignment_phrase(alloc, *at, scope, named, left, right)
         }
         Unit::Loop {
             at,
@@ -395,7 +406,7 @@ fn judge_unit(alloc: Global, known: &Known, scope: &Scope, unit: &Unit) -> Judge
             }
         }
         Unit::Let(_, items) => judge_let(alloc, known, scope, items.as_slice()),
-        Unit::Bound(at, _, _) => Err(Trouble::Breaks(*at, Why::Unknown)),
+        Unit::Bound(_, _, items) => judge_declaration(alloc, known, scope, items.as_slice()),
         Unit::Leave { at, name, value } => {
             let value = judge_optional(alloc, known, scope, value)?;
             leaving(alloc, known, *at, scope, name.text.as_slice(), value)

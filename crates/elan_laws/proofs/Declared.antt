@@ -31,9 +31,9 @@ use Rattle.elan_judge.specs.Shape as shape
 use Rattle.elan_judge.specs.walks.Steps as walk
 use Rattle.elan_tree.specs.declared.written_type.TypePhrase.{TypePhrase}
 use Rattle.elan_walk.specs.declared.node.Held.{Held}
-use Rattle.elan_walk.specs.declared.node.Held.TheVariants.{Variable, Constant}
+use Rattle.elan_walk.specs.declared.node.Held.TheVariants.{Variable, Constant, Bound}
 use Rattle.elan_walk.specs.Nodes as nodes
-use Rattle.elan_walk.specs.Nodes.{Node, other, sign, of_type, item}
+use Rattle.elan_walk.specs.Nodes.{Node, other, sign, of_type, content, item}
 use Rattle.elan_scope.specs.declared.scope.Usage.TheVariants.{Counter as Counts}
 use Rattle.elan_levels.specs.Declarations as d
 use Rattle.type_names.specs.Types.{defined_by}
@@ -103,6 +103,7 @@ module _ (s : Scope) (ts : List TypeName) where
   item_named : (h : Held) (of : TypePhrase) (n : Name) (es : List Entry) → AllNamed s (d.declared ts (item h of n) ++ es) → Named s n.text
   item_named Variable of n es g = g.0
   item_named Constant of n es g = g.0
+  item_named Bound of n es g = g.0
 
   -- its refinements are bodies
   module _ (bodies : (x : List ℕ) → HasBody s x (find s x)) where
@@ -184,9 +185,9 @@ module _ (s : Scope) (ts : List TypeName) where
         let q = split (nodes.in_item i.0 a of) (flat_map (λ (i : nodes.Declares). i a of) (map nodes.in_item (map fst is))) h in
         (i.1 a of q.0, items_in a of is q.1)
 
-    declared_in : (a : Held) (of : TypePhrase) (is : List ((i : Item) × I i))
-        → Fine (of_type of ∷ flat_map (λ (i : nodes.Declares). i a of) (map nodes.in_item (map fst is))) → AllServed (all_of (map (shape.item s) (map fst is)))
-    declared_in a of is h = items_in a of is (rest (of_type of) (flat_map (λ (i : nodes.Declares). i a of) (map nodes.in_item (map fst is))) h)
+    declared_in : (n : Node) (a : Held) (of : TypePhrase) (is : List ((i : Item) × I i))
+        → Fine (n ∷ flat_map (λ (i : nodes.Declares). i a of) (map nodes.in_item (map fst is))) → AllServed (all_of (map (shape.item s) (map fst is)))
+    declared_in n a of is h = items_in a of is (rest n (flat_map (λ (i : nodes.Declares). i a of) (map nodes.in_item (map fst is))) h)
 
     role_in : (d : Delivery) (p : Phrase) → AreServed p → AreServed (shape.role d p)
     role_in Open p h = h
@@ -365,9 +366,9 @@ module _ (s : Scope) (ts : List TypeName) where
         (map-Unit _ _ _ _ _ _ _ _ _ _ _ _ _ _ fst fst fst fst fst fst fst y)))
     unit_in_layer t.Empty h = tt
     unit_in_layer (t.Let at items) h = (tt, lets_in items h)
-    unit_in_layer (t.Variables at of items) h = (tt, declared_in Variable of items h)
-    unit_in_layer (t.Constants at of items) h = (tt, declared_in Constant of items h)
-    unit_in_layer (t.Bound at of items) h = (tt, tt)
+    unit_in_layer (t.Variables at of items) h = (tt, declared_in (of_type of) Variable of items h)
+    unit_in_layer (t.Constants at of items) h = (tt, declared_in (of_type of) Constant of items h)
+    unit_in_layer (t.Bound at of items) h = (tt, declared_in (content of) Bound of items h)
     unit_in_layer (t.Value a) h = (tt, (a.1 h, tt))
     unit_in_layer (t.Becomes at a b) h = (tt, two_in (shape.expr s a.0) (shape.expr s b.0) (nodes.in_expr a.0) (nodes.in_expr b.0) a.1 b.1 h)
     unit_in_layer (t.Loop at None None us None) h = (tt, loop_in None None us None h)

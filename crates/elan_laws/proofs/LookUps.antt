@@ -31,7 +31,7 @@ use Rattle.elan_scope.specs.Scope.{first_heading, is_refinement, is_refined, num
 use Rattle.elan_scope.specs.Scope.{Found}
 use Rattle.elan_scope.specs.declared.scope.Home.TheVariants.{Routine as of_routine}
 use Rattle.elan_names.specs.declared.heading.What.TheVariants as what
-use Rattle.elan_walk.specs.declared.node.Held.TheVariants.{Variable, Constant}
+use Rattle.elan_walk.specs.declared.node.Held.TheVariants.{Variable, Constant, Bound}
 use Rattle.std.proofs.lemmas.Bool.Decides.{Decides-eqb}
 use Rattle.elan_levels.specs.Declarations as d
 use Rattle.elan_names.specs.declared.type_name.TypeName.{TypeName}
@@ -310,6 +310,7 @@ module _ (ts : List TypeName) where
   node_leads : (z : Scope) (n : Node) → AllLead z (d.declared ts n)
   node_leads z (nodes.item Variable of n) = (λ r. absurd cc, tt)
   node_leads z (nodes.item Constant of n) = (λ r. absurd cc, tt)
+  node_leads z (nodes.item Bound of n) = (λ r. absurd cc, tt)
   node_leads z (nodes.alone n) = tt
   node_leads z (nodes.other n) = tt
   node_leads z (nodes.sign o) = tt
@@ -317,7 +318,7 @@ module _ (ts : List TypeName) where
   node_leads z (nodes.let_name n c) = (λ r. absurd cc, tt)
   node_leads z (nodes.abbreviation n of) = tt
   node_leads z (nodes.new_type at n of) = tt
-  node_leads z nodes.unbuilt = tt
+  node_leads z (nodes.content of) = tt
 
   pub nodes_lead : (z : Scope) (ns : List Node) → AllLead z (flat_map (d.declared ts) ns)
   nodes_lead z [] = tt

@@ -36,7 +36,7 @@ use Rattle.elan_scope.specs.declared.scope.Usage.TheVariants.{Expression, Counte
 use Rattle.elan_scope.specs.declared.known.Known.{Known}
 use Rattle.elan_names.specs.Callees.{Callee}
 use Rattle.elan_names.specs.Callees.{Predefined, Body}
-use Rattle.elan_names.specs.declared.predefined.Predefined.TheVariants.{Operation, Change, Request, ErrorStop}
+use Rattle.elan_names.specs.declared.predefined.Predefined.TheVariants.{Operation, Change, Request, OnSpaces, ErrorStop}
 use Rattle.elan_scope.specs.Known.{leads_back, delivery_at}
 use Rattle.std.specs.Prelude.{◌||◌, is_some}
 use Rattle.elan_names.specs.declared.type_name.TypeName.{TypeName}
@@ -203,6 +203,8 @@ module _ (ns : List ℕ) where
     performed_placed (Predefined (Change d)) t (actual.Place x y ∷ actual.Value z ∷ a ∷ as') = here
     performed_placed (Predefined (Request q)) (Some t) as' = here
     performed_placed (Predefined (Request q)) None as' = tt
+    performed_placed (Predefined (OnSpaces d)) (Some t) as' = here
+    performed_placed (Predefined (OnSpaces d)) None as' = tt
     performed_placed (Predefined ErrorStop) t [] = here
     performed_placed (Predefined ErrorStop) t (actual.Place x y ∷ as') = here
     performed_placed (Predefined ErrorStop) t (actual.Value z ∷ []) = tt
@@ -258,6 +260,7 @@ module _ (ns : List ℕ) where
     denoted_placed : (k : Known) (w : Usage) (s : Scope) (x : List ℕ) (home : Home) (n : ℕ) (d : Denotes) → MayTell Placed (r.denoted k w at s x home n d)
     denoted_placed k w s x home n (denotes.Variable t) = here
     denoted_placed k w s x home n (denotes.Constant t) = here
+    denoted_placed k w s x home n (denotes.Bound t) = here
     denoted_placed k w s x home n (denotes.Parameter q) = parameter_placed q.of q.access
       where
         parameter_placed : (t : ElanType) (a : Access) → Placed (r.parameter at t a (r.place_in home n a))
@@ -278,6 +281,7 @@ module _ (ns : List ℕ) where
         first_placed : (d : Denotes) → Placed (r.declared_as at f.home f.number d)
         first_placed (denotes.Variable t) = here
         first_placed (denotes.Constant t) = here
+        first_placed (denotes.Bound t) = here
         first_placed _ = tt
 
     type_declared_placed : (q : Option TypeName) → Tells Placed (r.type_declared at q)
@@ -320,7 +324,11 @@ module _ (ns : List ℕ) where
         on_if Placed (option_map_or has_own (p.type_in m) false) _ _ here (on_bind Any Placed (u.stored at m n) _ (stored_placed m n h) (λ a k. tt))
 
     initial_placed : (m n : Meant) → Placed m → Tells Placed (u.initial at m n)
-    initial_placed m n h = on_bind Any Placed (u.stored at m n) _ (stored_placed m n h) (λ a k. tt)
+    initial_placed m n h = on_bind Any Placed (u.stored_or at m n (u.binding m n)) _ (by_binding (u.binding m n)) (λ a k. tt)
+      where
+        by_binding : (o : Option Action) → Tells Any (u.stored_or at m n o)
+        by_binding None = stored_placed m n h
+        by_binding (Some a) = tt
 
     counted_placed : (w : Way) (n f l q us z : Meant) → Placed n → Tells Placed (o.counted at w n f l q us z)
     counted_placed w n f l q us z h =
@@ -385,14 +393,18 @@ module _ (ns : List ℕ) where
   ended_placed as' (Value q t x) h = h
   ended_placed as' _ h = tt
 
-  assignment_placed : (at : ℕ) (here : In at) (s : Scope) (m n : Meant) → Placed m → Placed n → Tells Placed (all.assignment at s m n)
-  assignment_placed at here s m n h g = by_choice (chosen s Operator becomes (m ∷ n ∷ []))
+  assignment_placed : (at : ℕ) (here : In at) (s : Scope) (named : Bool) (m n : Meant) → Placed m → Placed n → Tells Placed (all.assignment at s named m n)
+  assignment_placed at here s named m n h g = by_binding (u.binding_if named m n)
     where
       by_choice : (q : Option Callable) → Tells Placed (all.assignment_as at m n q)
       by_choice (Some q) =
           on_bind Placed Placed (r.called at q (m ∷ n ∷ [])) (λ k. gives (u.alone k)) (called_placed at here q (m ∷ n ∷ []) (h, (g, tt)))
           (λ k i. alone_placed k i)
       by_choice None = assigned_placed at here m n h
+
+      by_binding : (o : Option Action) → Tells Placed (all.assignment_or at s m n o)
+      by_binding (Some a) = tt
+      by_binding None = by_choice (chosen s Operator becomes (m ∷ n ∷ []))
 
   -- ---- all rules
 
@@ -401,7 +413,6 @@ module _ (ns : List ℕ) where
 
   pub rule_placed : (at : ℕ) (f : Plain) (ms : List Meant) → Owned at (plain f) → AllPlaced ms → Tells Placed (rule at f ms)
   rule_placed at form.absent ms h g = tt
-  rule_placed at form.not_built ms h g = h
   rule_placed at (form.number n) ms h g = number_placed at h n
   rule_placed at (form.truth b) ms h g = h
   rule_placed at (form.text x) ms h g = text_placed at h x
@@ -429,7 +440,7 @@ module _ (ns : List ℕ) where
   rule_placed at form.definition ms h g = tt
   rule_placed at (form.type_name s x) ms h g = type_declared_placed at h (find_own_type s x)
   rule_placed at form.statement ms h g = alone_placed (p.nth ms 0) (nth_placed ms 0 g)
-  rule_placed at (form.assignment s) ms h g = assignment_placed at h s (p.nth ms 0) (p.nth ms 1) (nth_placed ms 0 g) (nth_placed ms 1 g)
+  rule_placed at (form.assignment s named) ms h g = assignment_placed at h s named (p.nth ms 0) (p.nth ms 1) (nth_placed ms 0 g) (nth_placed ms 1 g)
   rule_placed at form.loop ms h g =
       let q = p.nth ms 0 in
       let z = p.nth ms 2 in

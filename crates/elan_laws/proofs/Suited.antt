@@ -20,7 +20,9 @@ use Rattle.elan_scope.specs.declared.scope.Scope.{Scope}
 use Rattle.elan_scope.specs.declared.scope.Within.{Within}
 use Rattle.elan_names.specs.Callees.{Predefined}
 use Rattle.elan_names.specs.declared.predefined.Predefined.{Predefined as Name}
-use Rattle.elan_names.specs.declared.predefined.Predefined.TheVariants.{Operation, Change, Request, ErrorStop}
+use Rattle.eu_base.specs.declared.space_operation.SpaceOperation.{SpaceOperation}
+use Rattle.eu_base.specs.SpaceOperations.{space_result_kind}
+use Rattle.elan_names.specs.declared.predefined.Predefined.TheVariants.{Operation, Change, Request, OnSpaces, ErrorStop}
 use Rattle.elan_names.specs.Predefined.{Row, predefined, parameters, result}
 use Rattle.std.specs.Prelude.{option_map, option_to_list}
 use Rattle.elan_names.specs.declared.interface.Inserted.{Inserted}
@@ -93,6 +95,11 @@ module _ (at : ℕ) (ms : List Meant) where
   requests q None as' = (Done (action.Ask q as' ∷ []), refl)
   requests q (Some k) as' = (Value at (type_in k) (value.Ask q as'), refl)
 
+  asks_spaces : (o : SpaceOperation) (q : Option Kind) (as' : List Actual)
+      → (m : Meant) × (performed at (Predefined (OnSpaces o)) (option_map type_in q) as' ≡ gives m)
+  asks_spaces o None as' = (Done (action.Perform o (values_in as') ∷ []), refl)
+  asks_spaces o (Some k) as' = (Value at (type_in k) (value.Consult o (values_in as')), refl)
+
   named_suits : (r : Row) → Suits (predefined_callable r)
   named_suits r = by_name r.2
     where
@@ -101,6 +108,7 @@ module _ (at : ℕ) (ms : List Meant) where
       by_name (Operation o) as' f g = (Value at _ (value.Apply o (values_in as')), refl)
       by_name (Change c) as' f g = changes c (type_in (change_kind c)) ms as' f g
       by_name (Request q) as' f g = requests q (request_result q) as'
+      by_name (OnSpaces o) as' f g = asks_spaces o (space_result_kind o) as'
       by_name ErrorStop as' f g = stops ms as' f g
 
   rows_suit : (rs : List Row) → AllSuit (map predefined_callable rs)

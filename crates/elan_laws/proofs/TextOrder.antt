@@ -318,7 +318,7 @@ module _ (s : Scope) where
   unit_starts (t.Let a items) = placed a (lets_follow items)
   unit_starts (t.Variables a of items) = placed a (items_follow items)
   unit_starts (t.Constants a of items) = placed a (items_follow items)
-  unit_starts (t.Bound a of items) = placed a nothing
+  unit_starts (t.Bound a of items) = placed a (items_follow items)
   unit_starts (t.Value a) =
       let p = shape.expr s a.0 in
       subst (λ (l : List ℕ). Follows (form.place p ∷ l) (at.in_expr a.0) × Follows (at.in_expr a.0) l) (sym (append-nil (in_phrase p))) a.1

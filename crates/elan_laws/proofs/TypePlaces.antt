@@ -27,7 +27,7 @@ use Rattle.elan_tree.specs.declared.tree.LevelUnit.TheVariants as level
 use Rattle.elan_tree.specs.declared.tree.Tree.{Tree}
 use Rattle.elan_tree.specs.declared.tree.Tree.TheVariants as tree
 use Rattle.elan_walk.specs.Nodes as nodes
-use Rattle.elan_walk.specs.Nodes.{Node, alone, other, sign, of_type, item, let_name, abbreviation, new_type, unbuilt}
+use Rattle.elan_walk.specs.Nodes.{Node, alone, other, sign, of_type, item, let_name, abbreviation, new_type, content}
 use Rattle.elan_unbuilt.specs.Names.{is_not_built}
 use Rattle.elan_unbuilt.specs.NotBuilt as built
 use Rattle.elan_unbuilt.specs.Types.{is_type_built, is_field_built, is_size_built, are_names_built, built_step, field_built_step}
@@ -107,7 +107,7 @@ types_append (x ∷ xs) ys =
 -- where these names can be seen, and these are the refinements of the level
 module _ (seen : List TypeName) (rs : List Refinement) where
   abbrev WrittenFollows : TypePhrase → Type 0
-  WrittenFollows of = is_type_built of ≡ true → Follows (told_at (faults.judged seen rs of).faults) (at.type_phrase of)
+  WrittenFollows of = is_type_built of ≡ true → (inside : Bool) → Follows (told_at (faults.judged seen rs of inside).faults) (at.type_phrase of)
 
   -- the faults of the type of fields, and behind them those of their names, where these stand before
   abbrev FieldFollows : Field → Type 0
@@ -167,39 +167,40 @@ module _ (seen : List TypeName) (rs : List Refinement) where
       (f.1 q.0 earlier) (fields_follow further fs q.1)
 
   written_here : (y : TypePhrase-F WrittenOne FieldOne)
-      → built_step (map-TypePhrase _ _ _ _ is_type_built is_field_built (map-TypePhrase _ _ _ _ (λ e. e.0) (λ e. e.0) y)) ≡ true
+      → built_step (map-TypePhrase _ _ _ _ is_type_built is_field_built (map-TypePhrase _ _ _ _ (λ e. e.0) (λ e. e.0) y)) ≡ true → (inside : Bool)
       → Follows (told_at (faults.judged_step seen rs
-      (map-TypePhrase _ _ _ _ (faults.judged seen rs) (faults.judged_fields seen rs) (map-TypePhrase _ _ _ _ (λ e. e.0) (λ e. e.0) y))).faults)
+      (map-TypePhrase _ _ _ _ (faults.judged seen rs) (faults.judged_fields seen rs) (map-TypePhrase _ _ _ _ (λ e. e.0) (λ e. e.0) y)) inside).faults)
       (at.written_step (map-TypePhrase _ _ _ _ at.type_phrase at.field (map-TypePhrase _ _ _ _ (λ e. e.0) (λ e. e.0) y)))
-  written_here (type.Int a) b = ends []
-  written_here (type.Bool a) b = ends []
-  written_here (type.Text a) b = ends []
-  written_here (type.Task a) b = ends []
-  written_here (type.Dataspace a) b = absurd cc
-  written_here (type.Named n) b = name_follows n (look seen n.text)
-  written_here (type.Row a size of) b =
+  written_here (type.Int a) b inside = ends []
+  written_here (type.Bool a) b inside = ends []
+  written_here (type.Text a) b inside = ends []
+  written_here (type.Task a) b inside = ends []
+  written_here (type.Dataspace a) b true = all_of_it (a ∷ [])
+  written_here (type.Dataspace a) b false = ends (a ∷ [])
+  written_here (type.Named n) b inside = name_follows n (look seen n.text)
+  written_here (type.Row a size of) b inside =
       let q = both_of (is_size_built size) (is_type_built of.0) b in
       let o = size_of (look seen) size in
-      let j = faults.judged seen rs of.0 in
+      let j = faults.judged seen rs of.0 true in
       two_lists (faults.row_fault a o j.of ++ faults.size_faults seen rs size) j.faults
-      (two_lists (faults.row_fault a o j.of) (faults.size_faults seen rs size) (row_fault_follows a o j.of) (size_follows size)) (of.1 q.1)
-  written_here (type.Struct a fields) b =
+      (two_lists (faults.row_fault a o j.of) (faults.size_faults seen rs size) (row_fault_follows a o j.of) (size_follows size)) (of.1 q.1 true)
+  written_here (type.Struct a fields) b inside =
       let js = map (faults.judged_fields seen rs) (map (λ e. e.0) fields) in
       let fs = flat_map (λ (f : JudgedFields). f.fields) js in
       two_lists (faults.structure_fault a fs) (faults.fields_faults [] js) (structure_follows a fs) (fields_follow [] fields b)
 
   field_here : (y : Field-F WrittenOne FieldOne)
       → field_built_step (map-Field _ _ _ _ is_type_built is_field_built (map-Field _ _ _ _ (λ e. e.0) (λ e. e.0) y)) ≡ true → (earlier : List (List ℕ))
-      → Follows (told_at ((faults.judged seen rs y.of.0).faults ++ faults.doubled_names earlier y.names)) (at.type_phrase y.of.0 ++ at.names y.names)
+      → Follows (told_at ((faults.judged seen rs y.of.0 true).faults ++ faults.doubled_names earlier y.names)) (at.type_phrase y.of.0 ++ at.names y.names)
   field_here y b earlier =
       let q = both_of (is_type_built y.of.0) (are_names_built y.names) b in
-      two_lists (faults.judged seen rs y.of.0).faults (faults.doubled_names earlier y.names) (y.of.1 q.0) (doubled_follow earlier y.names)
+      two_lists (faults.judged seen rs y.of.0 true).faults (faults.doubled_names earlier y.names) (y.of.1 q.0 true) (doubled_follow earlier y.names)
 
   field_follows : (y : Field-F WrittenOne FieldOne) → FieldFollows (roll-Field (map-Field _ _ _ _ (λ e. e.0) (λ e. e.0) y))
   field_follows y b earlier =
       let z = map-Field _ _ _ _ (λ e. e.0) (λ e. e.0) y in
       let built_so = fold-roll-Field Bool Bool built_step field_built_step z in
-      let judged_so = fold-roll-Field Judged JudgedFields (faults.judged_step seen rs) (faults.judged_fields_step seen rs) z in
+      let judged_so = fold-roll-Field (Bool → Judged) JudgedFields (faults.judged_step seen rs) (faults.judged_fields_step seen rs) z in
       let placed_so = fold-roll-Field (List ℕ) (List ℕ) at.written_step at.field_step z in
       let j = faults.judged_fields seen rs (roll-Field z) in
       subst (Follows (told_at (j.faults ++ faults.doubled_names earlier j.names))) (sym placed_so)
@@ -209,7 +210,7 @@ module _ (seen : List TypeName) (rs : List Refinement) where
   written_follows : (of : TypePhrase) → WrittenFollows of
   written_follows =
       ind-TypePhrase WrittenFollows FieldFollows
-      (λ x y is. rw (← is) (rw (fold-roll-TypePhrase Bool Bool, fold-roll-TypePhrase Judged JudgedFields, fold-roll-TypePhrase (List ℕ) (List ℕ)) (written_here y)))
+      (λ x y is. rw (← is) (rw (fold-roll-TypePhrase Bool Bool, fold-roll-TypePhrase (Bool → Judged) JudgedFields, fold-roll-TypePhrase (List ℕ) (List ℕ)) (written_here y)))
       (λ x y is. rw (← is) (field_follows y))
 
 module _ (h : Here) where
@@ -222,25 +223,25 @@ module _ (h : Here) where
   or_follows a [] gs ns h k = before ns k
   or_follows a (f ∷ fs) gs ns h k = later a h
 
-  built_follows : (of : TypePhrase) → not (is_type_built of) ≡ false → Follows (told_at (faults.written_faults h of)) (at.type_phrase of)
-  built_follows of b = written_follows h.seen h.refinements of (not_false (is_type_built of) b)
+  built_follows : (of : TypePhrase) (inside : Bool) → not (is_type_built of) ≡ false → Follows (told_at (faults.written_faults h of inside)) (at.type_phrase of)
+  built_follows of inside b = written_follows h.seen h.refinements of (not_false (is_type_built of) b) inside
 
   definition_follows : (a : ℕ) (n : Name) (of : TypePhrase) → not (is_type_built of) ≡ false
       → Follows (told_at (faults.definition_faults h a n of)) (a ∷ at.type_phrase of)
   definition_follows a n of b =
       let o = first_from 0 h.definitions n.text in
-      or_follows a (faults.written_faults h of) (faults.named_faults h a of o) (at.type_phrase of) (built_follows of b) (named_follows a of o)
+      or_follows a (faults.written_faults h of true) (faults.named_faults h a of o) (at.type_phrase of) (built_follows of true b) (named_follows a of o)
 
   node_follows : (n : Node) → built.node n ≡ false → Follows (told_at (faults.node_faults h n)) (at.node_types n)
-  node_follows (of_type of) b = built_follows of b
-  node_follows (item held of n) b = let q = neither (not (is_type_built of)) (is_not_built n.text) b in built_follows of q.0
+  node_follows (of_type of) b = built_follows of false b
+  node_follows (content of) b = built_follows of true b
+  node_follows (item held of n) b = let q = neither (not (is_type_built of)) (is_not_built n.text) b in built_follows of (faults.is_inside held) q.0
   node_follows (abbreviation n of) b = definition_follows n.at n of b
   node_follows (new_type a n of) b = definition_follows a n of b
   node_follows (alone n) b = ends []
   node_follows (other n) b = ends []
   node_follows (sign o) b = ends []
   node_follows (let_name n c) b = ends []
-  node_follows unbuilt b = ends []
 
   nodes_follow : (ns : List Node) → list_any built.node ns ≡ false → Follows (told_at (faults.nodes_faults h ns)) (types_in ns)
   nodes_follow [] b = ends []

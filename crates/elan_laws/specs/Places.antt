@@ -1,5 +1,5 @@
 -- The places of a tree in text order: of names that a packet shows, names that are declared, labels, expressions and units, and of
--- types. What is not built has its own place alone.
+-- types.
 use Rattle.std.specs.Prelude.{ℕ, List, [], ◌∷◌, ◌++◌, map, flat_map, Option, Some, None}
 use Rattle.elan_tree.specs.declared.written_type.Name.{Name}
 use Rattle.elan_tree.specs.declared.written_type.TypePhrase.{TypePhrase}
@@ -35,7 +35,7 @@ use Rattle.elan_tree.specs.declared.tree.LevelUnit.{LevelUnit}
 use Rattle.elan_tree.specs.declared.tree.LevelUnit.TheVariants as level
 use Rattle.elan_tree.specs.declared.tree.Tree.{Tree}
 use Rattle.elan_tree.specs.declared.tree.Tree.TheVariants as tree
-use Rattle.elan_walk.specs.Nodes.{Node, of_type, item, abbreviation, new_type, nodes}
+use Rattle.elan_walk.specs.Nodes.{Node, of_type, content, item, abbreviation, new_type, nodes}
 
 abbrev pub all : List (List ℕ) → List ℕ
 all [] = []
@@ -105,7 +105,7 @@ unit_step t.Empty = []
 unit_step (t.Let at items) = at ∷ all (map let_item items)
 unit_step (t.Variables at of items) = at ∷ all items
 unit_step (t.Constants at of items) = at ∷ all items
-unit_step (t.Bound at of items) = at ∷ []
+unit_step (t.Bound at of items) = at ∷ all items
 unit_step (t.Value a) = a
 unit_step (t.Becomes at a b) = at ∷ a ++ b
 unit_step (t.Loop at counter condition units until) = at ∷ written counter ++ (written condition ++ (all units ++ written until))
@@ -194,8 +194,9 @@ abbrev pub size_place : Size → ℕ
 size_place (size.Number at n) = at
 size_place (size.Named n) = n.at
 
--- a type as it is written: the names of types, the word and the size of a row, the word and the fields of a structure
+-- a type as it is written: the names of types, the word DATASPACE, the word and the size of a row, the word and the fields of a structure
 abbrev pub written_step : TypePhrase-F (List ℕ) (List ℕ) → List ℕ
+written_step (type.Dataspace at) = at ∷ []
 written_step (type.Named n) = n.at ∷ []
 written_step (type.Row at size ns) = at ∷ size_place size ∷ ns
 written_step (type.Struct at fields) = at ∷ all fields
@@ -213,6 +214,7 @@ field = fold-Field (List ℕ) (List ℕ) written_step field_step
 -- A type is told of once more for each name that is declared with it. A LET of a type has the place of its name, and a TYPE its own.
 abbrev pub node_types : Node → List ℕ
 node_types (of_type of) = type_phrase of
+node_types (content of) = type_phrase of
 node_types (item h of n) = type_phrase of
 node_types (abbreviation n of) = n.at ∷ type_phrase of
 node_types (new_type at n of) = at ∷ type_phrase of

@@ -6,9 +6,9 @@ use Rattle.elan_types.specs.declared.elan_type.ElanType.{ElanType}
 use Rattle.elan_types.specs.declared.elan_type.Parameter.{Parameter}
 use Rattle.elan_types.specs.Types.{held_const}
 use Rattle.elan_tree.specs.declared.tree.Refinement.{Refinement}
-use Rattle.elan_walk.specs.declared.node.Held.TheVariants.{Variable, Constant}
+use Rattle.elan_walk.specs.declared.node.Held.TheVariants.{Variable, Constant, Bound}
 use Rattle.elan_walk.specs.Nodes as nodes
-use Rattle.elan_walk.specs.Nodes.{Node, alone, other, sign, of_type, item, let_name, abbreviation, new_type, unbuilt}
+use Rattle.elan_walk.specs.Nodes.{Node, alone, other, sign, of_type, item, let_name, abbreviation, new_type, content}
 use Rattle.elan_names.specs.declared.entry.Denotes.{Denotes}
 use Rattle.elan_names.specs.declared.entry.Denotes.TheVariants as denotes
 use Rattle.elan_names.specs.declared.entry.Entry.{Entry}
@@ -34,6 +34,7 @@ module _ (ts : List TypeName) where
   node_plain : (n : Node) → Plain (d.declared ts n)
   node_plain (item Variable of n) = (tt, tt)
   node_plain (item Constant of n) = (tt, tt)
+  node_plain (item Bound of n) = (tt, tt)
   node_plain (let_name n c) = (tt, tt)
   node_plain (alone n) = tt
   node_plain (other n) = tt
@@ -41,7 +42,7 @@ module _ (ts : List TypeName) where
   node_plain (of_type of) = tt
   node_plain (abbreviation n of) = tt
   node_plain (new_type at n of) = tt
-  node_plain unbuilt = tt
+  node_plain (content of) = tt
 
   nodes_plain : (ns : List Node) → Plain (flat_map (d.declared ts) ns)
   nodes_plain [] = tt
@@ -57,6 +58,7 @@ module _ (ts : List TypeName) where
 held_plain : (a : Denotes) → One a → held a ≡ map held_const (types_of (held a))
 held_plain (denotes.Variable t) h = refl
 held_plain (denotes.Constant t) h = refl
+held_plain (denotes.Bound t) h = refl
 held_plain (denotes.Parameter p) h = absurd h
 held_plain denotes.Procedure h = refl
 held_plain denotes.Refinement h = refl

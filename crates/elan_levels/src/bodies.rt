@@ -17,7 +17,7 @@ use elan_names::type_directory::TypeDirectory;
 use elan_scope::scope::Within;
 use elan_tree::{Access as Given, Body, Formal, Level, LevelUnit, Name, Refinement};
 use elan_types::{Access, ElanType, Parameter};
-use eu_base::{List, NoMemory};
+use eu_base::{Kind, List, NoMemory, Shape};
 use std::alloc::Global;
 use type_definitions::definition::{body_definitions, level_definitions};
 use type_names::resolve::{Around, names_of};
@@ -231,12 +231,13 @@ fn own_names(
 }
 
 // Adds the kinds of the cells of what is held under a name.
-#[tactic(auto, using(crate::proofs::Held::one_more))]
+#[tactic(auto, using(crate::proofs::Held::one_more, crate::proofs::Held::bound_more))]
 fn add_held(alloc: Global, out: &mut CellKinds, denotes: &Denotes) -> Result<(), NoMemory>
     ensures { OnOk result (out.new ≡ out.old ++ flat_map (λ t. cell_kinds (shape_in t)) (scopes.types_of (scopes.held denotes.now))) }
 {
     match denotes {
         Denotes::Variable(of) | Denotes::Constant(of) => out.push(of.shape(alloc)?),
+        Denotes::Bound(_) => out.push(Shape::Cell(Kind::Space)),
         Denotes::Parameter(parameter) => out.push(parameter.of.shape(alloc)?),
         Denotes::Procedure | Denotes::Refinement | Denotes::Denoter(_) => Ok(()),
     }

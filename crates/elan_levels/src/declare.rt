@@ -1,6 +1,6 @@
 //! The declarations of a text, in text order.
 
-ghost use Rattle.std.specs.Prelude.{◌≡◌, false, IfOk, OnOk};
+ghost use Rattle.std.specs.Prelude.{◌≡◌, ◌++◌, false, IfOk, OnOk};
 ghost use Rattle.elan_names.specs.declared.entry.Denotes.TheVariants as denote;
 ghost use Rattle.elan_levels.specs.Declarations as spec;
 
@@ -12,7 +12,7 @@ use elan_types::Parameter;
 use elan_walk::{Held, Node, Visitor, visit_unit, visit_units};
 use eu_base::{Bytes, List, NoMemory};
 use std::alloc::Global;
-use type_names::written::type_in;
+use type_names::written::{type_in, type_within};
 
 fn denoter(alloc: Global, constant: &Constant) -> Result<Denoter, NoMemory>
     ensures { IfOk result (λ made. made ≡ spec.denoter constant.now) }
@@ -21,6 +21,23 @@ fn denoter(alloc: Global, constant: &Constant) -> Result<Denoter, NoMemory>
         Constant::Number(_, number) => Ok(Denoter::Number(*number)),
         Constant::Truth(_, truth) => Ok(Denoter::Truth(*truth)),
         Constant::Text(_, text) => Ok(Denoter::Text(Bytes::from(alloc, text.as_slice())?)),
+    }
+}
+
+// What a name of a declaration denotes, by how it is held and the type that is written.
+fn held_as(
+    alloc: Global,
+    here: &TypeDirectory,
+    around: &TypeDirectory,
+    held: Held,
+    of: &TypePhrase,
+) -> Result<Denotes, NoMemory>
+    ensures { IfOk result (λ denotes. denotes ≡ spec.held_as (here.now ++ around.now) held of.now) }
+{
+    match held {
+        Held::Variable => Ok(Denotes::Variable(type_in(alloc, here, around, of)?)),
+        Held::Constant => Ok(Denotes::Constant(type_in(alloc, here, around, of)?)),
+        Held::Bound => Ok(Denotes::Bound(type_within(alloc, here, around, of)?)),
     }
 }
 
@@ -37,7 +54,7 @@ pub struct Names<'a> {
 }
 
 impl<'a> Names<'a> {
-    ghost use Rattle.std.specs.Prelude.{[], ◌++◌};
+    ghost use Rattle.std.specs.Prelude.{[]};
     ghost use Rattle.elan_walk.specs.Nodes.{item, let_name};
     ghost use Rattle.elan_levels.specs.walks.Seen.{with_entries, visible, Adds};
 
@@ -80,16 +97,13 @@ impl<'a> Names<'a> {
         }
     }
 
-    // Adds a variable or constant of a declaration.
+    // Adds a name of a declaration.
     fn add_item(mut self, held: Held, of: &TypePhrase, name: &Name) -> Names<'a>
         ensures { result.wanted ≡ false → (self.entry.wanted ≡ false)
             × (result ≡ with_entries self.entry (spec.declared (visible self.entry) (item held of.now name.now))) }
     {
-        match type_in(self.alloc, self.here, self.around, of) {
-            Ok(of) => match held {
-                Held::Variable => self.add(name, Denotes::Variable(of)),
-                Held::Constant => self.add(name, Denotes::Constant(of)),
-            },
+        match held_as(self.alloc, self.here, self.around, held, of) {
+            Ok(denotes) => self.add(name, denotes),
             Err(NoMemory) => {
                 self.wanted = true;
                 self

@@ -5,10 +5,11 @@ use Rattle.eu_base.specs.declared.value.Kind.{Kind}
 use Rattle.eu_base.specs.declared.value.Kind.TheVariants as kinds
 use Rattle.eu_base.specs.Requests.{request_kinds, request_places, request_result}
 use Rattle.eu_base.specs.Operations.{operand_kinds, result_kind, change_kind}
+use Rattle.eu_base.specs.SpaceOperations.{space_operand_kinds, space_result_kind}
 use Rattle.elan_types.specs.Types.{type_in, held_var, values_of}
 use Rattle.elan_types.proofs.Types.{type_closed}
 use Rattle.elan_names.specs.declared.predefined.Predefined.{Predefined}
-use Rattle.elan_names.specs.declared.predefined.Predefined.TheVariants.{Operation, Change, Request, ErrorStop}
+use Rattle.elan_names.specs.declared.predefined.Predefined.TheVariants.{Operation, Change, Request, OnSpaces, ErrorStop}
 use Rattle.elan_names.specs.Predefined.{parameters, result}
 use Rattle.elan_names.specs.Callables.{has_open, is_open_result}
 
@@ -27,6 +28,7 @@ parameters_closed (Operation o) = plain_closed (operand_kinds o)
 parameters_closed (Change c) =
     ap (λ (b : Bool). b || has_open (values_of (change_kind c ∷ []))) (type_closed (change_kind c)) ∙ plain_closed (change_kind c ∷ [])
 parameters_closed (Request name) = values_closed (request_kinds name) (request_places name)
+parameters_closed (OnSpaces o) = plain_closed (space_operand_kinds o)
 parameters_closed ErrorStop = plain_closed (kinds.Text ∷ [])
 
 answer_closed : (answer : Option Kind) → is_open_result (option_map type_in answer) ≡ false
@@ -37,4 +39,5 @@ pub result_closed : (p : Predefined) → is_open_result (result p) ≡ false
 result_closed (Operation o) = type_closed (result_kind o)
 result_closed (Change c) = refl
 result_closed (Request name) = answer_closed (request_result name)
+result_closed (OnSpaces o) = answer_closed (space_result_kind o)
 result_closed ErrorStop = refl

@@ -4,6 +4,7 @@ use Rattle.std.specs.Str.{bytes_eq}
 use Rattle.eu_base.specs.declared.value.Kind.{Kind}
 use Rattle.eu_base.specs.Shapes.{cell_kinds}
 use Rattle.elan_types.specs.declared.elan_type.ElanType.{ElanType}
+use Rattle.elan_types.specs.declared.elan_type.ElanType.TheVariants as types
 use Rattle.elan_types.specs.declared.elan_type.Parameter.{Parameter}
 use Rattle.elan_types.specs.Types.{held_const, formal_of, shape_in}
 use Rattle.elan_types.specs.Typing.{cells_of}
@@ -12,10 +13,12 @@ use Rattle.elan_names.specs.declared.entry.Denotes.{Denotes}
 use Rattle.elan_names.specs.declared.entry.Denotes.TheVariants as denotes
 use Rattle.elan_names.specs.declared.entry.Entry.{Entry}
 
--- what is held under a name: a variable or constant, or what a parameter is given; PROCs, refinements and denoters hold nothing
+-- what is held under a name: a variable or constant, the data space to which a BOUND variable is bound, or what a parameter is given;
+-- PROCs, refinements and denoters hold nothing
 abbrev pub held : Denotes → List Parameter
 held (denotes.Variable t) = held_const t ∷ []
 held (denotes.Constant t) = held_const t ∷ []
+held (denotes.Bound t) = held_const types.Dataspace ∷ []
 held (denotes.Parameter p) = p ∷ []
 held denotes.Procedure = []
 held denotes.Refinement = []

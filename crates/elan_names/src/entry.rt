@@ -12,6 +12,8 @@ use eu_base::Bytes;
 pub enum Denotes {
     Variable(ElanType),
     Constant(ElanType),
+    /// A BOUND variable, for the content of a data space, which has this type.
+    Bound(ElanType),
     Parameter(Parameter),
     /// A PROC without parameters.
     Procedure,
@@ -22,12 +24,13 @@ pub enum Denotes {
 
 impl Denotes {
     /// The number of cells of what it holds; `None` exactly where they are more than 65,535.
-    #[tactic(auto, using(crate::proofs::Counted::value_cells, crate::proofs::Counted::given_cells))]
+    #[tactic(auto, using(crate::proofs::Counted::value_cells, crate::proofs::Counted::bound_cells, crate::proofs::Counted::given_cells))]
     pub fn cells(&self) -> Option<u16>
         ensures { SomeIff result (spec.cells_held self.now < 65536) (spec.cells_held self.now) }
     {
         match self {
             Denotes::Variable(of) | Denotes::Constant(of) => of.cells(),
+            Denotes::Bound(_) => Some(1),
             Denotes::Parameter(parameter) => parameter.cells(),
             Denotes::Procedure | Denotes::Refinement | Denotes::Denoter(_) => Some(0),
         }

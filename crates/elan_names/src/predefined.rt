@@ -2,13 +2,14 @@
 
 ghost use Rattle.std.specs.Prelude.{◌≡◌, map};
 ghost use Rattle.eu_base.specs.Operations.{operand_kinds, text_operand_kinds};
+ghost use Rattle.eu_base.specs.SpaceOperations.{space_operand_kinds};
 ghost use Rattle.elan_types.specs.Types.{values_of, request_parameters};
 ghost use Rattle.elan_names.specs.Predefined as spec;
 ghost use Rattle.elan_names.specs.walks.Seen as seen;
 
 use crate::heading::Sort;
 use elan_types::{Access, Change, Operation, RequestName};
-use eu_base::{Kind, TextOperation};
+use eu_base::{Kind, SpaceOperation, TextOperation};
 
 /// What a predefined name is.
 #[derive(Clone, Copy)]
@@ -19,6 +20,8 @@ pub enum Predefined {
     Change(Change),
     /// It makes a request.
     Request(RequestName),
+    /// It asks for data spaces and their names, or changes them.
+    OnSpaces(SpaceOperation),
     /// It stops the program.
     ErrorStop,
 }
@@ -33,7 +36,7 @@ pub struct Operand {
 /// Whether it is an operator or a procedure, its name, and what it is.
 pub type Row = (Sort, &'static [u8], Predefined);
 
-const PREDEFINED: [Row; 66] = [
+const PREDEFINED: [Row; 76] = [
     (Sort::Operator, b"+", Predefined::Operation(Operation::Plus)),
     (Sort::Operator, b"+", Predefined::Operation(Operation::Add)),
     (
@@ -240,6 +243,11 @@ const PREDEFINED: [Row; 66] = [
         b"niltask",
         Predefined::Operation(Operation::NoTask),
     ),
+    (
+        Sort::Procedure,
+        b"nilspace",
+        Predefined::Operation(Operation::NilSpace),
+    ),
     (Sort::Procedure, b"errorstop", Predefined::ErrorStop),
     (
         Sort::Procedure,
@@ -336,6 +344,51 @@ const PREDEFINED: [Row; 66] = [
         b"break",
         Predefined::Request(RequestName::Break),
     ),
+    (
+        Sort::Procedure,
+        b"type",
+        Predefined::OnSpaces(SpaceOperation::KindOf),
+    ),
+    (
+        Sort::Procedure,
+        b"type",
+        Predefined::OnSpaces(SpaceOperation::SetKind),
+    ),
+    (
+        Sort::Procedure,
+        b"forget",
+        Predefined::OnSpaces(SpaceOperation::Forget),
+    ),
+    (
+        Sort::Procedure,
+        b"forget",
+        Predefined::OnSpaces(SpaceOperation::ForgetNamed),
+    ),
+    (
+        Sort::Procedure,
+        b"new",
+        Predefined::OnSpaces(SpaceOperation::New),
+    ),
+    (
+        Sort::Procedure,
+        b"old",
+        Predefined::OnSpaces(SpaceOperation::Old),
+    ),
+    (
+        Sort::Procedure,
+        b"exists",
+        Predefined::OnSpaces(SpaceOperation::IsNamed),
+    ),
+    (
+        Sort::Procedure,
+        b"rename",
+        Predefined::OnSpaces(SpaceOperation::Rename),
+    ),
+    (
+        Sort::Procedure,
+        b"copy",
+        Predefined::OnSpaces(SpaceOperation::CopyNamed),
+    ),
 ];
 
 /// A row for each predefined operator and procedure.
@@ -363,6 +416,11 @@ const TEXT: Operand = Operand {
 
 const TASK: Operand = Operand {
     kind: Kind::Task,
+    access: Access::Const,
+};
+
+const SPACE: Operand = Operand {
+    kind: Kind::Space,
     access: Access::Const,
 };
 
@@ -453,6 +511,21 @@ fn request_operands(name: RequestName) -> &'static [Operand]
     }
 }
 
+// Those of a call on data spaces are values.
+fn space_operands(operation: SpaceOperation) -> &'static [Operand]
+    ensures { map seen.operand result.now ≡ values_of (space_operand_kinds operation) }
+{
+    match operation {
+        SpaceOperation::KindOf | SpaceOperation::Forget => &[SPACE],
+        SpaceOperation::SetKind => &[SPACE, INT],
+        SpaceOperation::New
+        | SpaceOperation::Old
+        | SpaceOperation::IsNamed
+        | SpaceOperation::ForgetNamed => &[TEXT],
+        SpaceOperation::Rename | SpaceOperation::CopyNamed => &[TEXT, TEXT],
+    }
+}
+
 impl Predefined {
     /// What it is given.
     pub fn operands(self) -> &'static [Operand]
@@ -463,6 +536,7 @@ impl Predefined {
             Predefined::Change(Change::Increase | Change::Decrease) => &[INT_VAR, INT],
             Predefined::Change(Change::Append) => &[TEXT_VAR, TEXT],
             Predefined::Request(name) => request_operands(name),
+            Predefined::OnSpaces(operation) => space_operands(operation),
             Predefined::ErrorStop => &[TEXT],
         }
     }

@@ -15,16 +15,33 @@ use Rattle.elan_types.specs.declared.elan_type.Parameter.{Parameter}
 use Rattle.elan_types.specs.Types.{shape_in, formal_of}
 use Rattle.elan_types.specs.Typing.{Held, OfKind, OfPlace, held_as, cells_of, values_held, place_held, starts}
 use Rattle.elan_types.proofs.Sized.{is_sized, is_sized_type, sized_has_cell, begins_self, begins_first, begins_starts}
+use Rattle.elan_types.specs.declared.elan_type.ElanType.{ElanType}
+use Rattle.eu_base.specs.Room.{cells_fit}
+use Rattle.elan_names.specs.declared.entry.Denotes.{Denotes}
+use Rattle.elan_names.specs.declared.entry.Denotes.TheVariants as denotes
 use Rattle.elan_names.specs.declared.entry.Entry.{Entry}
 use Rattle.elan_names.specs.Names.{held, cells_held, first_from, first_named}
 use Rattle.elan_scope.specs.Scope.{all_held, types_of}
 
 -- ---- what names hold
 
--- Each part of each has a cell.
-abbrev pub AllSized : List Parameter → Type 0
+-- The content of a data space finds room there.
+abbrev pub IsContent : ElanType → Type 0
+IsContent t = (is_sized_type t ≡ true) × (cells_fit (length (cell_kinds (shape_in t))) ≡ true)
+
+-- Each part of what is held under a name has a cell, and so has each part of the content for which the name stands.
+abbrev pub Sized : Denotes → Type 0
+Sized (denotes.Variable t) = is_sized_type t ≡ true
+Sized (denotes.Constant t) = is_sized_type t ≡ true
+Sized (denotes.Bound t) = IsContent t
+Sized (denotes.Parameter q) = is_sized_type q.of ≡ true
+Sized denotes.Procedure = Unit {0}
+Sized denotes.Refinement = Unit {0}
+Sized (denotes.Denoter d) = Unit {0}
+
+abbrev pub AllSized : List Entry → Type 0
 AllSized [] = Unit {0}
-AllSized (q ∷ ps) = (is_sized_type q.of ≡ true) × AllSized ps
+AllSized (e ∷ es) = Sized e.denotes × AllSized es
 
 -- All are values.
 abbrev pub AllConst : List Parameter → Type 0
@@ -36,14 +53,6 @@ cells_in ps = flat_map (λ p. cells_of (formal_of p)) ps
 
 abbrev pub held_cells : List Entry → List Held
 held_cells es = flat_map cells_of (map formal_of (all_held es))
-
-sized_first : (ps qs : List Parameter) → AllSized (ps ++ qs) → AllSized ps
-sized_first [] qs z = tt
-sized_first (p ∷ ps) qs z = (z.0, sized_first ps qs z.1)
-
-sized_behind : (ps qs : List Parameter) → AllSized (ps ++ qs) → AllSized qs
-sized_behind [] qs z = z
-sized_behind (p ∷ ps) qs z = sized_behind ps qs z.1
 
 cells_each : (ps : List Parameter) → flat_map cells_of (map formal_of ps) ≡ cells_in ps
 cells_each [] = refl
@@ -99,19 +108,16 @@ module _ (js : List Held) where
       let i : f.0 ≡ h.0 = (let j = h.1 in omega arith) in
       subst (λ (n : ℕ). HeldAt (held f.1.denotes) (held_cells es ++ js) n) (sym i) h.2
 
-sized_from : (k : ℕ) (es : List Entry) (x : List ℕ) (f : ℕ × Entry) → AllSized (all_held es) → first_from k es x ≡ Some f → AllSized (held f.1.denotes)
+sized_from : (k : ℕ) (es : List Entry) (x : List ℕ) (f : ℕ × Entry) → AllSized es → first_from k es x ≡ Some f → Sized f.1.denotes
 sized_from k [] x f z e = absurd cc
-sized_from k (d ∷ es) x f z e =
-    by_name (sized_from (k + cells_held d.denotes) es x f (sized_behind (held d.denotes) (all_held es) z)) (bytes_eq d.name x) e
+sized_from k (d ∷ es) x f z e = by_name (sized_from (k + cells_held d.denotes) es x f z.1) (bytes_eq d.name x) e
   where
-    by_name : (first_from (k + cells_held d.denotes) es x ≡ Some f → AllSized (held f.1.denotes)) → (b : Bool)
-        → (if b then Some (k, d) else first_from (k + cells_held d.denotes) es x) ≡ Some f → AllSized (held f.1.denotes)
-    by_name rest true h =
-        let g : (k, d) ≡ f = cc in
-        subst (λ (q : ℕ × Entry). AllSized (held q.1.denotes)) g (sized_first (held d.denotes) (all_held es) z)
+    by_name : (first_from (k + cells_held d.denotes) es x ≡ Some f → Sized f.1.denotes) → (b : Bool)
+        → (if b then Some (k, d) else first_from (k + cells_held d.denotes) es x) ≡ Some f → Sized f.1.denotes
+    by_name rest true h = let g : (k, d) ≡ f = cc in subst (λ (q : ℕ × Entry). Sized q.1.denotes) g z.0
     by_name rest false h = rest h
 
-pub found_sized : (es : List Entry) (x : List ℕ) (f : ℕ × Entry) → AllSized (all_held es) → first_named es x ≡ Some f → AllSized (held f.1.denotes)
+pub found_sized : (es : List Entry) (x : List ℕ) (f : ℕ × Entry) → AllSized es → first_named es x ≡ Some f → Sized f.1.denotes
 found_sized es x f z e = sized_from 0 es x f z e
 
 -- the first of what is held

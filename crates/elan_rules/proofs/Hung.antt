@@ -49,6 +49,7 @@ module _ (kn : Known) (at : ℕ) (s : Scope) (x : List ℕ) where
   denoted_open : (v : Usage) (home : Home) (n : ℕ) (d : Denotes) → c.denoted kn v at s x home n d ≡ hangs → OpenUse v
   denoted_open v home n (denotes.Variable t) e = absurd cc
   denoted_open v home n (denotes.Constant t) e = absurd cc
+  denoted_open v home n (denotes.Bound t) e = absurd cc
   denoted_open v home n (denotes.Parameter q) e = absurd cc
   denoted_open v home n denotes.Procedure e = absurd (told_never_hangs (c.applied at s Procedure x []) e)
   denoted_open v home n denotes.Refinement e = used_open v e

@@ -9,3 +9,4 @@ pub mod HeldCells
 pub mod TypedCalls
 pub mod Hung
 pub mod Together
+mod Bound

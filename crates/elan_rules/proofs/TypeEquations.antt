@@ -7,7 +7,10 @@ use Rattle.eu_base.specs.declared.operation.Change.{Change}
 use Rattle.eu_base.specs.declared.operation.Way.{Way}
 use Rattle.eu_base.specs.declared.request.RequestName.{RequestName}
 use Rattle.eu_base.specs.declared.value.Kind.{Kind}
-use Rattle.eu_base.specs.declared.value.Kind.TheVariants.{Int, Truth as Truths, Text as Letters}
+use Rattle.eu_base.specs.declared.value.Kind.TheVariants.{Int, Truth as Truths, Text as Letters, Space}
+use Rattle.eu_base.specs.declared.space_operation.SpaceOperation.{SpaceOperation}
+use Rattle.eu_base.specs.SpaceOperations.{space_operand_kinds, space_result_kind}
+use Rattle.eu_base.specs.Room.{cells_fit}
 use Rattle.eu_base.specs.declared.shape.Shape.{Shape}
 use Rattle.eu_base.specs.declared.shape.Shape.TheVariants.{Cell, Row}
 use Rattle.eu_base.specs.Shapes.{cell_kinds}
@@ -24,7 +27,7 @@ use Rattle.elan_types.specs.declared.core_phrase.Actual.TheVariants as actual
 use Rattle.elan_types.specs.declared.core_phrase.Exit.{Exit}
 use Rattle.elan_types.specs.declared.core_phrase.Body.{Body}
 use Rattle.elan_types.specs.declared.core_phrase.Access.TheVariants.{Const, Var}
-use Rattle.std.specs.Prelude.{slice_get}
+use Rattle.std.specs.Prelude.{slice_get, option_map}
 use Rattle.elan_types.specs.declared.core_phrase.Arm.{Arm, rolls-Arm'}
 use Rattle.elan_types.specs.declared.core_phrase.ValueArm.{ValueArm, rolls-ValueArm'}
 use Rattle.elan_types.specs.declared.core_phrase.Action.TheOpen as t
@@ -122,6 +125,10 @@ module _ (here : Stand) where
   pub field_is : (p : PlacePhrase) (before : ℕ) → cells (place.Field p before) ≡ drop before (cells p)
   field_is p before = ap cells (sym (place.rolls-Field p before)) ∙ of_place (t.Field p before)
 
+  pub content_is : (p : PlacePhrase) (s : Shape)
+      → cells (place.Content p s) ≡ if_true (starts (Space ∷ []) (cells p) && cells_fit (length (cell_kinds s))) (cell_kinds s)
+  content_is p s = ap cells (sym (place.rolls-Content p s)) ∙ of_place (t.Content p s)
+
   -- ---- values
 
   pub number_is : (z : ℤ) → shape (value.Number z) ≡ only_if (in_range z) (Some (Cell Int))
@@ -139,6 +146,10 @@ module _ (here : Stand) where
   pub apply_is : (op : Operation) (as' : List ValuePhrase)
       → shape (value.Apply op as') ≡ only_if (have (operand_kinds op) (map shape as')) (Some (Cell (result_kind op)))
   apply_is op as' = ap shape (sym (value.rolls-Apply op as')) ∙ of_value (t.Apply op as')
+
+  pub consult_is : (op : SpaceOperation) (as' : List ValuePhrase)
+      → shape (value.Consult op as') ≡ only_if (have (space_operand_kinds op) (map shape as')) (option_map Cell (space_result_kind op))
+  consult_is op as' = ap shape (sym (value.rolls-Consult op as')) ∙ of_value (t.Consult op as')
 
   pub value_if_is : (c a b : ValuePhrase) → shape (value.If c a b) ≡ only_if (has Truths (shape c) && agree (shape a) (shape b)) (shape a)
   value_if_is c a b = ap shape (sym (value.rolls-If c a b)) ∙ of_value (t.ValuePhrase::If c a b)
@@ -188,6 +199,16 @@ module _ (here : Stand) where
 
   pub store_is : (p : PlacePhrase) (s : Shape) (a : ValuePhrase) → typed (action.Store p s a) ≡ (starts (cell_kinds s) (cells p) && has_shape s (shape a))
   store_is p s a = ap typed (sym (action.rolls-Store p s a)) ∙ of_action (t.Store p s a)
+
+  pub copy_is : (p : PlacePhrase) (a : ValuePhrase) → typed (action.Copy p a) ≡ (starts (Space ∷ []) (cells p) && has Space (shape a))
+  copy_is p a = ap typed (sym (action.rolls-Copy p a)) ∙ of_action (t.Copy p a)
+
+  pub bind_is : (p : PlacePhrase) (s : Shape) (a : ValuePhrase) → typed (action.Bind p s a) ≡ (starts (Space ∷ []) (cells p) && has Space (shape a))
+  bind_is p s a = ap typed (sym (action.rolls-Bind p s a)) ∙ of_action (t.Bind p s a)
+
+  pub perform_is : (op : SpaceOperation) (as' : List ValuePhrase)
+      → typed (action.Perform op as') ≡ (have (space_operand_kinds op) (map shape as') && is_none (option_map Cell (space_result_kind op)))
+  perform_is op as' = ap typed (sym (action.rolls-Perform op as')) ∙ of_action (t.Perform op as')
 
   pub modify_is : (c : Change) (p : PlacePhrase) (a : ValuePhrase)
       → typed (action.Modify c p a) ≡ (starts (change_kind c ∷ []) (cells p) && has (change_kind c) (shape a))

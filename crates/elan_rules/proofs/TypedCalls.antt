@@ -3,6 +3,7 @@
 use Rattle.std.proofs.Common.{◌≡◌, ℕ, Bool, true, false, if◌then◌else◌, ◌||◌, List, [], ◌∷◌, ◌++◌, ◌+◌, suc, length, drop, arith, map, Option, Some, None, refl}
 use Rattle.std.proofs.Common.{sym, ap, subst, ◌∙◌}
 use Rattle.elan_types.specs.declared.elan_type.ElanType.{ElanType}
+use Rattle.elan_types.specs.declared.elan_type.ElanType.TheVariants.{Dataspace}
 use Rattle.elan_types.specs.declared.core_phrase.PlacePhrase.{PlacePhrase}
 use Rattle.elan_types.specs.declared.core_phrase.ValuePhrase.{ValuePhrase}
 use Rattle.elan_types.specs.declared.core_phrase.ValuePhrase.TheVariants as value
@@ -20,14 +21,15 @@ use Rattle.elan_types.specs.declared.core_phrase.Access.{Access}
 use Rattle.elan_types.specs.declared.core_phrase.Access.TheVariants.{Const, Var}
 use Rattle.elan_types.specs.declared.elan_type.Parameter.{Parameter}
 use Rattle.eu_base.specs.declared.value.Kind.{Kind}
+use Rattle.eu_base.specs.declared.value.Kind.TheVariants as kinds
 use Rattle.eu_base.specs.declared.shape.Shape.{Shape}
-use Rattle.elan_types.specs.Types.{shape_in, formal_of}
+use Rattle.elan_types.specs.Types.{shape_in, formal_of, held_const}
 use Rattle.elan_types.specs.declared.core_phrase.Exit.{Exit}
 use Rattle.elan_types.specs.declared.core_phrase.Exit.TheVariants as exits
 use Rattle.elan_types.specs.declared.core_phrase.Scope.{Scope as Owner}
 use Rattle.elan_types.specs.declared.core_phrase.Scope.TheVariants as owner
 use Rattle.elan_types.specs.declared.core_phrase.Body.{Body}
-use Rattle.elan_types.specs.Typing.{Home as InBody, Typed, Held, OfKind, cells_of, starts, same_home}
+use Rattle.elan_types.specs.Typing.{Home as InBody, Typed, Held, OfKind, cells_of, starts, if_true, same_home}
 use Rattle.elan_types.specs.Typing.{result_of_content, result_of, scope_of, refines, leaves_without, leaves_with, left_from, around, frame_in}
 use Rattle.elan_types.specs.Typing.{owner as owner_in}
 use Rattle.elan_types.proofs.Shapes.{same_shape_self}
@@ -60,16 +62,16 @@ use Rattle.elan_names.proofs.Named.{first_heading_from, and_right}
 use Rattle.elan_meant.specs.Operands.{delivers, fit, takes, chosen}
 use Rattle.eu_base.specs.Shapes.{cell_kinds}
 use Rattle.elan_types.specs.declared.core_phrase.PlacePhrase.TheVariants as place
-use Rattle.elan_types.proofs.Sized.{is_sized, is_sized_type}
-pub use Rattle.elan_rules.proofs.HeldCells.{AllSized, AllConst, held_cells}
+use Rattle.elan_types.proofs.Sized.{is_sized, is_sized_type, sized_cell, sized_starts}
+pub use Rattle.elan_rules.proofs.HeldCells.{IsContent, Sized, AllSized, AllConst, held_cells}
 use Rattle.elan_rules.proofs.HeldCells.{HeldAt, found_held, found_sized, held_first, values_at, kinds_at, no_place, place_at, level_cells, starts_first}
 use Rattle.elan_rules.proofs.Typed as ty
-use Rattle.elan_rules.proofs.Typed.{same_type_is, has_self, agree_self, only_if_holds, both, and_true, Gives, MayGive, on_if, on_bind, on_told, on_either}
+use Rattle.elan_rules.proofs.Typed.{same_type_is, type_shape, has_self, agree_self, only_if_holds, both, and_true, Gives, MayGive, on_if, on_bind, on_told, on_either}
 use Rattle.value_rules.specs.Calls as r
 use Rattle.value_rules.specs.Values.{denoter}
 use Rattle.elan_rules.proofs.TypedUnits.{denoter_good}
 use Rattle.value_rules.specs.walks.Steps as walk
-use Rattle.elan_rules.proofs.TypeEquations.{Stand, typed, cells, frame, variable_is, packet_is, local_is, parameter_is, refer_is, action_refer_is, leave_is, leave_with_is}
+use Rattle.elan_rules.proofs.TypeEquations.{Stand, typed, cells, frame, variable_is, packet_is, local_is, parameter_is, content_is, refer_is, action_refer_is, leave_is, leave_with_is}
 use Rattle.std.proofs.lemmas.Bool.Decides.{Decides-eqb}
 use Rattle.elan_rules.proofs.TypedPerformed.{owner_with, behind, Headed, Delivering, BodyFits, Fitting, MayCall, none_holds, has_holds, own_calls, predefined_calls}
 use Rattle.elan_rules.proofs.TypedPerformed.{first_calls, else_calls, called_good, predefined_performs}
@@ -111,7 +113,7 @@ FrameIs hs (Some v) = hs ≡ held_cells v.names
 
 abbrev pub WithinSized : Option Within → Type 0
 WithinSized None = Unit {0}
-WithinSized (Some v) = AllSized (all_held v.names)
+WithinSized (Some v) = AllSized v.names
 
 -- the cells that are held somewhere
 abbrev pub home_cells : Stand → Home → List Held
@@ -126,7 +128,7 @@ HeldThere here home es = (rest : List Held) × (home_cells here home ≡ held_ce
 -- The bodies and variables of a packet are those that it shows.
 pub record PacketFits (here : Stand) (p : Inserted) : Type 0 where
   pub held : HeldThere here (of_packet p.cells_before) p.interface.names
-  pub sized : AllSized (all_held p.interface.names)
+  pub sized : AllSized p.interface.names
   pub bodies : Fitting here p.bodies_before p.bodies_before p.interface.headings
 
 abbrev pub AllFit : Stand → List Inserted → Type 0
@@ -138,7 +140,7 @@ pub record Fits (here : Stand) (s : Scope) (k : Known) : Type 0 where
   pub packets : AllFit here s.packets
   -- what the level and the routine hold
   pub level : HeldThere here s.home s.level
-  pub sized : AllSized (all_held s.level)
+  pub sized : AllSized s.level
   pub frame_sized : WithinSized s.routine
   pub frame : FrameIs (frame_in here.bodies (owner_in here.bodies here.home)) s.routine
   pub owner_is : owner_in here.bodies here.home ≡ behind s.bodies_before (number_of s.routine)
@@ -198,27 +200,49 @@ module _ (here : Stand) where
   parameter_good at t Const x h = constant_good at t x h
   parameter_good at t Var x h = h
 
+  -- a BOUND variable, and the content of its data space
+  space_sized : is_sized_type Dataspace ≡ true
+  space_sized = ap is_sized (type_shape kinds.Space) ∙ sized_cell kinds.Space
+
+  bound_good : (at : ℕ) (t : ElanType) (x : PlacePhrase) → Stays (shape_in Dataspace) x → IsContent t → Good (r.bound at t x)
+  bound_good at t x h c =
+      let s = shape_in t in
+      let there = ty.cell_there here kinds.Space x (subst (λ (z : Shape). ty.Stands here z x) (type_shape kinds.Space) h.0) in
+      let open_is = content_is here x s ∙ ap (λ (b : Bool). if_true b (cell_kinds s)) (and_true _ _ there c.1) in
+      (ap (starts (cell_kinds s)) open_is ∙ sized_starts s c.0, c.0)
+
   module _ (s : Scope) (k : Known) (fits : Fits here s k) where
-    abbrev Lies : Home → ℕ → List Parameter → Type 0
-    Lies home n [] = Unit {0}
-    Lies home n (q ∷ qs) = AtHome home n q × (is_sized_type q.of ≡ true)
+    -- What is held under a name stands there, each part of it in a cell.
+    abbrev Lies : Home → ℕ → Denotes → Type 0
+    Lies home n (denotes.Variable t) = AtHome home n (held_const t) × (is_sized_type t ≡ true)
+    Lies home n (denotes.Constant t) = AtHome home n (held_const t) × (is_sized_type t ≡ true)
+    Lies home n (denotes.Bound t) = AtHome home n (held_const Dataspace) × IsContent t
+    Lies home n (denotes.Parameter q) = AtHome home n q × (is_sized_type q.of ≡ true)
+    Lies home n denotes.Procedure = Unit {0}
+    Lies home n denotes.Refinement = Unit {0}
+    Lies home n (denotes.Denoter d) = Unit {0}
 
-    held_lies : (home : Home) (n : ℕ) (ps : List Parameter) → HeldAt ps (home_cells here home) n → AllSized ps → Lies home n ps
-    held_lies home n [] h z = tt
-    held_lies home n (q ∷ ps) h z = (held_first q ps (home_cells here home) n h, z.0)
+    held_lies : (home : Home) (n : ℕ) (d : Denotes) → HeldAt (held d) (home_cells here home) n → Sized d → Lies home n d
+    held_lies home n (denotes.Variable t) h z = (held_first (held_const t) [] (home_cells here home) n h, z)
+    held_lies home n (denotes.Constant t) h z = (held_first (held_const t) [] (home_cells here home) n h, z)
+    held_lies home n (denotes.Bound t) h z = (held_first (held_const Dataspace) [] (home_cells here home) n h, z)
+    held_lies home n (denotes.Parameter q) h z = (held_first q [] (home_cells here home) n h, z)
+    held_lies home n denotes.Procedure h z = tt
+    held_lies home n denotes.Refinement h z = tt
+    held_lies home n (denotes.Denoter d) h z = tt
 
-    entry_lies : (home : Home) (es : List Entry) (f : ℕ × Entry) (x : List ℕ) → HeldThere here home es → AllSized (all_held es)
-        → scope.first_named es x ≡ Some f → Lies home f.0 (held f.1.denotes)
+    entry_lies : (home : Home) (es : List Entry) (f : ℕ × Entry) (x : List ℕ) → HeldThere here home es → AllSized es
+        → scope.first_named es x ≡ Some f → Lies home f.0 f.1.denotes
     entry_lies home es f x h z e =
-        held_lies home f.0 (held f.1.denotes)
+        held_lies home f.0 f.1.denotes
         (subst (λ (hs : List Held). HeldAt (held f.1.denotes) hs f.0) (sym h.1) (found_held h.0 es x f e))
         (found_sized es x f z e)
 
     abbrev FoundLies : Option Found → Type 0
     FoundLies None = Unit {0}
-    FoundLies (Some f) = Lies f.home f.number (held f.denotes)
+    FoundLies (Some f) = Lies f.home f.number f.denotes
 
-    names_lie : (home : Home) (es : List Entry) (o : Option (ℕ × Entry)) (x : List ℕ) → HeldThere here home es → AllSized (all_held es)
+    names_lie : (home : Home) (es : List Entry) (o : Option (ℕ × Entry)) (x : List ℕ) → HeldThere here home es → AllSized es
         → scope.first_named es x ≡ o → FoundLies (scope.found_in home o)
     names_lie home es None x h z e = tt
     names_lie home es (Some f) x h z e = entry_lies home es f x h z e
@@ -395,9 +419,10 @@ module _ (here : Stand) where
 
     -- ---- identifiers
 
-    denoted_good : (u : Usage) (at : ℕ) (x : List ℕ) (home : Home) (n : ℕ) (d : Denotes) → Lies home n (held d) → MayGive Good (r.denoted k u at s x home n d)
+    denoted_good : (u : Usage) (at : ℕ) (x : List ℕ) (home : Home) (n : ℕ) (d : Denotes) → Lies home n d → MayGive Good (r.denoted k u at s x home n d)
     denoted_good u at x home n (denotes.Variable t) h = place_lies home n t Const h.0 h.1
     denoted_good u at x home n (denotes.Constant t) h = constant_good at t (r.place_in home n Const) (place_lies home n t Const h.0 h.1)
+    denoted_good u at x home n (denotes.Bound t) h = bound_good at t (r.place_in home n Const) (place_lies home n Dataspace Const h.0 space_sized) h.1
     denoted_good u at x home n (denotes.Parameter q) h = parameter_good at q.of q.access (r.place_in home n q.access) (place_lies home n q.of q.access h.0 h.1)
     denoted_good u at x home n denotes.Procedure h = on_told Good (r.applied at s Procedure x []) (applied_good at Procedure x [] tt)
     denoted_good u at x home n denotes.Refinement h = used_good u at (scope.refinement_named s x) (in_refined x (scope.find s x))
@@ -410,9 +435,10 @@ module _ (here : Stand) where
     pub named_good : (u : Usage) (at : ℕ) (x : List ℕ) → MayGive Good (r.named k u at s x (scope.find s x))
     named_good u at x = named_as_good u at x (scope.find s x) (find_lies x)
 
-    declared_as_good : (at : ℕ) (home : Home) (n : ℕ) (d : Denotes) → Lies home n (held d) → Good (r.declared_as at home n d)
+    declared_as_good : (at : ℕ) (home : Home) (n : ℕ) (d : Denotes) → Lies home n d → Good (r.declared_as at home n d)
     declared_as_good at home n (denotes.Variable t) h = place_lies home n t Const h.0 h.1
     declared_as_good at home n (denotes.Constant t) h = place_lies home n t Const h.0 h.1
+    declared_as_good at home n (denotes.Bound t) h = bound_good at t (r.place_in home n Const) (place_lies home n Dataspace Const h.0 space_sized) h.1
     declared_as_good at home n (denotes.Parameter q) h = refl
     declared_as_good at home n denotes.Procedure h = refl
     declared_as_good at home n denotes.Refinement h = refl

@@ -36,10 +36,12 @@ use Rattle.eu_base.specs.Shapes.{cell_kinds, same_shape}
 use Rattle.eu_base.specs.Operations.{operand_kinds, result_kind, change_kind}
 use Rattle.eu_base.specs.Requests.{request_kinds, request_places, request_result}
 use Rattle.eu_base.specs.declared.request.RequestName.{RequestName}
+use Rattle.eu_base.specs.declared.space_operation.SpaceOperation.{SpaceOperation}
+use Rattle.eu_base.specs.SpaceOperations.{space_operand_kinds, space_result_kind}
 use Rattle.elan_names.specs.Callees.{Callee}
 use Rattle.elan_names.specs.Callees as Callees
 use Rattle.elan_names.specs.declared.predefined.Predefined.{Predefined}
-use Rattle.elan_names.specs.declared.predefined.Predefined.TheVariants.{Operation, Change, Request, ErrorStop}
+use Rattle.elan_names.specs.declared.predefined.Predefined.TheVariants.{Operation, Change, Request, OnSpaces, ErrorStop}
 use Rattle.elan_names.specs.Predefined.{Row, parameters, result}
 use Rattle.elan_meant.specs.Operands.{delivers, fit}
 use Rattle.elan_types.proofs.Shapes.{same_shape_self, same_shape_is}
@@ -47,7 +49,7 @@ use Rattle.elan_rules.proofs.Typed as ty
 use Rattle.elan_rules.proofs.Typed.{type_shape, has_self, agree_self, only_if_holds, both, and_true, Gives, on_if, on_bind}
 use Rattle.elan_meant.specs.Parts as p
 use Rattle.value_rules.specs.Calls as r
-use Rattle.elan_rules.proofs.TypeEquations.{Stand, shape, cells, actual_taken, apply_is, modify_is, ask_is, answer_is, error_stop_is, call_is, action_call_is}
+use Rattle.elan_rules.proofs.TypeEquations.{Stand, shape, cells, actual_taken, apply_is, consult_is, modify_is, perform_is, ask_is, answer_is, error_stop_is, call_is, action_call_is}
 use Rattle.elan_rules.proofs.TypeEquations.{given_value_is, given_place_is}
 
 -- ---- bodies as their headings tell
@@ -229,6 +231,15 @@ module _ (here : Stand) where
       answer_is here q as'
       ∙ only_if_holds _ _ _ k (ap (λ (o : Option Kind). option_map Cell o) e ∙ ap (λ (i : Shape). Some i) (sym (type_shape kind)))
 
+  spaces_perform : (o : SpaceOperation) (as' : List Actual) (at : ℕ) → have (space_operand_kinds o) (map (shape here) (r.values_in as')) ≡ true
+      → (q : Option Kind) → space_result_kind o ≡ q → Gives Good (r.performed at (Callees.Predefined (OnSpaces o)) (option_map type_in q) as')
+  spaces_perform o as' at k None e =
+      let act = action.Perform o (r.values_in as') in
+      ty.single_typed here act (perform_is here o (r.values_in as') ∙ and_true _ _ k (ap (λ (q : Option Kind). is_none (option_map Cell q)) e))
+  spaces_perform o as' at k (Some kind) e =
+      consult_is here o (r.values_in as')
+      ∙ only_if_holds _ _ _ k (ap (λ (q : Option Kind). option_map Cell q) e ∙ ap (λ (i : Shape). Some i) (sym (type_shape kind)))
+
   pub predefined_performs : (f : Predefined) → Performs (Callees.Predefined f) (parameters f) (result f)
   predefined_performs (Operation o) as' h at =
       let ks = operand_kinds o in
@@ -247,6 +258,9 @@ module _ (here : Stand) where
   predefined_performs (Change c) (actual.Place x t ∷ actual.Place y u ∷ as') h at = tt
   predefined_performs (Request q) as' h at =
       request_performs q as' at (given_by _ _ as' (all_formals (request_kinds q) (request_places q)) h) (request_result q) refl
+  predefined_performs (OnSpaces o) as' h at =
+      let ks = space_operand_kinds o in
+      spaces_perform o as' at (values_have ks as' (given_by _ _ as' (value_formals ks) h)) (space_result_kind o) refl
   predefined_performs ErrorStop [] h at = tt
   predefined_performs ErrorStop (actual.Place x t ∷ as') h at = tt
   predefined_performs ErrorStop (actual.Value v ∷ []) h at =

@@ -1,18 +1,27 @@
 -- Values, stores, lists of units and bodies have the shapes that they ask for.
-use Rattle.std.proofs.Common.{◌≡◌, ℤ, ℕ, Bool, true, false, if◌then◌else◌, nat_le, List, [], ◌∷◌, length, Option, Some, None, refl, sym, ap, subst, ◌∙◌, eq-eqb}
+use Rattle.std.proofs.Common.{◌≡◌, ℤ, ℕ, Bool, true, false, if◌then◌else◌, nat_le, List, [], ◌∷◌, length, Option, Some, None, option_map, ◌&&◌, refl, sym, ap, subst, ◌∙◌, eq-eqb}
 use Rattle.std.specs.Option.{option_map_or}
 use Rattle.eu_base.specs.declared.value.TheConstants.{TEXT_BYTES}
 use Rattle.elan_types.specs.declared.elan_type.ElanType.{ElanType}
-use Rattle.elan_types.specs.Types.{concrete, is_own_from, items, field, cells, shape_in, type_in, has_own}
+use Rattle.elan_types.specs.declared.elan_type.ElanType.TheVariants.{Dataspace}
+use Rattle.elan_types.specs.Types.{same_type, concrete, is_own_from, items, field, cells, shape_in, type_in, has_own}
 use Rattle.elan_scope.specs.declared.scope.Scope.{Scope}
 use Rattle.elan_types.proofs.Types.{concrete_shape, cells_kinds}
 use Rattle.elan_types.proofs.Sized.{items_shape, item_of_type_starts, item_of_type_sized, field_of_type_starts, field_of_type_sized, field_has_part}
 use Rattle.value_rules.specs.Values as v
-use Rattle.eu_base.specs.declared.value.Kind.TheVariants.{Int, Truth as Truths, Text}
+use Rattle.eu_base.specs.declared.value.Kind.{Kind}
+use Rattle.eu_base.specs.declared.value.Kind.TheVariants.{Int, Truth as Truths, Text, Space}
+use Rattle.eu_base.specs.Room.{cells_fit}
 use Rattle.eu_base.specs.declared.shape.Shape.{Shape}
 use Rattle.eu_base.specs.declared.shape.Shape.TheVariants.{Cell, Row}
 use Rattle.eu_base.specs.Shapes.{cell_kinds}
-use Rattle.elan_types.specs.declared.core_phrase.PlacePhrase.{PlacePhrase}
+use Rattle.elan_types.specs.declared.core_phrase.PlacePhrase.{PlacePhrase, out-PlacePhrase, roll-PlacePhrase, roll-out-PlacePhrase}
+use Rattle.elan_types.specs.declared.core_phrase.Actual.{Actual}
+use Rattle.elan_types.specs.declared.core_phrase.Arm.{Arm}
+use Rattle.elan_types.specs.declared.core_phrase.ValueArm.{ValueArm}
+use Rattle.elan_types.specs.declared.core_phrase.Action.TheVariants as action
+use Rattle.elan_types.specs.declared.core_phrase.Action.TheOpen as phrases
+use Rattle.elan_types.specs.declared.core_phrase.Action.TheOpen.{PlacePhrase-F}
 use Rattle.elan_types.specs.declared.core_phrase.PlacePhrase.TheVariants as place
 use Rattle.elan_types.specs.declared.core_phrase.ValuePhrase.{ValuePhrase}
 use Rattle.elan_types.specs.declared.core_phrase.ValuePhrase.TheVariants as value
@@ -25,12 +34,12 @@ use Rattle.elan_names.specs.declared.denoter.Denoter.{Denoter}
 use Rattle.elan_names.specs.declared.denoter.Denoter.TheVariants as denoters
 use Rattle.elan_meant.specs.Operands.{delivers}
 use Rattle.elan_rules.proofs.Typed as ty
-use Rattle.elan_rules.proofs.Typed.{same_type_is, has_self, agree_self, only_if_holds, both, and_true, Gives, on_if, on_bind}
+use Rattle.elan_rules.proofs.Typed.{same_type_is, type_shape, has_self, agree_self, only_if_holds, both, and_true, Gives, on_if, on_bind}
 use Rattle.elan_meant.specs.Parts as p
 use Rattle.unit_rules.specs.Units as r
 use Rattle.value_rules.specs.walks.Steps as walk
 use Rattle.elan_rules.specs.Rules as rules
-use Rattle.elan_rules.proofs.TypeEquations.{Stand, typed, shape, cells as places, number_is, truth_is, text_is, value_if_is, value_unit_is, after_is, store_is}
+use Rattle.elan_rules.proofs.TypeEquations.{Stand, typed, shape, cells as places, number_is, truth_is, text_is, value_if_is, value_unit_is, after_is, store_is, copy_is, bind_is, content_is}
 use Rattle.elan_rules.proofs.TypeEquations.{item_is, field_is, never_is, pick_is, take_is}
 
 module _ (here : Stand) where
@@ -213,19 +222,94 @@ module _ (here : Stand) where
   abbrev IsTyped : Action → Type 0
   IsTyped a = typed here a ≡ true
 
+  given_typed : (t : ElanType) (b : Bool) (x : PlacePhrase) (v : ValuePhrase) → same_type Dataspace t ≡ b → ty.Stands here (shape_in t) x → Has (shape_in t) v
+      → IsTyped (r.given_to b x (shape_in t) v)
+  given_typed t true x v e k h =
+      let i : shape_in t ≡ Cell Space = ap shape_in (sym (same_type_is Dataspace t e)) ∙ type_shape Space in
+      copy_is here x v
+      ∙ and_true _ _ (ty.cell_there here Space x (subst (λ (s : Shape). ty.Stands here s x) i k)) (has_self (Cell Space) _ (h ∙ ap (λ (s : Shape). Some s) i))
+  given_typed t false x v e k h = store_is here x (shape_in t) v ∙ and_true _ _ k (has_self (shape_in t) _ h)
+
   pub stored_good : (at : ℕ) (l m : Meant) → Good l → Good m → Gives IsTyped (r.stored at l m)
   stored_good at l m g h =
       on_bind (Agreed at l m) IsTyped (r.agreed at l m) _ (agreed_good at l m g h) (λ t a.
       on_bind (Lies (shape_in t)) IsTyped (p.variable at l) _ a.0
-      (λ x k. store_is here x (shape_in t) (p.value_of m) ∙ and_true _ _ k.0 (has_self (shape_in t) _ a.1)))
+      (λ x k. given_typed t (same_type Dataspace t) x (p.value_of m) refl k.0 a.1))
 
   pub assigned_good : (at : ℕ) (l m : Meant) → Good l → Good m → Gives Good (r.assigned at l m)
   assigned_good at l m g h =
       on_if Good (option_map_or has_own (p.type_in l) false) _ _ (λ e. tt) (λ e.
       on_bind IsTyped Good (r.stored at l m) _ (stored_good at l m g h) (λ a k. ty.unit_typed here (a ∷ []) (ty.single_typed here a k)))
 
+  -- ---- BOUND variables
+
+  abbrev HoldsSpace : PlacePhrase → Type 0
+  HoldsSpace x = starts (Space ∷ []) (places here x) ≡ true
+
+  -- where a content stands there is a BOUND variable
+  content_holds : (x : PlacePhrase) (s : Shape) (ks : List Kind) → starts ks (places here (place.Content x s)) ≡ true → HoldsSpace x
+  content_holds x s ks g =
+      let fits = cells_fit (length (cell_kinds s)) in
+      (both _ fits (by_test (starts (Space ∷ []) (places here x) && fits) (sym (ap (starts ks) (content_is here x s)) ∙ g))).0
+    where
+      none : (js : List Kind) → starts js [] ≡ true → ⊥
+      none [] h = cc
+      none (j ∷ js) h = cc
+
+      by_test : (b : Bool) → starts ks (if_true b (cell_kinds s)) ≡ true → b ≡ true
+      by_test true h = refl
+      by_test false h = absurd (none ks h)
+
+  bound_holds : (l : Meant) (b : PlacePhrase × Shape) → Good l → r.bound_in l ≡ Some b → HoldsSpace b.0
+  bound_holds (Variable at t x) b g e = by_layer (out-PlacePhrase x) (sym (roll-out-PlacePhrase x)) e
+    where
+      by_layer : (y : PlacePhrase-F Action Actual PlacePhrase ValuePhrase Arm ValueArm) → x ≡ roll-PlacePhrase y → r.content_here y ≡ Some b → HoldsSpace b.0
+      by_layer (phrases.Content q s) i h =
+          let j : (q, s) ≡ b = cc in
+          let z : x ≡ place.Content q s = i ∙ place.rolls-Content q s in
+          subst (λ (c : PlacePhrase × Shape). HoldsSpace c.0) j
+          (content_holds q s (cell_kinds (shape_in t)) (subst (λ (y : PlacePhrase). starts (cell_kinds (shape_in t)) (places here y) ≡ true) z g.0))
+      by_layer _ i h = absurd cc
+  bound_holds Absent b g e = absurd cc
+  bound_holds (Value at t v) b g e = absurd cc
+  bound_holds (Done as') b g e = absurd cc
+  bound_holds (Left as') b g e = absurd cc
+  bound_holds (Labels ns) b g e = absurd cc
+  bound_holds (Start k) b g e = absurd cc
+  bound_holds (Bodies bs) b g e = absurd cc
+  bound_holds (Level us bs) b g e = absurd cc
+
+  abbrev pub MayTyped : Option Action → Type 0
+  MayTyped None = Unit {0}
+  MayTyped (Some a) = IsTyped a
+
+  pub binding_good : (l m : Meant) → Good l → Good m → MayTyped (r.binding l m)
+  binding_good l m g h = by_test (delivers Dataspace m) refl
+    where
+      by_bound : delivers Dataspace m ≡ true → (o : Option (PlacePhrase × Shape)) → r.bound_in l ≡ o
+          → MayTyped (option_map (λ b. action.Bind b.0 b.1 (p.value_of m)) o)
+      by_bound d None e = tt
+      by_bound d (Some b) e = bind_is here b.0 b.1 (p.value_of m) ∙ and_true _ _ (bound_holds l b g e) (has_self (Cell Space) _ (ty.kind_value here Space m h d))
+
+      by_test : (c : Bool) → delivers Dataspace m ≡ c → MayTyped (if c then option_map (λ b. action.Bind b.0 b.1 (p.value_of m)) (r.bound_in l) else None)
+      by_test true d = by_bound d (r.bound_in l) refl
+      by_test false d = tt
+
+  -- the same, where a name stands at the left
+  pub named_binding_good : (named : Bool) (l m : Meant) → Good l → Good m → MayTyped (r.binding_if named l m)
+  named_binding_good true l m g h = binding_good l m g h
+  named_binding_good false l m g h = tt
+
+  -- ---- a name in its declaration, and its initial value
+
+  stored_or_good : (at : ℕ) (l m : Meant) (o : Option Action) → MayTyped o → Good l → Good m → Gives IsTyped (r.stored_or at l m o)
+  stored_or_good at l m None k g h = stored_good at l m g h
+  stored_or_good at l m (Some a) k g h = k
+
   pub initial_good : (at : ℕ) (l m : Meant) → Good l → Good m → Gives Good (r.initial at l m)
-  initial_good at l m g h = on_bind IsTyped Good (r.stored at l m) _ (stored_good at l m g h) (λ a k. ty.single_typed here a k)
+  initial_good at l m g h =
+      on_bind IsTyped Good (r.stored_or at l m (r.binding l m)) _ (stored_or_good at l m (r.binding l m) (binding_good l m g h) g h)
+      (λ a k. ty.single_typed here a k)
 
   -- ---- lists of units
 

@@ -1,8 +1,8 @@
 -- The rules of meaning, one for each form of phrase: what it means at this place where its parts mean these, or which rule it breaks.
-use Rattle.std.specs.Prelude.{ℕ, Bool, false, List, [], ◌∷◌, drop, flat_map, Option, Some, None}
+use Rattle.std.specs.Prelude.{ℕ, Bool, false, ◌&&◌, List, [], ◌∷◌, drop, flat_map, Option, Some, None, is_none}
 use Rattle.elan_types.specs.declared.elan_type.ElanType.TheVariants.{Bool as Truths}
 use Rattle.elan_types.specs.declared.core_phrase.ValuePhrase.TheVariants as value
-use Rattle.elan_types.specs.declared.why.Why.TheVariants.{Unknown}
+use Rattle.elan_types.specs.declared.core_phrase.Action.{Action}
 pub use Rattle.value_rules.specs.Values.{number, text, denoter, bracketed, concr, indexed, field_part, cand, cor}
 use Rattle.elan_meant.specs.declared.meant.Meant.{Meant}
 use Rattle.elan_meant.specs.declared.meant.Meant.TheVariants.{Absent, Done, Value, Labels, Bodies, Level}
@@ -15,7 +15,7 @@ use Rattle.elan_scope.specs.declared.scope.Scope.{Scope}
 use Rattle.elan_names.specs.declared.heading.Sort.TheVariants.{Procedure, Operator}
 use Rattle.value_rules.specs.Calls.{named, applied, start_named, started, called, declared, heading, leaving}
 use Rattle.value_rules.specs.Calls.{type_declared, exported, leaves_open, is_open_name, declares_open, is_open_type, heading_open}
-use Rattle.unit_rules.specs.Units.{assigned, initial, in_order, alone, without_value, must_deliver, body_with, content_as, content_of, bodies_in}
+use Rattle.unit_rules.specs.Units.{assigned, initial, binding_if, in_order, alone, without_value, must_deliver, body_with, content_as, content_of, bodies_in}
 use Rattle.choice_rules.specs.Choices.{choice, label_is, label_named, labels_in, selected}
 use Rattle.unit_rules.specs.Loops.{counted, loop}
 use Rattle.elan_scope.specs.Phrase as form
@@ -33,15 +33,18 @@ abbrev pub assignment_as : ℕ → Meant → Meant → Option Callable → Verdi
 assignment_as at l r (Some c) = called_alone at c (l ∷ r ∷ [])
 assignment_as at l r None = assigned at l r
 
-abbrev pub assignment : ℕ → Scope → Meant → Meant → Verdict Meant
-assignment at s l r = assignment_as at l r (chosen s Operator becomes (l ∷ r ∷ []))
+-- A BOUND variable that is given a data space is bound to it, whatever `:=` is declared.
+abbrev pub assignment_or : ℕ → Scope → Meant → Meant → Option Action → Verdict Meant
+assignment_or at s l r (Some a) = gives (unit_of (a ∷ []))
+assignment_or at s l r None = assignment_as at l r (chosen s Operator becomes (l ∷ r ∷ []))
+
+abbrev pub assignment : ℕ → Scope → Bool → Meant → Meant → Verdict Meant
+assignment at s named l r = assignment_or at s l r (binding_if named l r)
 
 -- ---- the rules of forms that need to know nothing of bodies
 
--- What is not built is unknown.
 abbrev pub rule : ℕ → Plain → List Meant → Verdict Meant
 rule at form.absent ms = gives Absent
-rule at form.not_built ms = breaks (at, Unknown)
 rule at (form.number n) ms = number at n
 rule at (form.truth b) ms = gives (Value at Truths (value.Truth b))
 rule at (form.text x) ms = text at x
@@ -65,7 +68,7 @@ rule at form.declaration ms = gives (unit_of (actions_of ms))
 rule at form.definition ms = gives (Done [])
 rule at (form.type_name s x) ms = type_declared at (find_own_type s x)
 rule at form.statement ms = gives (alone (nth ms 0))
-rule at (form.assignment s) ms = assignment at s (nth ms 0) (nth ms 1)
+rule at (form.assignment s named) ms = assignment at s named (nth ms 0) (nth ms 1)
 rule at form.loop ms = loop at (nth ms 0) (nth ms 1) (nth ms 2)
 rule at (form.count w) ms = counted at w (nth ms 0) (nth ms 1) (nth ms 2) (nth ms 3) (nth ms 4) (nth ms 5)
 rule at form.without_value ms = without_value (nth ms 0)
@@ -82,7 +85,7 @@ rule at form.level ms = gives (Level (actions_of ms) (flat_map bodies_in ms))
 
 abbrev pub hangs_on : ℕ → Plain → List Meant → Bool
 hangs_on at (form.applied s sort x) ms = is_unclear s sort x ms
-hangs_on at (form.assignment s) ms = is_unclear s Operator becomes (nth ms 0 ∷ nth ms 1 ∷ [])
+hangs_on at (form.assignment s named) ms = is_none (binding_if named (nth ms 0) (nth ms 1)) && is_unclear s Operator becomes (nth ms 0 ∷ nth ms 1 ∷ [])
 hangs_on at (form.declares s x) ms = declares_open at (find_own s x)
 hangs_on at (form.type_name s x) ms = is_open_type at (find_own_type s x)
 hangs_on at (form.heading s sort x ps r missing) ms = heading_open ps r (heading at ps missing (first_heading (is_alike sort x (types_of ps)) s.headings))

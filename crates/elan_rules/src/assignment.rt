@@ -1,10 +1,11 @@
 //! Assignments.
 
 ghost use Rattle.elan_rules.specs.Rules as spec;
-ghost use Rattle.std.specs.Prelude.{[], ◌∷◌};
+ghost use Rattle.std.specs.Prelude.{[], ◌∷◌, ◌&&◌, is_none};
 ghost use Rattle.elan_names.specs.declared.heading.Sort.TheVariants as sorts;
 ghost use Rattle.elan_scope.specs.Answer.{Is};
-ghost use Rattle.elan_meant.specs.Operands.{becomes, is_unclear};
+ghost use Rattle.elan_meant.specs.Operands.{becomes, chosen, is_unclear};
+ghost use Rattle.unit_rules.specs.Units.{binding_if};
 ghost use Rattle.elan_meant.specs.Verdict.{told, unless, Tells};
 ghost use Rattle.elan_names.specs.walks.Seen as seen;
 
@@ -19,7 +20,7 @@ use elan_scope::trouble::Trouble;
 use eu_base::List;
 use std::alloc::Global;
 use unit_rules::list::alone;
-use unit_rules::store::assigned;
+use unit_rules::store::{assigned, binds, bound};
 use value_rules::call::called;
 
 // A call that stands alone.
@@ -33,9 +34,10 @@ fn called_alone(alloc: Global, at: u32, callable: Callable<'_>, operands: List<M
     }
 }
 
-/// An assignment. An own operator `:=` for these operands is called; it hangs on one that may take them.
-pub fn assignment(alloc: Global, at: u32, scope: &Scope, left: Meant, right: Meant) -> Judged
-    ensures { Is result (unless (is_unclear scope.now sorts.Operator becomes (left ∷ right ∷ [])) (told (spec.assignment at scope.now left right))) }
+// An own operator `:=` for these operands is called; it hangs on one that may take them.
+fn assignment_as(alloc: Global, at: u32, scope: &Scope, left: Meant, right: Meant) -> Judged
+    ensures { Is result (unless (is_unclear scope.now sorts.Operator becomes (left ∷ right ∷ []))
+        (told (spec.assignment_as at left right (chosen scope.now sorts.Operator becomes (left ∷ right ∷ []))))) }
 {
     let operands = listed(alloc, left, right)?;
     if is_unclear(scope, Sort::Operator, b":=", operands.as_slice()) {
@@ -49,4 +51,23 @@ pub fn assignment(alloc: Global, at: u32, scope: &Scope, left: Meant, right: Mea
             Some((left, right)) => assigned(alloc, at, left, right),
         },
     }
+}
+
+/// An assignment. A BOUND variable whose name stands at the left is bound where it is given a data space.
+#[tactic(auto, using(crate::proofs::Bound::bound_is, crate::proofs::Bound::unbound_is))]
+pub fn assignment(
+    alloc: Global,
+    at: u32,
+    scope: &Scope,
+    named: bool,
+    left: Meant,
+    right: Meant,
+) -> Judged
+    ensures { Is result (unless (is_none (binding_if named left right) && is_unclear scope.now sorts.Operator becomes (left ∷ right ∷ []))
+        (told (spec.assignment at scope.now named left right))) }
+{
+    if named && binds(&left, &right) {
+        return bound(alloc, left, right);
+    }
+    assignment_as(alloc, at, scope, left, right)
 }

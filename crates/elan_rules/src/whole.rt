@@ -60,20 +60,21 @@ pub fn initial_phrase(alloc: Global, at: u32, name: Judged, init: Judged) -> Jud
     }
 }
 
-/// An assignment.
+/// An assignment, at whose left a name stands or not.
 pub fn assignment_phrase(
     alloc: Global,
     at: u32,
     scope: &Scope,
+    named: bool,
     left: Judged,
     right: Judged,
 ) -> Judged
     ensures { (k : Known) → (p : Phrase) → (q : Phrase) → Is left (judged k p) → Is right (judged k q) → Is result
-        (judged k (pair at (form.assignment scope.now) p q)) }
+        (judged k (pair at (form.assignment scope.now named) p q)) }
 {
     match two(left, right) {
         Err(trouble) => Err(trouble),
-        Ok((left, right)) => assignment(alloc, at, scope, left, right),
+        Ok((left, right)) => assignment(alloc, at, scope, named, left, right),
     }
 }
 

@@ -12,8 +12,6 @@ use Rattle.elan_scope.specs.declared.scope.Usage.{Usage}
 pub data Plain : Type 0 where
   -- a part that is not written
   absent : Plain
-  -- what is not built, which is refused before its meaning is asked for
-  not_built : Plain
   number : ℤ → Plain
   truth : Bool → Plain
   text : List ℕ → Plain
@@ -49,7 +47,8 @@ pub data Plain : Type 0 where
   type_name : Scope → List ℕ → Plain
   -- an expression that stands alone
   statement : Plain
-  assignment : Scope → Plain
+  -- an assignment, and whether a name stands at its left
+  assignment : Scope → Bool → Plain
   -- a condition, units, and a condition; before them a counter, its first value and its limit
   loop : Plain
   count : Way → Plain

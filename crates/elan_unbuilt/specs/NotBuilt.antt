@@ -1,11 +1,11 @@
--- Whether a tree has a phrase or a predefined name that is not built yet.
+-- Whether a tree has a predefined name that is not built yet.
 use Rattle.std.specs.Prelude.{Bool, true, not, ◌||◌}
 use Rattle.std.specs.List.{list_any}
 use Rattle.elan_unbuilt.specs.Names.{is_not_built}
 use Rattle.elan_unbuilt.specs.Operators.{operator_text}
 use Rattle.elan_unbuilt.specs.Types.{is_type_built}
 use Rattle.elan_tree.specs.declared.tree.Tree.{Tree}
-use Rattle.elan_walk.specs.Nodes.{Node, alone, other, sign, of_type, item, let_name, abbreviation, new_type, unbuilt, nodes}
+use Rattle.elan_walk.specs.Nodes.{Node, alone, other, sign, of_type, item, let_name, abbreviation, new_type, content, nodes}
 
 abbrev pub node : Node → Bool
 node (alone n) = is_not_built n.text
@@ -16,7 +16,7 @@ node (item h of n) = not (is_type_built of) || is_not_built n.text
 node (let_name n c) = is_not_built n.text
 node (abbreviation n of) = not (is_type_built of)
 node (new_type at n of) = not (is_type_built of)
-node unbuilt = true
+node (content of) = not (is_type_built of)
 
 abbrev pub not_built : Tree → Bool
 not_built t = list_any node (nodes t)

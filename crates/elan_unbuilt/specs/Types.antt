@@ -16,13 +16,13 @@ abbrev pub is_size_built : Size → Bool
 is_size_built (size.Number at n) = true
 is_size_built (size.Named n) = not (is_not_built n.text)
 
--- INT, BOOL, TEXT, TASK, names of types, and rows and structures of what is built; DATASPACE is not built
+-- a type without names of sizes and fields, or with names that are built
 abbrev pub built_step : TypePhrase-F Bool Bool → Bool
 built_step (type.Int at) = true
 built_step (type.Bool at) = true
 built_step (type.Text at) = true
 built_step (type.Task at) = true
-built_step (type.Dataspace at) = false
+built_step (type.Dataspace at) = true
 built_step (type.Named n) = true
 built_step (type.Row at size b) = is_size_built size && b
 built_step (type.Struct at bs) = list_all (λ b. b) bs

@@ -5,18 +5,7 @@ ghost use Rattle.std.specs.List.{list_any};
 ghost use Rattle.std.specs.Str.{bytes_eq};
 ghost use Rattle.elan_unbuilt.specs.Names as spec;
 
-const NOT_BUILT: [&[u8]; 10] = [
-    b"nilspace",
-    b"type",
-    b"forget",
-    b"new",
-    b"old",
-    b"rename",
-    b"copy",
-    b"send",
-    b"wait",
-    b"call",
-];
+const NOT_BUILT: [&[u8]; 3] = [b"send", b"wait", b"call"];
 
 fn is_among(mut names: &[&[u8]], name: &[u8]) -> bool
     ensures { result ≡ list_any (λ n. bytes_eq n name.now) (map (λ n. n.now) names.entry.now) }

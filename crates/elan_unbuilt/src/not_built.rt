@@ -1,4 +1,4 @@
-//! Whether a tree has what is not built yet.
+//! Whether a tree has a name that is not built yet.
 
 ghost use Rattle.std.specs.Prelude.{◌≡◌};
 ghost use Rattle.elan_unbuilt.specs.NotBuilt as spec;
@@ -36,13 +36,13 @@ impl Visitor for Search {
                     Node::Let(named, _) => is_not_built(named.text.as_slice()),
                     Node::Abbreviation(_, of) => !is_type_built(of),
                     Node::NewType(_, _, of) => !is_type_built(of),
-                    Node::Unbuilt => true,
+                    Node::Content(of) => !is_type_built(of),
                 },
         }
     }
 }
 
-/// Whether a tree has a phrase or a predefined name that is not built yet.
+/// Whether a tree has a predefined name that is not built yet.
 pub fn has_unbuilt(tree: &Tree) -> bool
     ensures { result ≡ spec.not_built tree.now }
 {

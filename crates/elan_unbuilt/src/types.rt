@@ -7,7 +7,7 @@ ghost use Rattle.elan_unbuilt.specs.Types as spec;
 use crate::names::is_not_built;
 use elan_tree::{Field, Name, Size, TypePhrase};
 
-/// Whether a type is built: INT, BOOL, TEXT, TASK, what a name denotes, or a row or structure of what is built.
+/// Whether the names of sizes and fields that stand in a type are built.
 #[cycle(types)]
 pub fn is_type_built(of: &TypePhrase) -> bool
     ensures { result ≡ spec.is_type_built of.now }
@@ -17,8 +17,8 @@ pub fn is_type_built(of: &TypePhrase) -> bool
         | TypePhrase::Bool(_)
         | TypePhrase::Text(_)
         | TypePhrase::Task(_)
+        | TypePhrase::Dataspace(_)
         | TypePhrase::Named(_) => true,
-        TypePhrase::Dataspace(_) => false,
         TypePhrase::Row { size, of, .. } => is_size_built(size) && is_type_built(of.get()),
         TypePhrase::Struct { fields, .. } => are_fields_built(fields.as_slice()),
     }

@@ -29,7 +29,7 @@ use Rattle.elan_tree.specs.declared.tree.LevelUnit.TheVariants as level
 use Rattle.elan_tree.specs.declared.tree.Tree.{Tree}
 use Rattle.elan_tree.specs.declared.tree.Tree.TheVariants as tree
 use Rattle.elan_walk.specs.declared.node.Held.{Held}
-use Rattle.elan_walk.specs.declared.node.Held.TheVariants.{Variable, Constant}
+use Rattle.elan_walk.specs.declared.node.Held.TheVariants.{Variable, Constant, Bound}
 use Rattle.elan_walk.specs.declared.node.Node.{Node as Lent}
 use Rattle.elan_walk.specs.declared.node.Node.TheVariants as lent
 
@@ -48,8 +48,8 @@ pub data Node : Type 0 where
   abbreviation : Name → TypePhrase → Node
   -- a TYPE, with its place, its name, and its concrete type
   new_type : ℕ → Name → TypePhrase → Node
-  -- a phrase of a kind that is not built
-  unbuilt : Node
+  -- the type of what BOUND variables denote
+  content : TypePhrase → Node
 
 abbrev pub plain : Lent → Node
 plain (lent.Alone n) = alone n.now
@@ -60,7 +60,7 @@ plain (lent.Item h of n) = item h of.now n.now
 plain (lent.Let n c) = let_name n.now c.now
 plain (lent.Abbreviation n of) = abbreviation n.now of.now
 plain (lent.NewType at n of) = new_type at n.now of.now
-plain lent.Unbuilt = unbuilt
+plain (lent.Content of) = content of.now
 
 -- what the items of a declaration are, by how they are held and of which type
 abbrev pub Declares : Type 0
@@ -114,7 +114,7 @@ unit_step (t.Becomes at a b) = a ++ b
 unit_step (t.Loop at counter condition units until) = unwrap_or counter [] ++ unwrap_or condition [] ++ all units ++ unwrap_or until []
 unit_step (t.Leave at n value) = other n ∷ unwrap_or value []
 unit_step (t.Let at items) = map let_item items
-unit_step _ = unbuilt ∷ []
+unit_step (t.Bound at of items) = content of ∷ flat_map (λ i. i Bound of) items
 
 abbrev pub branch_step : Layer Branch-F → List Node
 branch_step b = b.condition ++ all b.units

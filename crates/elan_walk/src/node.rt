@@ -9,6 +9,8 @@ use elan_tree::{Constant, Name, Operator, TypePhrase};
 pub enum Held {
     Variable,
     Constant,
+    /// By a BOUND variable, which denotes the content of a data space.
+    Bound,
 }
 
 /// A node of a tree, as far as it has a name, a type or an operator.
@@ -29,8 +31,8 @@ pub enum Node<'a> {
     Abbreviation(&'a Name, &'a TypePhrase),
     /// A TYPE, with the place of the word, its name, and its concrete type.
     NewType(u32, &'a Name, &'a TypePhrase),
-    /// A phrase of a kind that is not built.
-    Unbuilt,
+    /// The type of what BOUND variables denote.
+    Content(&'a TypePhrase),
 }
 
 /// Who looks at the nodes of trees, and notes where memory was wanted.

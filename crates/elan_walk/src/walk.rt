@@ -231,7 +231,10 @@ pub fn visit_unit<V: Visitor>(visitor: V, unit: &Unit) -> V
             in_optional(visitor, value)
         }
         Unit::Let(_, items) => let_items(visitor, items.as_slice()),
-        Unit::Bound(_, _, _) => visitor.visit(Node::Unbuilt),
+        Unit::Bound(_, of, items) => {
+            let visitor = visitor.visit(Node::Content(of));
+            in_items(visitor, items.as_slice(), Held::Bound, of)
+        }
     }
 }
 

@@ -24,12 +24,12 @@ use Rattle.source_machine.specs.Below.packet_store.specs.declared.unit.Compiled.
 use Rattle.source_machine.specs.Below.packet_store.specs.Library.{Library, env_of}
 use Rattle.source_texts.specs.Spaces.{Space}
 use Rattle.source_texts.specs.Sources.{source_space, source_text, most_lines}
-use Rattle.source_machine.specs.Stores.{Store, space_under, with_named, entering_refusal}
+use Rattle.source_machine.specs.Stores.{Store, space_under, with_named, entering_refusal, tidied}
 use Rattle.source_machine.specs.Tasks.{Command, Doing, Idle, Entering, Running, Own, starting, store_in, settled, own_variables, ending, spent, replied, with_doing, is_running, command_of}
 use Rattle.source_machine.specs.Systems.{System, Moment, own, doing, runs, command, kept, kept_by, packets, packets_of, does, changed, given, on_channels, on_system, back, say, say_at, tell, prompt}
 use Rattle.source_machine.specs.Serving.{Served, Replies, Rests, serve}
 use Rattle.source_machine.specs.Monitor as monitor
-use Rattle.source_machine.specs.Monitor.{Reading, Compiles, Refuses, prompted, answered, started, run_read, enter_unless, names_told, directory_of, entered_line, settle, inserted, is_full, installed, words_of}
+use Rattle.source_machine.specs.Monitor.{Reading, Compiles, Refuses, prompted, answered, started, run_read, enter_unless, names_told, directory_of, entered_line, settle, tidy, inserted, is_full, installed, words_of}
 use Rattle.source_machine.specs.Turns.{served, went, went_on, slice}
 use Rattle.isolation.specs.Own.{Whole, whole, own_of}
 use Rattle.isolation.specs.Told.{Told, Inserted, told_over, told_served, told_by, told_on, told}
@@ -289,21 +289,30 @@ module _ (u : TaskNo) (R : Moment → Moment → Type 0) (keeps : Keeps u R) whe
         subst (λ (store : Store). R (on_system (settle u k) m) (on_system (does u (Idle (settled k store))) n))
         (same_kept m n h) (does_so (Idle (settled k (kept u m.system))) m n h)
 
+    -- what nothing denotes is forgotten alike
+    tidies : Steps (on_system (tidy u))
+    tidies m n h =
+        subst (λ (store : Store). R (on_system (tidy u) m) (on_system (does u (Idle (tidied store))) n))
+        (same_kept m n h) (does_so (Idle (tidied (kept u m.system))) m n h)
+
+    tidies_then : (stop : Option Stop) → Steps (monitor.tidied_then read stop u)
+    tidies_then stop m n h = rests_with stop (on_system (tidy u) m) (on_system (tidy u) n) (tidies m n h)
+
     -- the insertion ends alike where there is room in both
     ends_insertion : (stop : Option Stop) (full : Bool) (c : Command) (i : Interface) (m n : Moment)
         → (stop ≡ None → full ≡ false → m.system.shared.library.last ≡ n.system.shared.library.last) → R m n
         → R (monitor.insertion_over read stop full u c i m) (monitor.insertion_over read stop full u c i n)
     ends_insertion (Some stop) full c i m n last h =
-        rests_with (Some stop) (on_system (settle u (own_variables c)) m) (on_system (settle u (own_variables c)) n) (settles (own_variables c) m n h)
+        tidies_then (Some stop) (on_system (settle u (own_variables c)) m) (on_system (settle u (own_variables c)) n) (settles (own_variables c) m n h)
     ends_insertion None true c i m n last h =
-        rests_with (Some ManyPackets) (on_system (settle u (own_variables c)) m) (on_system (settle u (own_variables c)) n) (settles (own_variables c) m n h)
+        tidies_then (Some ManyPackets) (on_system (settle u (own_variables c)) m) (on_system (settle u (own_variables c)) n) (settles (own_variables c) m n h)
     ends_insertion None false c i m n last h =
-        rests (on_system (inserted u c.unit i) m) (on_system (inserted u c.unit i) n) (keeps.inserts c.unit i m n (last refl refl) h)
+        tidies_then None (on_system (inserted u c.unit i) m) (on_system (inserted u c.unit i) n) (keeps.inserts c.unit i m n (last refl refl) h)
 
     ends_as : (shown : Option Interface) (stop : Option Stop) (c : Command) (m n : Moment)
         → over_told shown stop m.system.shared.library ≡ over_told shown stop n.system.shared.library → R m n
         → R (monitor.over_as read shown stop u c m) (monitor.over_as read shown stop u c n)
-    ends_as None stop c m n same h = rests_with stop m n h
+    ends_as None stop c m n same h = tidies_then stop m n h
     ends_as (Some i) (Some stop) c m n same h = ends_insertion (Some stop) false c i m n (λ none. absurd (none-some stop (sym none))) h
     ends_as (Some i) None c m n same h = by (is_full m.system.shared.library) (is_full n.system.shared.library) same
       where

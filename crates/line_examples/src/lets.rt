@@ -63,7 +63,6 @@ yes
 > LET n = 3; REP n PER
 FEHLER : falscher Typ (Zeile 1, Stelle 16)
 > LET copy = 3
-FEHLER : kein ELAN-Text
 > LET put = 3; put (put)
 3 
 > LET max = 3; put (max (max, 2))

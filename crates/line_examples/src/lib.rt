@@ -21,6 +21,8 @@ mod row_values;
 #[cfg(test)]
 mod rows;
 #[cfg(test)]
+mod spaces;
+#[cfg(test)]
 mod structures;
 #[cfg(test)]
 mod table;

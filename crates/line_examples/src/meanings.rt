@@ -371,11 +371,10 @@ FEHLER : falscher Typ (Zeile 1, Stelle 12)
 > INT VAR a; a.f := 2
 FEHLER : unbekannt (Zeile 1, Stelle 12)
 > DATASPACE VAR d
-FEHLER : kein ELAN-Text
 > put (x); TEXT VAR t
 FEHLER : unbekannt (Zeile 1, Stelle 6)
 > INT VAR copy :: TRUE
-FEHLER : kein ELAN-Text
+FEHLER : falscher Typ (Zeile 1, Stelle 9)
 > LENGTH 1
 FEHLER : falscher Typ (Zeile 1, Stelle 1)
 > INT VAR a; a := LENGTH 1; put (b)
@@ -383,7 +382,6 @@ FEHLER : falscher Typ (Zeile 1, Stelle 17)
 > SELECT 1 OF CASE pos: line END SELECT
 FEHLER : unbekannt (Zeile 1, Stelle 18)
 > BOUND INT VAR b
-FEHLER : kein ELAN-Text
 > T VAR x
 FEHLER : unbekannt (Zeile 1, Stelle 1)
 > put (CONCR (1))
@@ -391,7 +389,7 @@ FEHLER : falscher Typ (Zeile 1, Stelle 6)
 > begin
 FEHLER : unbekannt (Zeile 1, Stelle 1)
 > FOR type REP line PER
-FEHLER : kein ELAN-Text
+FEHLER : unbekannt (Zeile 1, Stelle 5)
 > OP SUB (INT CONST a): END OP SUB
 > INT OP + (INT CONST a, b): a * b END OP +; put (3 + 4)
 12 

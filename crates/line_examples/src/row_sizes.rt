@@ -168,9 +168,9 @@ FEHLER : Operandenspeicher voll
 1 2 
 FEHLER : Textspeicher voll
 > ROW 2 ROW 3 DATASPACE VAR a
-FEHLER : kein ELAN-Text
+FEHLER : falsche Stelle (Zeile 1, Stelle 13)
 > ROW type INT VAR a
-FEHLER : kein ELAN-Text
+FEHLER : unbekannt (Zeile 1, Stelle 5)
 > ROW - 3 INT VAR a
 FEHLER : kein ELAN-Text (Zeile 1, Stelle 5)
 > ROW 3 INT a

@@ -201,11 +201,10 @@ FEHLER : unbekannt (Zeile 1, Stelle 15)
 > TYPE T = STRUCT (INT a); PROC p: LET T = STRUCT (TEXT a); T VAR x; x.a := \"p\"; put (x.a) END PROC p; p; T VAR y; CONCR (y).a := 2; put (CONCR (y).a)
 p 2 
 > STRUCT (INT a, DATASPACE b) VAR s
-FEHLER : kein ELAN-Text
+FEHLER : falsche Stelle (Zeile 1, Stelle 16)
 > STRUCT (INT type) VAR s
-FEHLER : kein ELAN-Text
 > STRUCT (INT a) VAR s; put (s.type)
-FEHLER : kein ELAN-Text
+FEHLER : unbekannt (Zeile 1, Stelle 28)
 > STRUCT (INT a; TEXT b) VAR s
 FEHLER : kein ELAN-Text (Zeile 1, Stelle 14)
 > STRUCT () VAR s

@@ -300,6 +300,19 @@ FEHLER : Division durch 0
 FEHLER : INT-Ueberlauf
 > PROC p: p END PROC p; p
 FEHLER : Stapelueberlauf
+> BOUND ROW 3 INT VAR marks :: new (\"marks\"); marks [1] := 7; marks [2] := 8; DATASPACE VAR second :: old (\"marks\"); BOUND ROW 3 INT VAR others :: second; others [1] := 1; put (marks [1]); put (others [1]); put (others [2])
+7 1 8 
+> BOUND INT VAR a :: new (\"n\"); BOUND INT VAR b :: old (\"n\"); a := 4; put (b)
+4 
+> BOUND TEXT VAR note :: new (\"note\"); note := \"kept\"; put (note); forget (\"note\"); put (note)
+kept 
+FEHLER : Datenraum existiert nicht
+> BOUND INT VAR a :: new (\"a\"); a := 1; BOUND TEXT VAR b :: old (\"a\")
+FEHLER : falscher Datenraumtyp
+> BOUND INT VAR a :: new (\"a\"); BOUND INT VAR b :: new (\"a\")
+FEHLER : Datenraum existiert schon
+> DATASPACE VAR d :: old (\"nothing\")
+FEHLER : Datenraum gibt es nicht
 > put (7 / 2)
 FEHLER : kein Symbol (Zeile 1, Stelle 8)
 > put (1) (* comment
@@ -312,7 +325,7 @@ FEHLER : kein ELAN-Text (Zeile 1, Stelle 11)
 FEHLER : kein ELAN-Text (Zeile 1, Stelle 22)
 > ROW INT VAR a
 FEHLER : kein ELAN-Text (Zeile 1, Stelle 5)
-> INT VAR copy
+> INT VAR send
 FEHLER : kein ELAN-Text
 > put 1
 FEHLER : unbekannt (Zeile 1, Stelle 1)

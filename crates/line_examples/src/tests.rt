@@ -2,8 +2,8 @@
 
 use crate::rows::{Asked, add, is_right, put};
 use crate::{
-    code, lets, lines, meanings, outside, packets, row_sizes, row_values, structures, table, tasks,
-    texts, typed, types,
+    code, lets, lines, meanings, outside, packets, row_sizes, row_values, spaces, structures,
+    table, tasks, texts, typed, types,
 };
 use eu_base::Bytes;
 use eumel_top::{Status, one_output};
@@ -62,6 +62,8 @@ fn wrong_lines(alloc: Global) -> &'static str {
         "structures"
     } else if !is_right(alloc, tasks::TASKS, how) {
         "tasks"
+    } else if !is_right(alloc, spaces::SPACES, how) {
+        "data spaces"
     } else if !is_right(alloc, table::EXAMPLES, how) {
         "examples"
     } else {

@@ -10,6 +10,7 @@ use Rattle.elan_types.specs.Eval.{World}
 use Rattle.live_tasks.specs.Below.packet_store.specs.declared.unit.Compiled.{Compiled}
 use Rattle.live_tasks.specs.Below.packet_store.specs.Library.{Library, IsInstalled}
 use Rattle.live_tasks.specs.Below.packet_store.specs.Units.{IsUnit}
+use Rattle.live_tasks.specs.Below.source_machine.specs.Stores.{tidied}
 use Rattle.live_tasks.specs.Below.source_machine.specs.Tasks.{Command, Idle, Own, store_in, with_doing}
 use Rattle.live_tasks.specs.Below.source_machine.specs.Systems.{with_own}
 use Rattle.live_tasks.specs.Below.source_machine.specs.Monitor.{installed, with_packet}
@@ -21,7 +22,7 @@ use Rattle.live_packets.proofs.Owns.{given_at}
 use Rattle.live_packets.proofs.PacketKinds.{kinds_before, kinds_new, packets_are}
 
 -- the unit of a command that is over has the packets of its task
-over_kinds : (kinds_of : List ℕ → List Kind) (live : Live) (owns : List Own) (k : ℕ) (c : Command) (w : World) → StandOver kinds_of live owns k c w
+pub over_kinds : (kinds_of : List ℕ → List Kind) (live : Live) (owns : List Own) (k : ℕ) (c : Command) (w : World) → StandOver kinds_of live owns k c w
     → (o : Own) → slice_get owns k ≡ Some o → packet_kinds c.unit.core.packets ≡ kinds_of o.packets
 over_kinds kinds_of live owns k c w h o has =
     let task = found_other live.tasks owns k o h.but.as_many has in (h.over task.0 o task.1 has).kinds_are
@@ -43,14 +44,14 @@ pub installs_so : (unit : Compiled) (lib grown : Library) (i : Interface) (owns 
     → unit.shown ≡ Some i → c.unit ≡ unit → AreNumbered lib → AreAllGiven lib.last owns → (live : Live) → StandOver (kinds_in lib) live owns k c w
     → slice_get owns k ≡ Some own → IsInstalled lib unit grown → (number : ℕ) → number ≡ lib.last + 1 → (new : Live)
     → ((later : List ℕ → List Kind) → AgreeBut (kinds_in lib) later owns k → later (own.packets ++ number ∷ []) ≡ kinds_in lib own.packets ++ c.unit.core.inserted
-    → Stand later new (with_own k (λ o. with_packet number (with_doing (Idle (store_in w)) o)) owns))
-    → (grown ≡ installed unit i lib) × Stand (kinds_in grown) new (with_own k (λ o. with_packet (lib.last + 1) (with_doing (Idle (store_in w)) o)) owns)
+    → Stand later new (with_own k (λ o. with_packet number (with_doing (Idle (tidied (store_in w))) o)) owns))
+    → (grown ≡ installed unit i lib) × Stand (kinds_in grown) new (with_own k (λ o. with_packet (lib.last + 1) (with_doing (Idle (tidied (store_in w))) o)) owns)
 installs_so unit lib grown i owns k own c w whole shows is numbered given live over has (j, showed, made) number next new stands =
     let same : grown ≡ installed unit i lib =
     made ∙ ap (λ (x : Interface). installed unit x lib) (same_Some j i (sym showed ∙ shows)) in (
       same,
-      subst (λ (l : Library). Stand (kinds_in l) new (with_own k (λ o. with_packet (lib.last + 1) (with_doing (Idle (store_in w)) o)) owns)) (sym same)
-          (subst (λ (n : ℕ). Stand (kinds_in (installed unit i lib)) new (with_own k (λ o. with_packet n (with_doing (Idle (store_in w)) o)) owns)) next
+      subst (λ (l : Library). Stand (kinds_in l) new (with_own k (λ o. with_packet (lib.last + 1) (with_doing (Idle (tidied (store_in w))) o)) owns)) (sym same)
+          (subst (λ (n : ℕ). Stand (kinds_in (installed unit i lib)) new (with_own k (λ o. with_packet n (with_doing (Idle (tidied (store_in w))) o)) owns)) next
           (stands (kinds_in (installed unit i lib)) (installed_agrees unit i lib owns k given)
           (ap (λ (n : ℕ). kinds_in (installed unit i lib) (own.packets ++ n ∷ [])) next
           ∙ installed_kinds unit i lib live owns k c w over own has is whole numbered))),

@@ -1,3 +1,4 @@
 pub mod PacketKinds
 pub mod Owns
 pub mod Installing
+pub mod Ending

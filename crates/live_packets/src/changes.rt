@@ -7,7 +7,7 @@ ghost use Rattle.task_tree.specs.Tree as tree;
 ghost use Rattle.elan_names.specs.declared.interface.Interface.{Interface};
 ghost use Rattle.elan_types.specs.Eval.{World};
 ghost use Rattle.task_desk.specs.Desks as desks;
-ghost use Rattle.live_tasks.specs.Below.source_machine.specs.Stores.{Store, heir};
+ghost use Rattle.live_tasks.specs.Below.source_machine.specs.Stores.{Store, heir, tidied};
 ghost use Rattle.live_tasks.specs.Below.source_machine.specs.Tasks.{Command, Own, Idle, Running, now, starting, store_in, with_doing};
 ghost use Rattle.live_tasks.specs.Below.source_machine.specs.Systems.{with_own};
 ghost use Rattle.live_tasks.specs.Below.source_machine.specs.Ends.{number_refusal, without_packets};
@@ -17,6 +17,7 @@ ghost use Rattle.live_tasks.specs.Below.source_machine.specs.Whole.{AreAllGiven,
 ghost use Rattle.live_packets.specs.Packets.{kinds_in};
 ghost use Rattle.live_tasks.specs.Tasks.{Stand, StandOver, most_tasks};
 
+use crate::endings::keep_inserted;
 use crate::packets::{Packets, release_unused};
 use eu_base::{Bytes, List, NoMemory};
 use live_tasks::Tasks;
@@ -52,7 +53,8 @@ pub fn start_unit(
     tasks.start(alloc, place, unit, code)
 }
 
-/// The packet that the command of a task inserted lives under the next number, and is one of the task's.
+/// The packet that the command of a task inserted lives under the next number, and is one of the task's. The data spaces of the task go that
+/// nothing denotes.
 pub fn install(
     alloc: Global,
     packets: &mut Packets,
@@ -65,11 +67,24 @@ pub fn install(
     ensures { OnOk result ((i : Interface) (owns : Lists Own) (own : Own) (c : Command) (w : World) → unit.shown ≡ Some i → c.unit ≡ unit
         → AreNumbered packets.old → AreAllGiven packets.old.last owns → StandOver (kinds_in packets.old) tasks.old owns place c w → slice_get owns place ≡ Some own
         → (packets.new ≡ installed unit i packets.old)
-        × Stand (kinds_in packets.new) tasks.new (with_own place (λ o. with_packet (packets.old.last + 1) (with_doing (Idle (store_in w)) o)) owns)) }
+        × Stand (kinds_in packets.new) tasks.new (with_own place (λ o. with_packet (packets.old.last + 1) (with_doing (Idle (tidied (store_in w))) o)) owns)) }
 {
     let (unit, code) = unit.parts();
-    let number = packets.install(alloc, Unit::of(unit, code))?;
-    tasks.install(place, number)
+    let unit = Unit::of(unit, code);
+    let Some(number) = packets.next() else {
+        unit.let_go();
+        return Err(NoMemory);
+    };
+    match keep_inserted(alloc, tasks, place, number, &unit) {
+        Ok(()) => {
+            packets.install(alloc, unit)?;
+            Ok(())
+        }
+        Err(NoMemory) => {
+            unit.let_go();
+            Err(NoMemory)
+        }
+    }
 }
 
 /// Whether a son of this name can begin under a task.

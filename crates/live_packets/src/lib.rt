@@ -2,10 +2,12 @@
 #![tactic(auto)]
 
 mod changes;
+mod endings;
 mod packets;
 mod place;
 
 pub use changes::{begin_task, can_begin, can_end, install, remove, said_of, start_unit};
+pub use endings::{finish, settle};
 pub use live_tasks::{Tasks, Went};
 pub use packets::{Packets, told};
 pub use place::{last_of, place_of};

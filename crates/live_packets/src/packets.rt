@@ -1,5 +1,5 @@
 //! The live packets, which can be asked whether there is room for one more.
-ghost use Rattle.std.specs.Prelude.{◌≡◌, ◌+◌, ◌<◌, ◌^◌, List, true, is_some, length, IfOk, IfErr, OnOk};
+ghost use Rattle.std.specs.Prelude.{◌≡◌, ◌+◌, ◌<◌, ◌^◌, List, true, is_some, length, IfOk, IfErr, IfSome, OnOk};
 ghost use Rattle.std.specs.List.{list_any};
 ghost use Rattle.live_tasks.specs.Below.elan_check.specs.Packets.{AreCompiled};
 ghost use Rattle.live_tasks.specs.Below.packet_store.specs.Library as libraries;
@@ -69,6 +69,13 @@ impl Packets {
         ensures { result ≡ is_full self.now }
     {
         self.count() >= PACKETS || self.last == u32::MAX
+    }
+
+    /// The number that comes next.
+    pub fn next(&self) -> Option<u32>
+        ensures { IfSome result (λ number. number ≡ self.now.last + 1) }
+    {
+        self.last.checked_add(1)
     }
 
     /// The unit of a text behind the packets with these numbers, or why it is none.

@@ -13,10 +13,10 @@ use Rattle.elan_types.specs.Eval.{World}
 use Rattle.live_packets.specs.Below.packet_store.specs.declared.unit.Compiled.{Compiled}
 use Rattle.live_packets.specs.Below.packet_store.specs.Library.{Library}
 use Rattle.live_packets.specs.Below.task_desk.specs.Desks.{Desk, moment, system}
-use Rattle.live_packets.specs.Below.source_machine.specs.Stores.{Store}
+use Rattle.live_packets.specs.Below.source_machine.specs.Stores.{Store, tidied}
 use Rattle.live_packets.specs.Below.source_machine.specs.Tasks.{Command, Idle, Own, now, store_in, own_variables, settled, with_doing}
 use Rattle.live_packets.specs.Below.source_machine.specs.Systems.{Moment, place, kept, kept_by, with_own, does, on_system}
-use Rattle.live_packets.specs.Below.source_machine.specs.Monitor.{settle, inserted, installed, with_packet, is_full}
+use Rattle.live_packets.specs.Below.source_machine.specs.Monitor.{settle, tidy, inserted, installed, with_packet, is_full}
 use Rattle.live_packets.specs.Below.live_tasks.specs.Tasks.{Live, Stand, StandOver}
 use Rattle.live_packets.specs.Below.live_tasks.proofs.Standing.{with_own_twice}
 use Rattle.live_system.specs.Machines.{Machine, IsMachine, StandsAt, StandsOverAt}
@@ -57,6 +57,19 @@ module _ (desk : Desk) (library : Library) (owns : List Own) (t : TaskNo) (k : �
       ∙ changes desk (installed unit i library) idle t k (with_packet (library.last + 1)) at
       ∙ ap (λ (n : Moment). on_system (inserted t unit i) n) (changes desk library owns t k (with_doing (Idle store)) at)
 
+  -- what nothing denotes goes
+  tidies : (later : List Own) (x : Own) (store : Store) → slice_get later k ≡ Some x → x.doing ≡ Idle store
+      → moment desk library (with_own k (with_doing (Idle (tidied store))) later) ≡ on_system (tidy t) (moment desk library later)
+  tidies later x store there idle =
+      changes desk library later t k (with_doing (Idle (tidied store))) at
+      ∙ ap (λ (s : Store). on_system (does t (Idle (tidied s))) (moment desk library later)) (sym (keeps later x there ∙ ap now idle))
+
+  pub tidied_at : (f : Own → Own) (o : Own) (store : Store) → slice_get owns k ≡ Some o → (f o).doing ≡ Idle store
+      → moment desk library (with_own k (λ x. with_doing (Idle (tidied store)) (f x)) owns) ≡ on_system (tidy t) (moment desk library (with_own k f owns))
+  tidied_at f o store has idle =
+      ap (λ (os : List Own). moment desk library os) (sym (with_own_twice owns k f (with_doing (Idle (tidied store)))))
+      ∙ tidies (with_own k f owns) (f o) store (found_with k f owns o has) idle
+
 -- ---- for every moment
 
 module _ (desk : Desk) (library : Library) (live : Live) (t : TaskNo) (c : Command) (w : World) (m : Moment)
@@ -92,40 +105,45 @@ module _ (desk : Desk) (library : Library) (live : Live) (t : TaskNo) (c : Comma
   }
 
   -- a program
-  pub program : (stop : Option Stop) → c.unit.shown ≡ None → (later : Live) → Stand (kinds_in library) later (with_own h.k (with_doing (Idle (store_in w))) h.owns)
+  pub program : (o : Own) → slice_get h.owns h.k ≡ Some o → (stop : Option Stop) → c.unit.shown ≡ None → (later : Live)
+      → Stand (kinds_in library) later (with_own h.k (with_doing (Idle (tidied (store_in w)))) h.owns)
       → (stop ≡ told_by c.unit.shown stop m) × StandsAt (machine desk library later) (finished stop t c w m)
-  program stop shows later stand =
-      let stands : StandsAt (machine desk library later) (on_system (does t (Idle (store_in w))) m) = record {
-        owns = with_own h.k (with_doing (Idle (store_in w))) h.owns;
+  program o has stop shows later stand =
+      let stands : StandsAt (machine desk library later) (on_system (tidy t) (on_system (does t (Idle (store_in w))) m)) = record {
+        owns = with_own h.k (with_doing (Idle (tidied (store_in w)))) h.owns;
         is =
-            changes desk library h.owns t h.k (with_doing (Idle (store_in w))) (sym h.at)
-            ∙ ap (λ (n : Moment). on_system (does t (Idle (store_in w))) n) h.is;
-        machine = fits_with (with_doing (Idle (store_in w))) (λ o. refl) later;
+            tidied_at desk library h.owns t h.k (sym h.at) (with_doing (Idle (store_in w))) o (store_in w) has refl
+            ∙ ap (λ (n : Moment). on_system (tidy t) n) (changes desk library h.owns t h.k (with_doing (Idle (store_in w))) (sym h.at))
+            ∙ ap (λ (n : Moment). on_system (tidy t) (on_system (does t (Idle (store_in w))) n)) h.is;
+        machine = fits_with (with_doing (Idle (tidied (store_in w)))) (λ x. refl) later;
         stand = stand;
       } in
       subst
-      (λ (s : Option Interface). (stop ≡ told_by s stop m) × StandsAt (machine desk library later) (leaves_by s stop t c (on_system (does t (Idle (store_in w))) m)))
+      (λ (s : Option Interface). (stop ≡ told_by s stop m)
+      × StandsAt (machine desk library later) (on_system (tidy t) (leaves_by s stop t c (on_system (does t (Idle (store_in w))) m))))
       (sym shows) (refl, stands)
 
   -- an insertion that stopped, or for which there is no room
   pub settled_so : (o : Own) → slice_get h.owns h.k ≡ Some o → (stop : Option Stop) (i : Interface) → c.unit.shown ≡ Some i → (told : Stop)
       → Some told ≡ insertion_told stop (is_full library) → (later : Live)
-      → Stand (kinds_in library) later (with_own h.k (with_doing (Idle (settled (own_variables c) (store_in w)))) h.owns)
+      → Stand (kinds_in library) later (with_own h.k (with_doing (Idle (tidied (settled (own_variables c) (store_in w))))) h.owns)
       → (Some told ≡ told_by c.unit.shown stop m) × StandsAt (machine desk library later) (finished stop t c w m)
   settled_so o has stop i shows told is later stand =
-      let stands : StandsAt (machine desk library later) (on_system (settle t (own_variables c)) (on_system (does t (Idle (store_in w))) m)) = record {
-        owns = with_own h.k (with_doing (Idle (settled (own_variables c) (store_in w)))) h.owns;
+      let stands : StandsAt (machine desk library later) (on_system (tidy t) (on_system (settle t (own_variables c)) (on_system (does t (Idle (store_in w))) m))) = record {
+        owns = with_own h.k (with_doing (Idle (tidied (settled (own_variables c) (store_in w))))) h.owns;
         is =
-            settles desk library h.owns t h.k (sym h.at) o has (own_variables c) (store_in w)
-            ∙ ap (λ (n : Moment). on_system (settle t (own_variables c)) (on_system (does t (Idle (store_in w))) n)) h.is;
-        machine = fits_with (with_doing (Idle (settled (own_variables c) (store_in w)))) (λ x. refl) later;
+            tidied_at desk library h.owns t h.k (sym h.at) (with_doing (Idle (settled (own_variables c) (store_in w)))) o
+            (settled (own_variables c) (store_in w)) has refl
+            ∙ ap (λ (n : Moment). on_system (tidy t) n) (settles desk library h.owns t h.k (sym h.at) o has (own_variables c) (store_in w))
+            ∙ ap (λ (n : Moment). on_system (tidy t) (on_system (settle t (own_variables c)) (on_system (does t (Idle (store_in w))) n))) h.is;
+        machine = fits_with (with_doing (Idle (tidied (settled (own_variables c) (store_in w))))) (λ x. refl) later;
         stand = stand;
       } in
       subst
-      (λ (s : Option Interface). (Some told ≡ told_by s stop m) × StandsAt (machine desk library later) (leaves_by s stop t c (on_system (does t (Idle (store_in w))) m)))
+      (λ (s : Option Interface). (Some told ≡ told_by s stop m) × StandsAt (machine desk library later) (on_system (tidy t) (leaves_by s stop t c (on_system (does t (Idle (store_in w))) m))))
       (sym shows) (
         is ∙ ap (λ (b : Bool). insertion_told stop b) full_before,
-        subst (λ (n : Moment). StandsAt (machine desk library later) n)
+        subst (λ (n : Moment). StandsAt (machine desk library later) (on_system (tidy t) n))
             (sym (by stop (is_full (on_system (does t (Idle (store_in w))) m).system.shared.library) (is ∙ ap (λ (b : Bool). insertion_told stop b) full_after)))
             stands,
       )
@@ -143,32 +161,34 @@ module _ (desk : Desk) (library : Library) (live : Live) (t : TaskNo) (c : Comma
       ≡ on_system (inserted t unit i) (on_system (does t (Idle store)) (moment desk library h.owns))
   inserts_at unit i store = inserts desk library h.owns t h.k (sym h.at) unit i store
 
-  pub inserted_so : (stop : Option Stop) (i : Interface) → c.unit.shown ≡ Some i → None ≡ insertion_told stop (is_full library) → (grown : Library)
+  pub inserted_so : (o : Own) → slice_get h.owns h.k ≡ Some o → (stop : Option Stop) (i : Interface) → c.unit.shown ≡ Some i → None ≡ insertion_told stop (is_full library) → (grown : Library)
       → grown ≡ installed c.unit i library → (later : Live)
-      → Stand (kinds_in grown) later (with_own h.k (λ o. with_packet (library.last + 1) (with_doing (Idle (store_in w)) o)) h.owns)
+      → Stand (kinds_in grown) later (with_own h.k (λ x. with_packet (library.last + 1) (with_doing (Idle (tidied (store_in w))) x)) h.owns)
       → (None ≡ told_by c.unit.shown stop m) × StandsAt (machine desk grown later) (finished stop t c w m)
-  inserted_so stop i shows is grown new later stand =
-      let f : Own → Own = λ o. with_packet (library.last + 1) (with_doing (Idle (store_in w)) o) in
-      let stands : StandsAt (machine desk (installed c.unit i library) later) (on_system (inserted t c.unit i) (on_system (does t (Idle (store_in w))) m)) = record {
+  inserted_so o has stop i shows is grown new later stand =
+      let before : Own → Own = λ x. with_packet (library.last + 1) (with_doing (Idle (store_in w)) x) in
+      let f : Own → Own = λ x. with_packet (library.last + 1) (with_doing (Idle (tidied (store_in w))) x) in
+      let stands : StandsAt (machine desk (installed c.unit i library) later) (on_system (tidy t) (on_system (inserted t c.unit i) (on_system (does t (Idle (store_in w))) m))) = record {
         owns = with_own h.k f h.owns;
         is =
-            inserts_at c.unit i (store_in w)
-            ∙ ap (λ (n : Moment). on_system (inserted t c.unit i) (on_system (does t (Idle (store_in w))) n)) h.is;
+            tidied_at desk (installed c.unit i library) h.owns t h.k (sym h.at) before o (store_in w) has refl
+            ∙ ap (λ (n : Moment). on_system (tidy t) n) (inserts_at c.unit i (store_in w))
+            ∙ ap (λ (n : Moment). on_system (tidy t) (on_system (inserted t c.unit i) (on_system (does t (Idle (store_in w))) n))) h.is;
         machine = record {
           as_many = length_with h.k f h.owns ∙ h.machine.as_many;
           given =
-              given_with (library.last + 1) f (λ o g. push_given (library.last + 1) (library.last + 1) (omega arith) o.packets g) h.owns h.k
+              given_with (library.last + 1) f (λ x g. push_given (library.last + 1) (library.last + 1) (omega arith) x.packets g) h.owns h.k
               (all_later library.last (library.last + 1) (omega arith) h.owns h.machine.given);
           numbered = installed_numbered c.unit i library h.machine.numbered;
         };
         stand = subst (λ (lib : Library). Stand (kinds_in lib) later (with_own h.k f h.owns)) new stand;
       } in
       subst
-      (λ (s : Option Interface). (None ≡ told_by s stop m) × StandsAt (machine desk grown later) (leaves_by s stop t c (on_system (does t (Idle (store_in w))) m)))
+      (λ (s : Option Interface). (None ≡ told_by s stop m) × StandsAt (machine desk grown later) (on_system (tidy t) (leaves_by s stop t c (on_system (does t (Idle (store_in w))) m))))
       (sym shows) (
         is ∙ ap (λ (b : Bool). insertion_told stop b) full_before,
-        subst (λ (lib : Library). StandsAt (machine desk lib later) (insertion_leaves stop (is_full idle.system.shared.library) t c i idle)) (sym new)
-            (subst (λ (n : Moment). StandsAt (machine desk (installed c.unit i library) later) n)
+        subst (λ (lib : Library). StandsAt (machine desk lib later) (on_system (tidy t) (insertion_leaves stop (is_full idle.system.shared.library) t c i idle))) (sym new)
+            (subst (λ (n : Moment). StandsAt (machine desk (installed c.unit i library) later) (on_system (tidy t) n))
             (sym (by stop (is_full (on_system (does t (Idle (store_in w))) m).system.shared.library) (is ∙ ap (λ (b : Bool). insertion_told stop b) full_after)))
             stands),
       )
@@ -201,26 +221,28 @@ module _ (desk : Desk) (library : Library) (live : Live) (was : Machine) (is : m
   own_k : (o : Own) × (slice_get h.owns k ≡ Some o)
   own_k = there_is h.owns k (subst (λ (n : ℕ). k < n) over_k.but.as_many low)
 
+  own_there : slice_get h.owns h.k ≡ Some own_k.0
+  own_there = subst (λ (n : ℕ). slice_get h.owns n ≡ Some own_k.0) place_is own_k.1
+
   -- a program
-  pub program_at : unit.shown ≡ None
+  pub program_at : unit.shown ≡ None → (later : Live)
       → ((kinds_of : List ℕ → List Kind) (owns : List Own) (own : Own) (c : Command) (w : World) → StandOver kinds_of live owns k c w → slice_get owns k ≡ Some own
-      → c.unit ≡ unit → Stand kinds_of live (with_own k (with_doing (Idle (store_in w))) owns))
-      → (stop ≡ told_by c.unit.shown stop m) × StandsAt was (finished stop t c w m)
-  program_at shows finishes =
-      let both = program desk library live t c w m h stop (sym (ap (λ (u : Compiled). u.shown) same_unit) ∙ shows) live
-      (subst (λ (n : ℕ). Stand (kinds_in library) live (with_own n (with_doing (Idle (store_in w))) h.owns)) place_is
-      (finishes (kinds_in library) h.owns own_k.0 c w over_k own_k.1 (sym same_unit))) in
-      (both.0, subst (λ (x : Machine). StandsAt x (finished stop t c w m)) is both.1)
+      → c.unit ≡ unit → Stand kinds_of later (with_own k (with_doing (Idle (tidied (store_in w)))) owns))
+      → (stop ≡ told_by c.unit.shown stop m) × StandsAt (machine desk library later) (finished stop t c w m)
+  program_at shows later finishes =
+      program desk library live t c w m h own_k.0 own_there stop (sym (ap (λ (u : Compiled). u.shown) same_unit) ∙ shows) later
+      (subst (λ (n : ℕ). Stand (kinds_in library) later (with_own n (with_doing (Idle (tidied (store_in w)))) h.owns)) place_is
+      (finishes (kinds_in library) h.owns own_k.0 c w over_k own_k.1 (sym same_unit)))
 
   -- an insertion that stopped, or for which there is no room
   pub settled_at : (i : Interface) → unit.shown ≡ Some i → (told : Stop) → Some told ≡ insertion_told stop (is_full library) → (later : Live)
       → ((kinds_of : List ℕ → List Kind) (owns : List Own) (own : Own) (c : Command) (w : World) → StandOver kinds_of live owns k c w → slice_get owns k ≡ Some own
-      → c.unit ≡ unit → Stand kinds_of later (with_own k (with_doing (Idle (settled (own_variables c) (store_in w)))) owns))
+      → c.unit ≡ unit → Stand kinds_of later (with_own k (with_doing (Idle (tidied (settled (own_variables c) (store_in w))))) owns))
       → (Some told ≡ told_by c.unit.shown stop m) × StandsAt (machine desk library later) (finished stop t c w m)
   settled_at i shows told told_is later settles_it =
-      settled_so desk library live t c w m h own_k.0 (subst (λ (n : ℕ). slice_get h.owns n ≡ Some own_k.0) place_is own_k.1) stop i
+      settled_so desk library live t c w m h own_k.0 own_there stop i
       (sym (ap (λ (u : Compiled). u.shown) same_unit) ∙ shows) told told_is later
-      (subst (λ (n : ℕ). Stand (kinds_in library) later (with_own n (with_doing (Idle (settled (own_variables c) (store_in w)))) h.owns)) place_is
+      (subst (λ (n : ℕ). Stand (kinds_in library) later (with_own n (with_doing (Idle (tidied (settled (own_variables c) (store_in w))))) h.owns)) place_is
       (settles_it (kinds_in library) h.owns own_k.0 c w over_k own_k.1 (sym same_unit)))
 
   -- a packet that is installed
@@ -228,13 +250,13 @@ module _ (desk : Desk) (library : Library) (live : Live) (was : Machine) (is : m
       → ((i : Interface) (owns : List Own) (own : Own) (c : Command) (w : World) → unit.shown ≡ Some i → c.unit ≡ unit → AreNumbered library
       → AreAllGiven library.last owns → StandOver (kinds_in library) live owns k c w → slice_get owns k ≡ Some own
       → (grown ≡ installed unit i library)
-      × Stand (kinds_in grown) later (with_own k (λ o. with_packet (library.last + 1) (with_doing (Idle (store_in w)) o)) owns))
+      × Stand (kinds_in grown) later (with_own k (λ o. with_packet (library.last + 1) (with_doing (Idle (tidied (store_in w))) o)) owns))
       → (None ≡ told_by c.unit.shown stop m) × StandsAt (machine desk grown later) (finished stop t c w m)
   inserted_at i shows told_is grown later installs =
       let both = installs i h.owns own_k.0 c w shows (sym same_unit) h.machine.numbered h.machine.given over_k own_k.1 in
-      inserted_so desk library live t c w m h stop i (sym (ap (λ (u : Compiled). u.shown) same_unit) ∙ shows) told_is grown
+      inserted_so desk library live t c w m h own_k.0 own_there stop i (sym (ap (λ (u : Compiled). u.shown) same_unit) ∙ shows) told_is grown
       (both.0 ∙ ap (λ (u : Compiled). installed u i library) same_unit) later
-      (subst (λ (n : ℕ). Stand (kinds_in grown) later (with_own n (λ o. with_packet (library.last + 1) (with_doing (Idle (store_in w)) o)) h.owns)) place_is both.1)
+      (subst (λ (n : ℕ). Stand (kinds_in grown) later (with_own n (λ o. with_packet (library.last + 1) (with_doing (Idle (tidied (store_in w))) o)) h.owns)) place_is both.1)
 
 -- it has a place
 pub none_over : (desk : Desk) (library : Library) (live : Live) (was : Machine) → machine desk library live ≡ was → (t : TaskNo) → IsPlace desk live t None

@@ -6,7 +6,7 @@ use Rattle.elan_names.specs.declared.interface.Interface.{Interface}
 use Rattle.elan_types.specs.Eval.{World}
 use Rattle.live_packets.specs.Below.source_machine.specs.Tasks.{Command, Idle, store_in, own_variables}
 use Rattle.live_packets.specs.Below.source_machine.specs.Systems.{Moment, does, on_system}
-use Rattle.live_packets.specs.Below.source_machine.specs.Monitor.{settle, inserted, is_full}
+use Rattle.live_packets.specs.Below.source_machine.specs.Monitor.{settle, tidy, inserted, is_full}
 use Rattle.live_packets.specs.Packets.{insertion_told}
 
 -- a packet is installed, or its variables go
@@ -19,9 +19,9 @@ abbrev pub leaves_by : Option Interface → Option Stop → TaskNo → Command �
 leaves_by None stop t c m = m
 leaves_by (Some i) stop t c m = insertion_leaves stop (is_full m.system.shared.library) t c i m
 
--- the task is idle, and an insertion has come to its end
+-- the task is idle, an insertion has come to its end, and what nothing denotes of the data spaces is gone
 abbrev pub finished : Option Stop → TaskNo → Command → World → Moment → Moment
-finished stop t c w m = leaves_by c.unit.shown stop t c (on_system (does t (Idle (store_in w))) m)
+finished stop t c w m = on_system (tidy t) (leaves_by c.unit.shown stop t c (on_system (does t (Idle (store_in w))) m))
 
 -- the stop that is told of a command
 abbrev pub told_by : Option Interface → Option Stop → Moment → Option Stop

@@ -21,8 +21,8 @@ use crate::runs::{Finished, Went};
 use crate::system::System;
 use eu_base::{Bytes, NoMemory, Stop};
 use live_packets::{
-    Unit, begin_task, can_begin, can_end, install, last_of, one_reading, place_of, remove, said_of,
-    start_unit, told,
+    Unit, begin_task, can_begin, can_end, finish, install, last_of, one_reading, place_of, remove,
+    said_of, settle, start_unit, told,
 };
 use std::alloc::Global;
 use task_numbers::TaskNo;
@@ -96,8 +96,9 @@ impl System {
             return Ok(stop);
         };
         if is_program(&unit) {
-            self.tasks.finish(place, unit.compiled());
+            let kept = finish(alloc, &mut self.tasks, place, &unit);
             unit.let_go();
+            kept?;
             return Ok(stop);
         }
         match told(&self.packets, stop) {
@@ -106,7 +107,7 @@ impl System {
                 Ok(None)
             }
             Some(stop) => {
-                let settled = self.tasks.settle(alloc, place, unit.compiled());
+                let settled = settle(alloc, &mut self.tasks, place, &unit);
                 unit.let_go();
                 settled?;
                 Ok(Some(stop))

@@ -6,8 +6,8 @@ use Rattle.page_table.specs.Frames.{Frames}
 use Rattle.page_table.proofs.Framing.{agree_same}
 use Rattle.space_memory.specs.Memories.{MemoryData, roots, most_roots, MemoryFrames}
 use Rattle.space_memory.specs.Changes.{frames_before, memory_frames_none}
-use Rattle.task_texts.specs.Below.live_task.specs.declared.task.Task.{Task}
-use Rattle.task_texts.specs.Below.live_task.specs.Stands.{IsSound}
+use Rattle.task_tidy.specs.Below.live_task.specs.declared.task.Task.{Task}
+use Rattle.task_tidy.specs.Below.live_task.specs.Stands.{IsSound}
 use Rattle.live_tasks.specs.Tasks.{IsFit, task_roots}
 use Rattle.live_tasks.proofs.Owning.{joined, agrees_nil}
 use Rattle.live_tasks.proofs.Standing.{low, roots_fit, fits_with, call_fits}

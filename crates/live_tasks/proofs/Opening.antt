@@ -9,9 +9,9 @@ use Rattle.page_table.specs.Frames.{Frames}
 use Rattle.page_table.specs.Sharing.{Agree}
 use Rattle.page_table.proofs.Framing.{nil_agree}
 use Rattle.space_memory.specs.Memories.{most_roots}
-use Rattle.task_texts.specs.Below.live_task.specs.declared.task.Task.{Task}
-use Rattle.task_texts.specs.Below.live_task.specs.Stands.{StandsFor, IsSound}
-use Rattle.task_texts.specs.Below.source_machine.specs.Systems.{new_own}
+use Rattle.task_tidy.specs.Below.live_task.specs.declared.task.Task.{Task}
+use Rattle.task_tidy.specs.Below.live_task.specs.Stands.{StandsFor, IsSound}
+use Rattle.task_tidy.specs.Below.source_machine.specs.Systems.{new_own}
 use Rattle.live_tasks.specs.Tasks.{IsFit, StandIn, task_roots}
 
 module _ (first second : Task) (one : length (task_roots first) ≡ 2) (two : length (task_roots second) ≡ 2)

@@ -9,14 +9,14 @@ use Rattle.page_table.specs.Entries.{Names}
 use Rattle.space_memory.specs.Memories.{most_roots, MemoryFrames}
 use Rattle.space_memory.specs.Changes.{memory_frames_none}
 use Rattle.elan_types.specs.Eval.{World}
-use Rattle.task_texts.specs.Below.source_machine.specs.Tasks.{Command, Own, Idle, store_in, with_doing}
-use Rattle.task_texts.specs.Below.source_machine.specs.Systems.{with_own}
-use Rattle.task_texts.specs.Below.source_machine.specs.Monitor.{with_packet}
-use Rattle.task_texts.specs.Below.live_task.specs.declared.task.Task.{Task}
-use Rattle.task_texts.specs.Below.live_task.specs.Stands.{StandsFor, StandsOver}
-use Rattle.task_texts.specs.Below.live_task.proofs.Installing.{program_over}
-use Rattle.task_texts.specs.Below.packet_store.specs.declared.unit.Compiled.{Compiled}
-use Rattle.task_texts.specs.Below.packet_store.specs.Units.{IsUnit}
+use Rattle.task_tidy.specs.Below.source_machine.specs.Tasks.{Command, Own, Idle, store_in, with_doing}
+use Rattle.task_tidy.specs.Below.source_machine.specs.Systems.{with_own}
+use Rattle.task_tidy.specs.Below.source_machine.specs.Monitor.{with_packet}
+use Rattle.task_tidy.specs.Below.live_task.specs.declared.task.Task.{Task}
+use Rattle.task_tidy.specs.Below.live_task.specs.Stands.{StandsFor, StandsOver}
+use Rattle.task_tidy.specs.Below.live_task.proofs.Installing.{program_over}
+use Rattle.task_tidy.specs.Below.packet_store.specs.declared.unit.Compiled.{Compiled}
+use Rattle.task_tidy.specs.Below.packet_store.specs.Units.{IsUnit}
 use Rattle.live_tasks.specs.Tasks.{Live, IsFit, Stand, StandIn, StandBut, StandOver, AgreeBut, task_roots}
 use Rattle.live_tasks.proofs.Standing.{For, call_puts, with_own_is}
 use Rattle.live_tasks.proofs.Programs.{inserts_none}

@@ -10,11 +10,11 @@ use Rattle.elan_grammar.proofs.GrammarLaws.{one_tree}
 use Rattle.elan_names.specs.declared.interface.Interface.{Interface}
 use Rattle.elan_types.specs.declared.core_phrase.Core.{Core}
 use Rattle.elan_scope.specs.declared.env.Env.{Env}
-use Rattle.task_texts.specs.Below.elan_check.specs.Starts.{is_start, start_core}
-use Rattle.task_texts.specs.Below.elan_check.specs.Text as text
-use Rattle.task_texts.specs.Below.packet_store.specs.declared.unit.Compiled.{Compiled}
-use Rattle.task_texts.specs.Below.packet_store.specs.Meaning.{Means, means}
-use Rattle.task_texts.specs.Below.packet_store.specs.Units.{IsUnit, of_text, of_start, IsShown, shown_by, start_unit, start_unit_of}
+use Rattle.task_tidy.specs.Below.elan_check.specs.Starts.{is_start, start_core}
+use Rattle.task_tidy.specs.Below.elan_check.specs.Text as text
+use Rattle.task_tidy.specs.Below.packet_store.specs.declared.unit.Compiled.{Compiled}
+use Rattle.task_tidy.specs.Below.packet_store.specs.Meaning.{Means, means}
+use Rattle.task_tidy.specs.Below.packet_store.specs.Units.{IsUnit, of_text, of_start, IsShown, shown_by, start_unit, start_unit_of}
 
 none_shown : (env : Env) (t : Tree) → shown_by env t ≡ None → text.inserted env t ≡ []
 none_shown env (trees.Program l) e = refl

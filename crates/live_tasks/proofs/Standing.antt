@@ -15,12 +15,12 @@ use Rattle.space_memory.specs.Memories.{most_roots, StandsWhole, MemoryFrames}
 use Rattle.space_memory.specs.Changes.{frames_before}
 use Rattle.page_table.specs.Sharing.{occ, Agree, most_spaces}
 use Rattle.page_table.proofs.Framing.{agree_same}
-use Rattle.task_texts.specs.Below.source_machine.specs.Tasks.{Own}
-use Rattle.task_texts.specs.Below.source_machine.specs.Systems.{with_own}
-use Rattle.task_texts.specs.Below.source_machine.specs.Ends.{has_packet}
-use Rattle.task_texts.specs.Below.live_task.specs.declared.task.Task.{Task}
-use Rattle.task_texts.specs.Below.live_task.specs.Stands.{StandsFor, IsSound}
-use Rattle.task_texts.specs.Below.live_task.proofs.Carried.{stands_carried}
+use Rattle.task_tidy.specs.Below.source_machine.specs.Tasks.{Own}
+use Rattle.task_tidy.specs.Below.source_machine.specs.Systems.{with_own}
+use Rattle.task_tidy.specs.Below.source_machine.specs.Ends.{has_packet}
+use Rattle.task_tidy.specs.Below.live_task.specs.declared.task.Task.{Task}
+use Rattle.task_tidy.specs.Below.live_task.specs.Stands.{StandsFor, IsSound}
+use Rattle.task_tidy.specs.Below.live_task.proofs.Carried.{stands_carried}
 use Rattle.task_ends.specs.Refused.{RoomFrames, Refused}
 use Rattle.live_tasks.specs.Tasks.{Live, IsFit, StandIn, Stand, StandBut, task_roots, all_roots, most_tasks}
 use Rattle.live_tasks.proofs.Owning.{room_frames, room_memory, joined, grown, not_many, split, stands, whole, agrees, others_same, agrees_refused, all_carried, others_stand}

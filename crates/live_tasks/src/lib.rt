@@ -5,5 +5,5 @@ mod looks;
 mod tasks;
 mod texts;
 
-pub use task_texts::{Source, Went};
+pub use task_tidy::{Source, Went};
 pub use tasks::Tasks;

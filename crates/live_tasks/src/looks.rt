@@ -4,17 +4,17 @@ ghost use Rattle.eu_base.specs.declared.value.Kind.{Kind};
 ghost use Rattle.page_pool.specs.Pool.{Pages};
 ghost use Rattle.source_texts.specs.Sources.{most_lines};
 ghost use Rattle.named_texts.specs.Sources.{source_in, IsShort};
-ghost use Rattle.task_texts.specs.Below.source_machine.specs.Stores.{Store, entering_refusal, space_under};
-ghost use Rattle.task_texts.specs.Below.source_machine.specs.Tasks.{Own, Entering as Enters, now, is_running};
-ghost use Rattle.task_texts.specs.Below.source_machine.specs.Monitor.{directory_of};
-ghost use Rattle.task_texts.specs.Below.source_machine.specs.Supervisor.{spaces_of, state_of};
-ghost use Rattle.task_texts.specs.Doings.{is_idle, is_entering};
+ghost use Rattle.task_tidy.specs.Below.source_machine.specs.Stores.{Store, entering_refusal, space_under};
+ghost use Rattle.task_tidy.specs.Below.source_machine.specs.Tasks.{Own, Entering as Enters, now, is_running};
+ghost use Rattle.task_tidy.specs.Below.source_machine.specs.Monitor.{directory_of};
+ghost use Rattle.task_tidy.specs.Below.source_machine.specs.Supervisor.{spaces_of, state_of};
+ghost use Rattle.task_tidy.specs.Below.task_texts.specs.Doings.{is_idle, is_entering};
 ghost use Rattle.live_tasks.specs.Tasks.{Stand, StandIn, most_tasks};
 
 use crate::tasks::Tasks;
 use eu_base::{Bytes, List, NoMemory, Stop};
 use std::alloc::Global;
-use task_texts::{Source, Task};
+use task_tidy::{Source, Task};
 
 impl Tasks {
     /// Whether a task runs no command, and no text is entered.
@@ -23,7 +23,7 @@ impl Tasks {
         ensures { (kinds_of : Lists ℕ → Lists Kind) (owns : Lists Own) (own : Own) → Stand kinds_of self.now owns → slice_get owns k ≡ Some own →
             result ≡ is_idle own.doing }
     {
-        task_texts::is_idle(&self.tasks[k])
+        task_tidy::is_idle(&self.tasks[k])
     }
 
     /// Whether a text is entered.
@@ -32,7 +32,7 @@ impl Tasks {
         ensures { (kinds_of : Lists ℕ → Lists Kind) (owns : Lists Own) (own : Own) → Stand kinds_of self.now owns → slice_get owns k ≡ Some own →
             result ≡ is_entering own.doing }
     {
-        task_texts::is_entering(&self.tasks[k])
+        task_tidy::is_entering(&self.tasks[k])
     }
 
     /// Whether a task runs a command.
@@ -42,7 +42,7 @@ impl Tasks {
             result ≡ is_running own.doing }
     {
         let task = &self.tasks[k];
-        !task_texts::is_idle(task) && !task_texts::is_entering(task)
+        !task_tidy::is_idle(task) && !task_tidy::is_entering(task)
     }
 
     /// Whether a text is entered that has fewer lines than the most.
@@ -52,7 +52,7 @@ impl Tasks {
             Stand kinds_of self.now owns → slice_get owns k ≡ Some own → own.doing ≡ Enters name lines store →
             result ≡ not (nat_le most_lines (length lines)) }
     {
-        task_texts::has_room(&self.tasks[k])
+        task_tidy::has_room(&self.tasks[k])
     }
 
     /// Why no text can be entered under a name.
@@ -61,7 +61,7 @@ impl Tasks {
         ensures { (kinds_of : Lists ℕ → Lists Kind) (owns : Lists Own) (own : Own) → Stand kinds_of self.now owns → slice_get owns k ≡ Some own →
             result ≡ entering_refusal name.now (now own.doing) }
     {
-        task_texts::entering_refusal(&self.tasks[k], name)
+        task_tidy::entering_refusal(&self.tasks[k], name)
     }
 
     /// The names of the task's directory, in order of entry.
@@ -70,7 +70,7 @@ impl Tasks {
         ensures { IfOk result (λ names. (kinds_of : Lists ℕ → Lists Kind) (owns : Lists Own) (own : Own) → Stand kinds_of self.now owns →
             slice_get owns k ≡ Some own → names ≡ directory_of (now own.doing)) }
     {
-        task_texts::names(alloc, &self.tasks[k])
+        task_tidy::names(alloc, &self.tasks[k])
     }
 
     /// Whether the task is idle, entering, running or waiting, in a word.
@@ -79,7 +79,7 @@ impl Tasks {
         ensures { (kinds_of : Lists ℕ → Lists Kind) (owns : Lists Own) (own : Own) → Stand kinds_of self.now owns → slice_get owns k ≡ Some own →
             result.now ≡ state_of (Some own.doing) }
     {
-        task_texts::state(&self.tasks[k])
+        task_tidy::state(&self.tasks[k])
     }
 
     /// The text of the space under a name; one that is too long is one that memory is wanting for.
@@ -89,7 +89,7 @@ impl Tasks {
             slice_get owns k ≡ Some own → source ≡ source_in (space_under name.now (now own.doing))) }
         ensures short { IfOk result IsShort }
     {
-        task_texts::source_under(alloc, &self.tasks[k], &self.pool, name)
+        task_tidy::source_under(alloc, &self.tasks[k], &self.pool, name)
     }
 
     /// How many data spaces the tasks have, one with another: at most 256.
@@ -110,7 +110,7 @@ fn all_spaces(tasks: &[Task]) -> usize
 {
     let mut count = 0;
     for task in tasks {
-        count += task_texts::spaces(task);
+        count += task_tidy::spaces(task);
     }
     count
 }

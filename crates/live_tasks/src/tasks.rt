@@ -5,21 +5,23 @@ ghost use Rattle.eu_base.specs.declared.value.Kind.{Kind};
 ghost use Rattle.cell_kinds.specs.Kinds.{packet_kinds};
 ghost use Rattle.code_gen.specs.Correct.{Behaves};
 ghost use Rattle.elan_types.specs.Eval.{World};
-ghost use Rattle.task_texts.specs.Below.packet_store.specs.Units.{IsUnit};
-ghost use Rattle.task_texts.specs.Below.source_machine.specs.Stores.{Store, heir};
-ghost use Rattle.task_texts.specs.Below.source_machine.specs.Tasks.{Command, Own, Idle as Idles, Running as Runs, now, starting, request_of, replied, own_variables, settled, store_in, with_doing};
-ghost use Rattle.task_texts.specs.Below.source_machine.specs.Systems.{with_own, new_own};
-ghost use Rattle.task_texts.specs.Below.source_machine.specs.Ends.{has_packet};
-ghost use Rattle.task_texts.specs.Below.source_machine.specs.Monitor.{with_packet};
-ghost use Rattle.task_texts.specs.Below.live_task.specs.Stands.{IsWhole};
+ghost use Rattle.task_tidy.specs.Below.packet_store.specs.Units.{IsUnit};
+ghost use Rattle.task_tidy.specs.Below.source_machine.specs.Stores.{Store, heir, tidied};
+ghost use Rattle.task_tidy.specs.Below.source_machine.specs.Tasks.{Command, Own, Idle as Idles, Running as Runs, now, starting, request_of, replied, own_variables, settled, store_in, with_doing};
+ghost use Rattle.task_tidy.specs.Below.source_machine.specs.Systems.{with_own, new_own};
+ghost use Rattle.task_tidy.specs.Below.source_machine.specs.Ends.{has_packet};
+ghost use Rattle.task_tidy.specs.Below.source_machine.specs.Monitor.{with_packet};
+ghost use Rattle.task_tidy.specs.Below.live_task.specs.Stands.{IsWhole};
+ghost use Rattle.task_tidy.specs.Tidied.{kinds_with};
 ghost use Rattle.live_tasks.specs.Tasks.{Stand, StandOver, AgreeBut, WentOn, HaltedAs, most_tasks};
 
+use cell_kinds::{CellKinds, Packet};
 use code_form::Code;
 use eu_base::{NoMemory, Reply, Request};
 use page_pool::Pool;
 use std::alloc::Global;
 use std::marker::Model;
-use task_texts::{Compiled, Task, Went};
+use task_tidy::{Compiled, Task, Went};
 
 /// All tasks, in the order of the tree, over the pool of their pages.
 #[derive(Drop)]
@@ -31,7 +33,7 @@ pub struct Tasks {
 impl Model for Tasks {
     ghost use Rattle.std.specs.Coded.{codes};
     ghost use Rattle.page_pool.specs.contracts.pool.Pool as pools;
-    ghost use Rattle.task_texts.specs.Below.live_task.specs.contracts.task.Task as one_task;
+    ghost use Rattle.task_tidy.specs.Below.live_task.specs.contracts.task.Task as one_task;
     ghost use Rattle.live_tasks.specs.Tasks.{Live, IsFit};
 
     ghost Value = { Live };
@@ -167,6 +169,24 @@ impl Tasks {
     {
         let task = &mut self.tasks[k];
         task_ends::settle(task, alloc, &mut self.pool, unit)
+    }
+
+    /// A task is idle behind a command: its data spaces go that nothing denotes. The kinds of the variables of its packets are those of these
+    /// packets, and those that stand behind them.
+    pub fn tidy(
+        &mut self,
+        alloc: Global,
+        k: usize,
+        packets: &[Packet],
+        behind: &CellKinds,
+    ) -> Result<(), NoMemory>
+        requires task { k < length self.old.tasks }
+        ensures { OnOk result ((kinds_of : List ℕ → List Kind) (owns : List Own) (own : Own) (store : Store) → Stand kinds_of self.old owns →
+            slice_get owns k ≡ Some own → own.doing ≡ Idles store → kinds_with packets.now behind.now ≡ kinds_of own.packets →
+            Stand kinds_of self.new (with_own k (with_doing (Idles (tidied store))) owns)) }
+    {
+        let task = &mut self.tasks[k];
+        task_tidy::tidy(task, alloc, &mut self.pool, packets, behind)
     }
 
     /// The packet that the command of a task inserted becomes one of its packets, under a number.

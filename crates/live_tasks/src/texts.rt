@@ -4,10 +4,10 @@ ghost use Rattle.eu_base.specs.declared.value.Kind.{Kind};
 ghost use Rattle.space_memory.specs.Memories.{roots, most_roots};
 ghost use Rattle.source_texts.specs.declared.shape.TheConstants.{LONGEST_LINE};
 ghost use Rattle.source_texts.specs.Sources.{most_lines, source_space};
-ghost use Rattle.task_texts.specs.Below.source_machine.specs.Stores.{Store, entering_refusal, with_named};
-ghost use Rattle.task_texts.specs.Below.source_machine.specs.Tasks.{Own, Idle as Idles, Entering as Enters, with_doing};
-ghost use Rattle.task_texts.specs.Below.source_machine.specs.Systems.{with_own};
-ghost use Rattle.task_texts.specs.Doings.{is_entering};
+ghost use Rattle.task_tidy.specs.Below.source_machine.specs.Stores.{Store, entering_refusal, with_named};
+ghost use Rattle.task_tidy.specs.Below.source_machine.specs.Tasks.{Own, Idle as Idles, Entering as Enters, with_doing};
+ghost use Rattle.task_tidy.specs.Below.source_machine.specs.Systems.{with_own};
+ghost use Rattle.task_tidy.specs.Below.task_texts.specs.Doings.{is_entering};
 ghost use Rattle.live_tasks.specs.Tasks.{Stand};
 
 use crate::tasks::Tasks;
@@ -24,7 +24,7 @@ impl Tasks {
             Stand kinds_of self.new (with_own k (with_doing (Enters name.now [] store)) owns)) }
     {
         let task = &mut self.tasks[k];
-        task_texts::enter(alloc, task, name)
+        task_tidy::enter(alloc, task, name)
     }
 
     /// A line comes last in the text that is entered, where it has room; else nothing happens.
@@ -37,7 +37,7 @@ impl Tasks {
             Stand kinds_of self.new (with_own k (with_doing (Enters name (lines ++ line ∷ []) store)) owns)) }
     {
         let task = &mut self.tasks[k];
-        task_texts::add_line(task, line)
+        task_tidy::add_line(task, line)
     }
 
     /// The text that is entered is dropped, and the task is idle; where none is entered, nothing happens.
@@ -50,7 +50,7 @@ impl Tasks {
             is_entering own.doing ≡ false → Stand kinds_of self.new owns }
     {
         let task = &mut self.tasks[k];
-        task_texts::drop_text(task);
+        task_tidy::drop_text(task);
     }
 
     /// The text that is entered ends: it is kept as a space under its name, and the task is idle.
@@ -61,7 +61,7 @@ impl Tasks {
             Stand kinds_of self.new (with_own k (with_doing (Idles (with_named name (source_space lines) store))) owns)) }
     {
         let task = &mut self.tasks[k];
-        let closed = task_texts::close_text(alloc, task, &mut self.pool);
+        let closed = task_tidy::close_text(alloc, task, &mut self.pool);
         has_few(&task.memory);
         closed
     }

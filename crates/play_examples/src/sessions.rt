@@ -285,13 +285,142 @@ pub const ROWS: &str = "\
 # 64 0 0 play
 > 1>begin (\"a\")
 > 1>enter (\"p\")
-> 1>PACKET p DEFINES copy: PROC copy: END PROC copy END PACKET p
+> 1>PACKET p DEFINES send: PROC send: END PROC send END PACKET p
 > 1>.
 > 1>insert (\"p\")
 1:gib kommando :
 1:gib kommando :
 1:FEHLER : kein ELAN-Text
 1:gib kommando :
+# 64 0 0 play
+> 1>begin (\"ben\")
+> 1>BOUND ROW 3 INT VAR marks :: new (\"marks\"); marks [1] := 3; marks [2] := 1
+> 1>BOUND ROW 3 INT VAR marks :: old (\"marks\"); marks [3] := marks [1] + marks [2]; put (marks [3])
+> 1>copy (\"marks\", \"safe\"); forget (\"marks\"); IF exists (\"marks\") THEN put (\"there\") ELSE put (\"gone\") FI
+> *3
+> 1>list
+> 1>BOUND INT VAR wrong :: old (\"safe\")
+> *1
+> .
+1:gib kommando :
+1:gib kommando :
+1,4 
+1:gib kommando :
+1,gone 
+1:gib kommando :
+1:safe
+1:gib kommando :
+1:FEHLER : falscher Datenraumtyp
+1:gib kommando :
+! fixpoint
+# 64 0 0 play
+> 1>begin (\"ben\")
+> 1>DATASPACE VAR d :: nilspace; put (type (d))
+> *1
+> 1^
+> 1>storage info
+> 1>continue (\"ben\")
+> 1>enter (\"p\")
+> 1>PACKET p DEFINES keep, kept: DATASPACE VAR d;
+> 1>PROC keep (INT CONST n): d := nilspace; type (d, n) END PROC keep;
+> 1>INT PROC kept: type (d) END PROC kept END PACKET p
+> 1>.
+> 1>insert (\"p\")
+> *1
+> 1>DATASPACE VAR e :: nilspace, f :: e; BOUND INT VAR b :: new (\"b\"); b := 5; keep (7); keep (8)
+> *1
+> 1^
+> 1>storage info
+> 1>continue (\"ben\")
+> 1>put (kept); BOUND INT VAR b :: old (\"b\"); put (b); forget (\"b\"); put (kept); put (b)
+> *1
+> 1^
+> 1>storage info
+> 1>begin (\"son\", \"ben\")
+> 1>put (kept)
+> *1
+> 1>keep (9); put (kept)
+> *1
+> 1^
+> 1>continue (\"ben\")
+> 1>put (kept); put (1 DIV 0)
+> *1
+> 1^
+> 1>storage info
+> .
+1:gib kommando :
+1,0 
+1:gib kommando :
+1:gib supervisor kommando :
+1:Tasks 3 Datenraeume 0 Pakete 0
+1:gib supervisor kommando :
+1:gib kommando :
+1:gib kommando :
+1:gib kommando :
+1:gib kommando :
+1:gib supervisor kommando :
+1:Tasks 3 Datenraeume 3 Pakete 1
+1:gib supervisor kommando :
+1:gib kommando :
+1,8 5 8 
+1:FEHLER : Datenraum existiert nicht
+1:gib kommando :
+1:gib supervisor kommando :
+1:Tasks 3 Datenraeume 2 Pakete 1
+1:gib supervisor kommando :
+1:gib kommando :
+1:FEHLER : Datenraum existiert nicht
+1:gib kommando :
+1,9 
+1:gib kommando :
+1:gib supervisor kommando :
+1:gib kommando :
+1,8 
+1:FEHLER : Division durch 0
+1:gib kommando :
+1:gib supervisor kommando :
+1:Tasks 4 Datenraeume 3 Pakete 1
+1:gib supervisor kommando :
+! fixpoint
+# 64 0 0 play
+> 1>begin (\"ben\")
+> 1>INT VAR i; FOR i UPTO 12 REP DATASPACE VAR d :: nilspace PER; put (i); DATASPACE VAR e :: nilspace
+> 1>INT VAR i; FOR i UPTO 20 REP DATASPACE VAR d := new (text (i)) PER
+> 1>ROW 3 INT VAR r; INT PROC p (INT CONST n): DATASPACE VAR d :: nilspace; type (d, n); IF n > 0 THEN p (n - 1) + 1 ELSE 0 FI END PROC p; put (p (15)); put (p (14))
+> *3
+> 1^
+> 1>storage info
+> 1>continue (\"ben\")
+> 1>list
+> .
+1:gib kommando :
+1,12 
+1:gib kommando :
+1:FEHLER : zu viele Datenraeume
+1:gib kommando :
+1:FEHLER : zu viele Datenraeume
+1:gib kommando :
+1:gib supervisor kommando :
+1:Tasks 3 Datenraeume 15 Pakete 0
+1:gib supervisor kommando :
+1:gib kommando :
+1:1
+1:2
+1:3
+1:4
+1:5
+1:6
+1:7
+1:8
+1:9
+1:10
+1:11
+1:12
+1:13
+1:14
+1:15
+1:gib kommando :
+! fixpoint
 ";
 
 /// What the supervisor answers.

@@ -25,7 +25,7 @@ use Rattle.refusals.specs.Below.packet_store.specs.Library.{Library, env_of}
 use Rattle.refusals.specs.Refusals.{refusal_text}
 use Rattle.source_texts.specs.Spaces.{Space}
 use Rattle.source_texts.specs.Sources.{most_lines, source_space, source_text}
-use Rattle.source_machine.specs.Stores.{Store, last_number, space_under, with_named, entering_refusal}
+use Rattle.source_machine.specs.Stores.{Store, last_number, space_under, with_named, entering_refusal, tidied}
 use Rattle.source_machine.specs.Tasks.{Command, Doing, Idle, Entering, Running, Own, starting, store_in, settled, own_variables}
 use Rattle.source_machine.specs.Systems.{System, Moment, doing, runs, kept, packets, does, changed, sharing, on_system, on_channels, back, tell, prompt}
 
@@ -89,6 +89,10 @@ stop_told stop = codes "FEHLER : " ++ stop_text stop
 -- the variables of a packet that was inserted are gone
 abbrev pub settle : TaskNo → ℕ → System → System
 settle t n s = does t (Idle (settled n (kept t s))) s
+
+-- the data spaces that nothing denotes are forgotten
+abbrev pub tidy : TaskNo → System → System
+tidy t s = does t (Idle (tidied (kept t s))) s
 
 abbrev pub is_full : Library → Bool
 is_full lib = if nat_le PACKETS (length lib.live) then true else nat_le last_number lib.last
@@ -178,14 +182,18 @@ module _ (read : Env → Bool → List ℕ → Reading) where
   rested_with None t m = rested t m
   rested_with (Some stop) t m = rested t (tell t (stop_told stop) m)
 
+  -- what nothing denotes any more goes before
+  abbrev pub tidied_then : Option Stop → TaskNo → Moment → Moment
+  tidied_then stop t m = rested_with stop t (on_system (tidy t) m)
+
   abbrev pub insertion_over : Option Stop → Bool → TaskNo → Command → Interface → Moment → Moment
-  insertion_over (Some stop) full t c i m = rested_with (Some stop) t (on_system (settle t (own_variables c)) m)
-  insertion_over None true t c i m = rested_with (Some ManyPackets) t (on_system (settle t (own_variables c)) m)
-  insertion_over None false t c i m = rested t (on_system (inserted t c.unit i) m)
+  insertion_over (Some stop) full t c i m = tidied_then (Some stop) t (on_system (settle t (own_variables c)) m)
+  insertion_over None true t c i m = tidied_then (Some ManyPackets) t (on_system (settle t (own_variables c)) m)
+  insertion_over None false t c i m = tidied_then None t (on_system (inserted t c.unit i) m)
 
   -- a command has ended, or stopped
   abbrev pub over_as : Option Interface → Option Stop → TaskNo → Command → Moment → Moment
-  over_as None stop t c m = rested_with stop t m
+  over_as None stop t c m = tidied_then stop t m
   over_as (Some i) stop t c m = insertion_over stop (is_full m.system.shared.library) t c i m
 
   abbrev pub over : TaskNo → Command → Option Stop → World → Moment → Moment

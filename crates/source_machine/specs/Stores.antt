@@ -1,12 +1,15 @@
 -- What a task keeps for itself: the values of the variables of its packets, and its data spaces with names for them.
-use Rattle.std.specs.Prelude.{ℕ, ◌&&◌, not, is_none, nat_le, if◌then◌else◌, List, [], length, Option, Some, None, option_and_then}
+use Rattle.std.specs.Prelude.{ℕ, Bool, false, ◌&&◌, ◌||◌, ◌==◌, not, is_none, nat_le, if◌then◌else◌, List, [], length, Option, Some, None, option_and_then}
+use Rattle.std.specs.List.{list_any, filter}
 use Rattle.task_numbers.specs.declared.number.SpaceNo.{SpaceNo}
 use Rattle.eu_base.specs.declared.stop.Stop.{Stop}
 use Rattle.eu_base.specs.declared.stop.Stop.TheVariants.{BadName, ManySpaces, SpaceNumbers}
+use Rattle.eu_base.specs.declared.value.Value.TheVariants as values
+use Rattle.eu_base.specs.Room.{cells_fit}
 use Rattle.eu_base.specs.DataSpaces.{Space, Spaces, no_spaces, living, next_number, under, with_new, with_name, without_space}
 pub use Rattle.eu_base.specs.DataSpaces.{most_live, last_number}
 pub use Rattle.eu_base.specs.SpaceOperations.{is_name}
-use Rattle.elan_types.specs.Eval.{Slot}
+use Rattle.elan_types.specs.Eval.{Slot, Holds}
 
 -- the variables of the packets, one after another; the data spaces and the directory
 pub record Store : Type 0 where
@@ -45,3 +48,22 @@ entering_refusal name store =
     else if nat_le most_live (length store.spaces.live) && is_none (under name store.spaces) then Some ManySpaces
     else if nat_le last_number store.spaces.last then Some SpaceNumbers
     else None
+
+-- ---- spaces that nothing denotes
+
+-- a variable denotes the data space with this number
+abbrev pub denotes : ℕ → Slot → Bool
+denotes n (Holds (values.Space (Some s))) = s.0 == n
+denotes n _ = false
+
+-- some variable does, or a name
+abbrev pub is_used : ℕ → Store → Bool
+is_used n store = list_any (denotes n) store.variables || list_any (λ entry. entry.1.0 == n) store.spaces.names
+
+abbrev pub only_used : Store → Spaces
+only_used store = record store.spaces { live = filter (λ e. is_used e.0 store) store.spaces.live }
+
+-- Without those that nothing denotes. Variables that have no room have no cells, and what they denote is not known: then all stay. No command
+-- that ends leaves so many.
+abbrev pub tidied : Store → Store
+tidied store = if cells_fit (length store.variables) then record store { spaces = only_used store } else store

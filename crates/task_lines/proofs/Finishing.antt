@@ -8,7 +8,7 @@ use Rattle.elan_types.specs.Eval.{World}
 use Rattle.live_system.specs.Below.packet_store.specs.Library.{Library}
 use Rattle.live_system.specs.Below.source_machine.specs.Tasks.{Command, Idle, Own, store_in, with_doing}
 use Rattle.live_system.specs.Below.source_machine.specs.Systems.{System, Moment, place, changed_at, does, on_system}
-use Rattle.live_system.specs.Below.source_machine.specs.Monitor.{Reading, is_full, rested_with, insertion_over, over_as, over}
+use Rattle.live_system.specs.Below.source_machine.specs.Monitor.{Reading, is_full, tidy, rested_with, insertion_over, over_as, over}
 use Rattle.live_system.specs.Below.live_packets.specs.Packets.{insertion_told}
 use Rattle.live_system.specs.Finishing.{insertion_leaves, leaves_by, finished, told_by}
 use Rattle.live_system.specs.Machines.{Machine, StandsAt}
@@ -25,13 +25,13 @@ module _ (read : Env → Bool → List ℕ → Reading) (t : TaskNo) where
 
 module _ (read : Env → Bool → List ℕ → Reading) (t : TaskNo) (c : Command) where
   insertion_cut : (stop : Option Stop) (full : Bool) (i : Interface) (m : Moment) →
-      insertion_over read stop full t c i m ≡ rested_with read (insertion_told stop full) t (insertion_leaves stop full t c i m)
+      insertion_over read stop full t c i m ≡ rested_with read (insertion_told stop full) t (on_system (tidy t) (insertion_leaves stop full t c i m))
   insertion_cut (Some stop) full i m = refl
   insertion_cut None true i m = refl
   insertion_cut None false i m = refl
 
   over_cut : (shown : Option Interface) (stop : Option Stop) (m : Moment) →
-      over_as read shown stop t c m ≡ rested_with read (told_by shown stop m) t (leaves_by shown stop t c m)
+      over_as read shown stop t c m ≡ rested_with read (told_by shown stop m) t (on_system (tidy t) (leaves_by shown stop t c m))
   over_cut None stop m = refl
   over_cut (Some i) stop m = insertion_cut stop (is_full m.system.shared.library) i m
 
@@ -46,7 +46,7 @@ module _ (read : Env → Bool → List ℕ → Reading) (t : TaskNo) (c : Comman
   is_over stop w m =
       let idle = on_system (does t (Idle (store_in w))) m in
       over_cut c.unit.shown stop idle
-      ∙ ap (λ (told : Option Stop). rested_with read told t (leaves_by c.unit.shown stop t c idle))
+      ∙ ap (λ (told : Option Stop). rested_with read told t (on_system (tidy t) (leaves_by c.unit.shown stop t c idle)))
       (told_same c.unit.shown stop idle m (same_library (place t m.system) (with_doing (Idle (store_in w))) m.system))
 
   pub over_stands : (middle new : Machine) (stop told : Option Stop) (w : World) (m : Moment) →

@@ -10,7 +10,7 @@ mod refuse;
 pub use close::close_text;
 pub use doing::{is_entering, is_idle};
 pub use entering::{add_line, drop_text, enter, has_room};
-pub use live_task::{Compiled, Task, Went};
+pub use live_task::{Compiled, Doing, Task, Went};
 pub use look::{names, source_under, spaces, state};
 pub use named_texts::Source;
 pub use refuse::entering_refusal;

@@ -62,7 +62,8 @@ fn may_show_name(denotes: &Denotes) -> Option<bool>
 {
     match denotes {
         Denotes::Constant(_) | Denotes::Procedure => Some(true),
-        Denotes::Variable(_) | Denotes::Parameter(_) | Denotes::Denoter(_) => Some(false),
+        Denotes::Variable(_) | Denotes::Bound(_) => Some(false),
+        Denotes::Parameter(_) | Denotes::Denoter(_) => Some(false),
         Denotes::Refinement => None,
     }
 }

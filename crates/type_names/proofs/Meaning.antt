@@ -13,7 +13,7 @@ use Rattle.elan_types.specs.declared.elan_type.ElanType.TheOpen.{Row, Struct, Ow
 use Rattle.elan_types.specs.declared.elan_type.ElanType.TheViews.{out-roll-ElanType}
 use Rattle.elan_types.specs.declared.elan_type.FieldType.{FieldType}
 use Rattle.elan_types.specs.Types.{open_here, is_open, is_too_large}
-use Rattle.elan_types.proofs.Types.{int_closed, bool_closed, text_closed, task_closed, open_open}
+use Rattle.elan_types.proofs.Types.{int_closed, bool_closed, text_closed, task_closed, dataspace_closed, open_open}
 use Rattle.elan_types.specs.declared.why.Why.TheVariants.{TooLarge}
 use Rattle.elan_tree.specs.declared.tree.Refinement.{Refinement}
 use Rattle.elan_tree.specs.declared.written_type.Name.{Name}
@@ -200,7 +200,7 @@ is_unknown (Some named.Other) = false
 
 module _ (l m : Looks) (less : (x : List ℕ) → is_unknown (l x) ≡ false → l x ≡ m x) where
   abbrev Keeps : TypePhrase → Type 0
-  Keeps of = is_open (meant l of) ≡ false → meant l of ≡ meant m of
+  Keeps of = (inside : Bool) → is_open (meant l of inside) ≡ false → meant l of inside ≡ meant m of inside
 
   abbrev FieldKeeps : Field → Type 0
   FieldKeeps f = any_open (fields_meant l f) ≡ false → fields_meant l f ≡ fields_meant m f
@@ -258,27 +258,27 @@ module _ (l m : Looks) (less : (x : List ℕ) → is_unknown (l x) ≡ false →
       let p = opens_both (fields_meant l f.0) (meant_all l fs) e in
       ap (λ (gs : List FieldType). gs ++ meant_all l fs) (f.1 p.0) ∙ ap (λ (gs : List FieldType). fields_meant m f.0 ++ gs) (fields_kept fs p.1)
 
-  kept_here : (y : TypePhrase-F Kept FieldKept)
-      → is_open (meant_step l (map-TypePhrase _ _ _ _ (meant l) (fields_meant l) (map-TypePhrase _ _ _ _ (λ e. e.0) (λ e. e.0) y))) ≡ false
-      → meant_step l (map-TypePhrase _ _ _ _ (meant l) (fields_meant l) (map-TypePhrase _ _ _ _ (λ e. e.0) (λ e. e.0) y))
-      ≡ meant_step m (map-TypePhrase _ _ _ _ (meant m) (fields_meant m) (map-TypePhrase _ _ _ _ (λ e. e.0) (λ e. e.0) y))
-  kept_here (phrase.Int at) e = refl
-  kept_here (phrase.Bool at) e = refl
-  kept_here (phrase.Text at) e = refl
-  kept_here (phrase.Task at) e = refl
-  kept_here (phrase.Dataspace at) e = refl
-  kept_here (phrase.Named n) e = name_kept n.text e
-  kept_here (phrase.Row at size of) e =
-      let p = row_parts (size_of l size) (meant l of.0) e in
-      ap (λ (s : Option ℕ). row_of s (meant l of.0)) (size_kept size p.0 p.1) ∙ ap (row_of (size_of m size)) (of.1 p.2)
-  kept_here (phrase.Struct at fs) e = ap structure_of (fields_kept fs (structure_parts (meant_all l fs) e))
+  kept_here : (y : TypePhrase-F Kept FieldKept) (inside : Bool)
+      → is_open (meant_step l (map-TypePhrase _ _ _ _ (meant l) (fields_meant l) (map-TypePhrase _ _ _ _ (λ e. e.0) (λ e. e.0) y)) inside) ≡ false
+      → meant_step l (map-TypePhrase _ _ _ _ (meant l) (fields_meant l) (map-TypePhrase _ _ _ _ (λ e. e.0) (λ e. e.0) y)) inside
+      ≡ meant_step m (map-TypePhrase _ _ _ _ (meant m) (fields_meant m) (map-TypePhrase _ _ _ _ (λ e. e.0) (λ e. e.0) y)) inside
+  kept_here (phrase.Int at) inside e = refl
+  kept_here (phrase.Bool at) inside e = refl
+  kept_here (phrase.Text at) inside e = refl
+  kept_here (phrase.Task at) inside e = refl
+  kept_here (phrase.Dataspace at) inside e = refl
+  kept_here (phrase.Named n) inside e = name_kept n.text e
+  kept_here (phrase.Row at size of) inside e =
+      let p = row_parts (size_of l size) (meant l of.0 true) e in
+      ap (λ (s : Option ℕ). row_of s (meant l of.0 true)) (size_kept size p.0 p.1) ∙ ap (row_of (size_of m size)) (of.1 true p.2)
+  kept_here (phrase.Struct at fs) inside e = ap structure_of (fields_kept fs (structure_parts (meant_all l fs) e))
 
-  field_kept_here : (of : Kept) (ns : List Name) → any_open (named_alike (meant l of.0) ns) ≡ false
-      → named_alike (meant l of.0) ns ≡ named_alike (meant m of.0) ns
+  field_kept_here : (of : Kept) (ns : List Name) → any_open (named_alike (meant l of.0 true) ns) ≡ false
+      → named_alike (meant l of.0 true) ns ≡ named_alike (meant m of.0 true) ns
   field_kept_here of [] e = refl
   field_kept_here of (n ∷ ns) e =
-      let p = neither (is_open (meant l of.0)) (any_open (named_alike (meant l of.0) ns)) e in
-      ap (λ (u : ElanType). named_alike u (n ∷ ns)) (of.1 p.0)
+      let p = neither (is_open (meant l of.0 true)) (any_open (named_alike (meant l of.0 true) ns)) e in
+      ap (λ (u : ElanType). named_alike u (n ∷ ns)) (of.1 true p.0)
 
   abbrev KeepsAs : ElanType → ElanType → Type 0
   KeepsAs t u = is_open t ≡ false → t ≡ u
@@ -286,21 +286,22 @@ module _ (l m : Looks) (less : (x : List ℕ) → is_unknown (l x) ≡ false →
   abbrev FieldKeepsAs : List FieldType → List FieldType → Type 0
   FieldKeepsAs fs gs = any_open fs ≡ false → fs ≡ gs
 
-  pub meant_kept : (of : TypePhrase) → is_open (meant l of) ≡ false → meant l of ≡ meant m of
+  pub meant_kept : (of : TypePhrase) (inside : Bool) → is_open (meant l of inside) ≡ false → meant l of inside ≡ meant m of inside
   meant_kept =
       ind-TypePhrase Keeps FieldKeeps
       (λ x y is.
       let z = map-TypePhrase _ _ _ _ (λ e. e.0) (λ e. e.0) y in
-      rw (← is) (subst (λ (t : ElanType). KeepsAs t (meant m (roll-TypePhrase z)))
-      (sym (fold-roll-TypePhrase ElanType (List FieldType) (meant_step l) (fields_step l) z))
-      (subst (λ (t : ElanType). KeepsAs (meant_step l (map-TypePhrase _ _ _ _ (meant l) (fields_meant l) z)) t)
-      (sym (fold-roll-TypePhrase ElanType (List FieldType) (meant_step m) (fields_step m) z)) (kept_here y))))
+      rw (← is) (λ inside.
+      subst (λ (t : Bool → ElanType). KeepsAs (t inside) (meant m (roll-TypePhrase z) inside))
+      (sym (fold-roll-TypePhrase (Bool → ElanType) (List FieldType) (meant_step l) (fields_step l) z))
+      (subst (λ (t : Bool → ElanType). KeepsAs (meant_step l (map-TypePhrase _ _ _ _ (meant l) (fields_meant l) z) inside) (t inside))
+      (sym (fold-roll-TypePhrase (Bool → ElanType) (List FieldType) (meant_step m) (fields_step m) z)) (kept_here y inside))))
       (λ x y is.
       let z = map-Field _ _ _ _ (λ e. e.0) (λ e. e.0) y in
       rw (← is) (subst (λ (fs : List FieldType). FieldKeepsAs fs (fields_meant m (roll-Field z)))
-      (sym (fold-roll-Field ElanType (List FieldType) (meant_step l) (fields_step l) z))
-      (subst (λ (gs : List FieldType). FieldKeepsAs (named_alike (meant l y.of.0) y.names) gs)
-      (sym (fold-roll-Field ElanType (List FieldType) (meant_step m) (fields_step m) z)) (field_kept_here y.of y.names))))
+      (sym (fold-roll-Field (Bool → ElanType) (List FieldType) (meant_step l) (fields_step l) z))
+      (subst (λ (gs : List FieldType). FieldKeepsAs (named_alike (meant l y.of.0 true) y.names) gs)
+      (sym (fold-roll-Field (Bool → ElanType) (List FieldType) (meant_step m) (fields_step m) z)) (field_kept_here y.of y.names))))
 
 -- ---- what breaks no rule has a meaning, or a name in it has none
 
@@ -402,7 +403,7 @@ module _ (seen : List TypeName) (rs : List Refinement) (l : Looks) (less : (x : 
   judged_texts : (f : Field) → texts (judged_fields seen rs f).fields ≡ texts_of (judged_fields seen rs f).names
   judged_texts f =
       let Alike : JudgedFields → Type 0 = λ j. texts j.fields ≡ texts_of j.names in
-      subst Alike (sym (field_is seen rs f)) (texts_alike (judged seen rs f.of).of f.names)
+      subst Alike (sym (field_is seen rs f)) (texts_alike (judged seen rs f.of true).of f.names)
 
   fields_apart : (earlier : List (List ℕ)) (fs : List Field) → fields_faults earlier (judge fs) ≡ []
       → doubled_from earlier (texts (all_fields (judge fs))) ≡ false
@@ -425,7 +426,7 @@ module _ (seen : List TypeName) (rs : List Refinement) (l : Looks) (less : (x : 
   FieldsMeanAs j fs gs xs = j.faults ≡ [] → FieldsMean fs gs ⊎ Found seen l xs
 
   abbrev IsMeant : TypePhrase → Type 0
-  IsMeant of = MeansAs (judged seen rs of) (meant l of) (meant all of) (named_in of)
+  IsMeant of = (inside : Bool) → MeansAs (judged seen rs of inside) (meant l of inside) (meant all of inside) (named_in of)
 
   abbrev AreMeant : Field → Type 0
   AreMeant f = FieldsMeanAs (judged_fields seen rs f) (fields_meant l f) (fields_meant all f) (named_in_field f)
@@ -437,23 +438,23 @@ module _ (seen : List TypeName) (rs : List Refinement) (l : Looks) (less : (x : 
   Are = (f : Field) × AreMeant f
 
   row_is_meant : (at : ℕ) (s : Size) (of : Is)
-      → (row_fault at (size_of all s) (judged seen rs of.0).of ++ size_faults seen rs s) ++ (judged seen rs of.0).faults ≡ []
-      → Means (row_of (size_of l s) (meant l of.0)) (row_of (size_of all s) (meant all of.0)) ⊎ Found seen l (named_in of.0)
+      → (row_fault at (size_of all s) (judged seen rs of.0 true).of ++ size_faults seen rs s) ++ (judged seen rs of.0 true).faults ≡ []
+      → Means (row_of (size_of l s) (meant l of.0 true)) (row_of (size_of all s) (meant all of.0 true)) ⊎ Found seen l (named_in of.0)
   row_is_meant at s of e =
-      let p = none_both (row_fault at (size_of all s) (judged seen rs of.0).of ++ size_faults seen rs s) (judged seen rs of.0).faults e in
-      let q = none_both (row_fault at (size_of all s) (judged seen rs of.0).of) (size_faults seen rs s) p.0 in
+      let p = none_both (row_fault at (size_of all s) (judged seen rs of.0 true).of ++ size_faults seen rs s) (judged seen rs of.0 true).faults e in
+      let q = none_both (row_fault at (size_of all s) (judged seen rs of.0 true).of) (size_faults seen rs s) p.0 in
       let k = size_means s q.1 in
-      let fault : row_fault at (Some k.0) (meant all of.0) ≡ [] =
-      sym (ap (λ (n : Option ℕ). row_fault at n (meant all of.0)) k.2) ∙ sym (ap (row_fault at (size_of all s)) (judged_type seen rs of.0)) ∙ q.0 in
-      elim (of.1 p.1) [
+      let fault : row_fault at (Some k.0) (meant all of.0 true) ≡ [] =
+      sym (ap (λ (n : Option ℕ). row_fault at n (meant all of.0 true)) k.2) ∙ sym (ap (row_fault at (size_of all s)) (judged_type seen rs of.0 true)) ∙ q.0 in
+      elim (of.1 true p.1) [
         | inl m ↦
-            (let shut : is_open (meant all of.0) ≡ false = sym (ap is_open m.same) ∙ m.closed in
-            let row : row_of (Some k.0) (meant all of.0) ≡ types.Row k.0 (meant all of.0) = row_means at k.0 (meant all of.0) shut fault in
-            let same : row_of (size_of l s) (meant l of.0) ≡ row_of (Some k.0) (meant all of.0) =
-            ap (λ (n : Option ℕ). row_of n (meant l of.0)) k.1 ∙ ap (row_of (Some k.0)) m.same in
+            (let shut : is_open (meant all of.0 true) ≡ false = sym (ap is_open m.same) ∙ m.closed in
+            let row : row_of (Some k.0) (meant all of.0 true) ≡ types.Row k.0 (meant all of.0 true) = row_means at k.0 (meant all of.0 true) shut fault in
+            let same : row_of (size_of l s) (meant l of.0 true) ≡ row_of (Some k.0) (meant all of.0 true) =
+            ap (λ (n : Option ℕ). row_of n (meant l of.0 true)) k.1 ∙ ap (row_of (Some k.0)) m.same in
             inl (record {
-              same = same ∙ sym (ap (λ (n : Option ℕ). row_of n (meant all of.0)) k.2);
-              closed = ap is_open (same ∙ row) ∙ row_closed k.0 (meant all of.0);
+              same = same ∙ sym (ap (λ (n : Option ℕ). row_of n (meant all of.0 true)) k.2);
+              closed = ap is_open (same ∙ row) ∙ row_closed k.0 (meant all of.0 true);
             }))
         | inr f ↦ inr f
       ]
@@ -504,25 +505,26 @@ module _ (seen : List TypeName) (rs : List Refinement) (l : Looks) (less : (x : 
         | inr g ↦ inr g
       ]
 
-  is_meant_here : (y : TypePhrase-F Is Are)
-      → MeansAs (judged_step seen rs (map-TypePhrase _ _ _ _ (judged seen rs) (judged_fields seen rs) (map-TypePhrase _ _ _ _ (λ e. e.0) (λ e. e.0) y)))
-      (meant_step l (map-TypePhrase _ _ _ _ (meant l) (fields_meant l) (map-TypePhrase _ _ _ _ (λ e. e.0) (λ e. e.0) y)))
-      (meant_step all (map-TypePhrase _ _ _ _ (meant all) (fields_meant all) (map-TypePhrase _ _ _ _ (λ e. e.0) (λ e. e.0) y)))
+  is_meant_here : (y : TypePhrase-F Is Are) (inside : Bool)
+      → MeansAs (judged_step seen rs (map-TypePhrase _ _ _ _ (judged seen rs) (judged_fields seen rs) (map-TypePhrase _ _ _ _ (λ e. e.0) (λ e. e.0) y)) inside)
+      (meant_step l (map-TypePhrase _ _ _ _ (meant l) (fields_meant l) (map-TypePhrase _ _ _ _ (λ e. e.0) (λ e. e.0) y)) inside)
+      (meant_step all (map-TypePhrase _ _ _ _ (meant all) (fields_meant all) (map-TypePhrase _ _ _ _ (λ e. e.0) (λ e. e.0) y)) inside)
       (named_step (map-TypePhrase _ _ _ _ named_in named_in_field (map-TypePhrase _ _ _ _ (λ e. e.0) (λ e. e.0) y)))
-  is_meant_here (phrase.Int at) e = inl (record { same = refl; closed = int_closed })
-  is_meant_here (phrase.Bool at) e = inl (record { same = refl; closed = bool_closed })
-  is_meant_here (phrase.Text at) e = inl (record { same = refl; closed = text_closed })
-  is_meant_here (phrase.Task at) e = inl (record { same = refl; closed = task_closed })
-  is_meant_here (phrase.Dataspace at) e = absurd cc
-  is_meant_here (phrase.Named n) e = name_means n e
-  is_meant_here (phrase.Row at s of) e = row_is_meant at s of e
-  is_meant_here (phrase.Struct at fs) e = structure_is_meant at fs e
+  is_meant_here (phrase.Int at) inside e = inl (record { same = refl; closed = int_closed })
+  is_meant_here (phrase.Bool at) inside e = inl (record { same = refl; closed = bool_closed })
+  is_meant_here (phrase.Text at) inside e = inl (record { same = refl; closed = text_closed })
+  is_meant_here (phrase.Task at) inside e = inl (record { same = refl; closed = task_closed })
+  is_meant_here (phrase.Dataspace at) true e = absurd cc
+  is_meant_here (phrase.Dataspace at) false e = inl (record { same = refl; closed = dataspace_closed })
+  is_meant_here (phrase.Named n) inside e = name_means n e
+  is_meant_here (phrase.Row at s of) inside e = row_is_meant at s of e
+  is_meant_here (phrase.Struct at fs) inside e = structure_is_meant at fs e
 
-  are_meant_here : (of : Is) (ns : List Name) → (judged seen rs of.0).faults ≡ []
-      → FieldsMean (named_alike (meant l of.0) ns) (named_alike (meant all of.0) ns) ⊎ Found seen l (named_in of.0)
+  are_meant_here : (of : Is) (ns : List Name) → (judged seen rs of.0 true).faults ≡ []
+      → FieldsMean (named_alike (meant l of.0 true) ns) (named_alike (meant all of.0 true) ns) ⊎ Found seen l (named_in of.0)
   are_meant_here of ns e =
-      elim (of.1 e) [
-        | inl m ↦ inl (record { same = ap (λ (t : ElanType). named_alike t ns) m.same; closed = alike_closed (meant l of.0) ns m.closed })
+      elim (of.1 true e) [
+        | inl m ↦ inl (record { same = ap (λ (t : ElanType). named_alike t ns) m.same; closed = alike_closed (meant l of.0 true) ns m.closed })
         | inr g ↦ inr g
       ]
 
@@ -537,18 +539,21 @@ module _ (seen : List TypeName) (rs : List Refinement) (l : Looks) (less : (x : 
       subst (λ (a : JudgedFields). FieldsMeanAs a t v xs) (sym e) (subst (λ (a : List FieldType). FieldsMeanAs j a v xs) (sym f)
       (subst (λ (a : List FieldType). FieldsMeanAs j u a xs) (sym g) (subst (λ (a : List (List ℕ)). FieldsMeanAs j u w a) (sym h) k)))
 
-  pub is_meant : (of : TypePhrase) → (judged seen rs of).faults ≡ [] → Means (meant l of) (meant (look seen) of) ⊎ Found seen l (named_in of)
+  pub is_meant : (of : TypePhrase) (inside : Bool) → (judged seen rs of inside).faults ≡ []
+      → Means (meant l of inside) (meant (look seen) of inside) ⊎ Found seen l (named_in of)
   is_meant =
       ind-TypePhrase IsMeant AreMeant
       (λ x y is.
       let z = map-TypePhrase _ _ _ _ (λ e. e.0) (λ e. e.0) y in
-      rw (← is) (moved _ _ _ _ _ _ _ _ (fold-roll-TypePhrase Judged JudgedFields (judged_step seen rs) (judged_fields_step seen rs) z)
-      (fold-roll-TypePhrase ElanType (List FieldType) (meant_step l) (fields_step l) z)
-      (fold-roll-TypePhrase ElanType (List FieldType) (meant_step all) (fields_step all) z)
-      (fold-roll-TypePhrase (List (List ℕ)) (List (List ℕ)) named_step field_named_step z) (is_meant_here y)))
+      rw (← is) (λ inside.
+      moved _ _ _ _ _ _ _ _
+      (ap (λ (j : Bool → Judged). j inside) (fold-roll-TypePhrase (Bool → Judged) JudgedFields (judged_step seen rs) (judged_fields_step seen rs) z))
+      (ap (λ (t : Bool → ElanType). t inside) (fold-roll-TypePhrase (Bool → ElanType) (List FieldType) (meant_step l) (fields_step l) z))
+      (ap (λ (t : Bool → ElanType). t inside) (fold-roll-TypePhrase (Bool → ElanType) (List FieldType) (meant_step all) (fields_step all) z))
+      (fold-roll-TypePhrase (List (List ℕ)) (List (List ℕ)) named_step field_named_step z) (is_meant_here y inside)))
       (λ x y is.
       let z = map-Field _ _ _ _ (λ e. e.0) (λ e. e.0) y in
-      rw (← is) (fields_moved _ _ _ _ _ _ _ _ (fold-roll-Field Judged JudgedFields (judged_step seen rs) (judged_fields_step seen rs) z)
-      (fold-roll-Field ElanType (List FieldType) (meant_step l) (fields_step l) z)
-      (fold-roll-Field ElanType (List FieldType) (meant_step all) (fields_step all) z)
+      rw (← is) (fields_moved _ _ _ _ _ _ _ _ (fold-roll-Field (Bool → Judged) JudgedFields (judged_step seen rs) (judged_fields_step seen rs) z)
+      (fold-roll-Field (Bool → ElanType) (List FieldType) (meant_step l) (fields_step l) z)
+      (fold-roll-Field (Bool → ElanType) (List FieldType) (meant_step all) (fields_step all) z)
       (fold-roll-Field (List (List ℕ)) (List (List ℕ)) named_step field_named_step z) (are_meant_here y.of y.names)))

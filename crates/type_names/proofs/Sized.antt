@@ -1,18 +1,25 @@
--- Each part of a type that is written has a cell.
-use Rattle.std.proofs.Common.{◌+◌, ◌≡◌, ℕ, ℤ, pos, negsuc, zero, suc, Bool, true, false, ◌&&◌, if◌then◌else◌, nat_le, List, [], ◌∷◌, ◌++◌, length, map}
+-- Each part of a type that is written has a cell, and all of them are no more than a data space has.
+use Rattle.std.proofs.Common.{◌+◌, ◌≡◌, ℕ, ℤ, pos, negsuc, zero, suc, Bool, true, false, ◌&&◌, ◌||◌, if◌then◌else◌, nat_le, nat_lt, le-leb, List, [], ◌∷◌, ◌++◌, length, map}
 use Rattle.std.proofs.Common.{Option, Some, None, refl, sym, ap, subst, ◌∙◌}
 use Rattle.std.specs.Prelude.{flat_map}
 use Rattle.std.specs.Option.{option_or}
+use Rattle.std.proofs.lemmas.Bool.{ltb-false}
+use Rattle.eu_base.specs.declared.value.Kind.{Kind}
 use Rattle.eu_base.specs.declared.value.Kind.TheVariants as kinds
+use Rattle.eu_base.specs.declared.shape.Shape.{Shape}
 use Rattle.eu_base.specs.declared.shape.Shape.TheVariants as shape
+use Rattle.eu_base.specs.Shapes.{cell_kinds}
+use Rattle.eu_base.specs.Room.{cells_fit}
+use Rattle.eu_base.specs.declared.address.TheConstants.{CELLS}
 use Rattle.elan_types.specs.declared.elan_type.ElanType.{ElanType}
 use Rattle.elan_types.specs.declared.elan_type.ElanType.TheVariants as types
 use Rattle.elan_types.specs.declared.elan_type.ElanType.TheOpen.{Row, Struct, Own}
 use Rattle.elan_types.specs.declared.elan_type.ElanType.TheFolds.{fold-roll-ElanType}
 use Rattle.elan_types.specs.declared.elan_type.FieldType.{FieldType}
-use Rattle.elan_types.specs.Types.{is_open, is_too_large, shape_in, field_shape}
+use Rattle.elan_types.specs.Types.{is_open, is_too_large, cells, nodes, shape_in, field_shape, type_in}
 use Rattle.elan_types.specs.Typing.{all_true}
-use Rattle.elan_types.proofs.Types.{type_shape, open_shape}
+use Rattle.elan_types.proofs.Shapes.{cell_is}
+use Rattle.elan_types.proofs.Types.{type_shape, open_shape, cells_kinds}
 use Rattle.elan_types.proofs.Sized.{is_many, is_sized, is_sized_type, sized_cell, sized_row, sized_struct, shape_of_field}
 use Rattle.elan_tree.specs.declared.written_type.Name.{Name}
 use Rattle.elan_tree.specs.declared.written_type.Size.{Size}
@@ -30,14 +37,18 @@ use Rattle.type_definitions.specs.declared.definition.Defined.TheVariants as def
 use Rattle.type_definitions.specs.declared.definition.Definition.{Definition}
 use Rattle.type_names.specs.Types.{size_in, size_named, size_of, or_open, row_of, is_broken, structure_of, type_named, meant, fields_meant, meant_step}
 use Rattle.type_names.specs.Types.{fields_step}
-use Rattle.type_names.specs.Types.{look, type_in, first_from, made, as_defined, by_definition, denoted, names_of}
+use Rattle.type_names.specs.Types.{look, first_from, made, as_defined, by_definition, denoted, names_of}
 use Rattle.type_names.specs.walks.Judged.{named_alike}
 use Rattle.type_names.proofs.Looked.{look_both}
 use Rattle.type_names.proofs.Meaning.{Looks}
 use Rattle.type_names.proofs.Rounds.{names_denote}
 
+-- All cells of the type find room in a data space.
+abbrev pub Fits : ElanType → Type 0
+Fits t = cells_fit (length (cell_kinds (shape_in t))) ≡ true
+
 abbrev pub IsSized : ElanType → Type 0
-IsSized t = is_sized_type t ≡ true
+IsSized t = (is_sized_type t ≡ true) × Fits t
 
 -- the types that a look-up tells
 abbrev SizedBy : Looks → Type 0
@@ -52,27 +63,27 @@ SizedNames ts = SizedBy (look ts)
 and_true : (p q : Bool) → p ≡ true → q ≡ true → (p && q) ≡ true
 and_true p q e f = cc
 
+cell_sized : (t : ElanType) (k : Kind) → shape_in t ≡ shape.Cell k → IsSized t
+cell_sized t k e =
+    (ap is_sized e ∙ sized_cell k, ap (λ (s : Shape). cells_fit (length (cell_kinds s))) e ∙ ap (λ (ks : List Kind). cells_fit (length ks)) (cell_is k))
+
 open_sized : IsSized types.Open
-open_sized = ap is_sized open_shape ∙ sized_cell kinds.Int
+open_sized = cell_sized types.Open kinds.Int open_shape
 
-int_sized : IsSized types.Int
-int_sized = ap is_sized (type_shape kinds.Int) ∙ sized_cell kinds.Int
+kind_sized : (k : Kind) → IsSized (type_in k)
+kind_sized k = cell_sized (type_in k) k (type_shape k)
 
-bool_sized : IsSized types.Bool
-bool_sized = ap is_sized (type_shape kinds.Truth) ∙ sized_cell kinds.Truth
+neither : (p q : Bool) → (p || q) ≡ false → p ≡ false
+neither true q e = absurd cc
+neither false q e = refl
 
-text_sized : IsSized types.Text
-text_sized = ap is_sized (type_shape kinds.Text) ∙ sized_cell kinds.Text
-
-task_sized : IsSized types.Task
-task_sized = ap is_sized (type_shape kinds.Task) ∙ sized_cell kinds.Task
-
-large_or : (t : ElanType) → IsSized t → IsSized (or_open t)
-large_or t e = by_test (is_too_large t)
+large_or : (t : ElanType) → is_sized_type t ≡ true → IsSized (or_open t)
+large_or t e = by_test (is_too_large t) refl
   where
-    by_test : (b : Bool) → IsSized (if b then types.Open else t)
-    by_test true = open_sized
-    by_test false = e
+    by_test : (b : Bool) → is_too_large t ≡ b → IsSized (if b then types.Open else t)
+    by_test true h = open_sized
+    by_test false h =
+        (e, ap cells_fit (cells_kinds t) ∙ le-leb (cells t) CELLS (ltb-false 16384 (cells t) (neither (nat_lt 16384 (cells t)) (nat_lt 800 (nodes t)) h)))
 
 row_sized : (n : Option ℕ) (t : ElanType) → ((k : ℕ) → n ≡ Some k → is_many k ≡ true) → IsSized t → IsSized (row_of n t)
 row_sized None t many e = open_sized
@@ -85,7 +96,7 @@ row_sized (Some n) t many e = by_test (is_open t)
     by_test true = open_sized
     by_test false =
         large_or (types.Row n t)
-        (ap is_sized row_shape ∙ sized_row n (shape_in t) ∙ and_true (is_many n) (is_sized (shape_in t)) (many n refl) e)
+        (ap is_sized row_shape ∙ sized_row n (shape_in t) ∙ and_true (is_many n) (is_sized (shape_in t)) (many n refl) e.0)
 
 abbrev AllSized : List FieldType → Type 0
 AllSized [] = Unit {0}
@@ -98,7 +109,7 @@ all_append (f ∷ fs) gs h k = (h.0, all_append fs gs h.1 k)
 all_sized : (fs : List FieldType) → AllSized fs → all_true (map is_sized (map field_shape fs)) ≡ true
 all_sized [] h = refl
 all_sized (f ∷ fs) h =
-    and_true (is_sized (field_shape f)) (all_true (map is_sized (map field_shape fs))) (ap is_sized (shape_of_field f) ∙ h.0) (all_sized fs h.1)
+    and_true (is_sized (field_shape f)) (all_true (map is_sized (map field_shape fs))) (ap is_sized (shape_of_field f) ∙ h.0.0) (all_sized fs h.1)
 
 structure_sized : (fs : List FieldType) → AllSized fs → IsSized (structure_of fs)
 structure_sized [] h = open_sized
@@ -125,7 +136,7 @@ size_many (negsuc n) k e = absurd cc
 
 module _ (l : Looks) (sized : SizedBy l) where
   abbrev Holds : TypePhrase → Type 0
-  Holds of = IsSized (meant l of)
+  Holds of = (inside : Bool) → IsSized (meant l of inside)
 
   abbrev AllHold : Field → Type 0
   AllHold f = AllSized (fields_meant l f)
@@ -159,31 +170,34 @@ module _ (l : Looks) (sized : SizedBy l) where
   fields_held [] = tt
   fields_held (f ∷ fs) = all_append (fields_meant l f.0) (flat_map (λ xs. xs) (map (fields_meant l) (map (λ e. e.0) fs))) f.1 (fields_held fs)
 
-  held_here : (y : TypePhrase-F Held AllHeld)
-      → IsSized (meant_step l (map-TypePhrase _ _ _ _ (meant l) (fields_meant l) (map-TypePhrase _ _ _ _ (λ e. e.0) (λ e. e.0) y)))
-  held_here (phrase.Int at) = int_sized
-  held_here (phrase.Bool at) = bool_sized
-  held_here (phrase.Text at) = text_sized
-  held_here (phrase.Task at) = task_sized
-  held_here (phrase.Dataspace at) = open_sized
-  held_here (phrase.Named n) = named_sized n.text
-  held_here (phrase.Row at s of) = row_sized (size_of l s) (meant l of.0) (many s) of.1
-  held_here (phrase.Struct at fs) = structure_sized _ (fields_held fs)
+  held_here : (y : TypePhrase-F Held AllHeld) (inside : Bool)
+      → IsSized (meant_step l (map-TypePhrase _ _ _ _ (meant l) (fields_meant l) (map-TypePhrase _ _ _ _ (λ e. e.0) (λ e. e.0) y)) inside)
+  held_here (phrase.Int at) inside = kind_sized kinds.Int
+  held_here (phrase.Bool at) inside = kind_sized kinds.Truth
+  held_here (phrase.Text at) inside = kind_sized kinds.Text
+  held_here (phrase.Task at) inside = kind_sized kinds.Task
+  held_here (phrase.Dataspace at) true = open_sized
+  held_here (phrase.Dataspace at) false = kind_sized kinds.Space
+  held_here (phrase.Named n) inside = named_sized n.text
+  held_here (phrase.Row at s of) inside = row_sized (size_of l s) (meant l of.0 true) (many s) (of.1 true)
+  held_here (phrase.Struct at fs) inside = structure_sized _ (fields_held fs)
 
   alike_held : (t : ElanType) (ns : List Name) → IsSized t → AllSized (named_alike t ns)
   alike_held t [] e = tt
   alike_held t (n ∷ ns) e = (e, alike_held t ns e)
 
-  pub meant_sized : (of : TypePhrase) → IsSized (meant l of)
+  pub meant_sized : (of : TypePhrase) (inside : Bool) → IsSized (meant l of inside)
   meant_sized =
       ind-TypePhrase Holds AllHold
       (λ x y is.
       let z = map-TypePhrase _ _ _ _ (λ e. e.0) (λ e. e.0) y in
-      rw (← is) (subst IsSized (sym (fold-roll-TypePhrase ElanType (List FieldType) (meant_step l) (fields_step l) z)) (held_here y)))
+      rw (← is) (λ inside.
+      subst (λ (t : Bool → ElanType). IsSized (t inside))
+      (sym (fold-roll-TypePhrase (Bool → ElanType) (List FieldType) (meant_step l) (fields_step l) z)) (held_here y inside)))
       (λ x y is.
       let z = map-Field _ _ _ _ (λ e. e.0) (λ e. e.0) y in
-      rw (← is) (subst AllSized (sym (fold-roll-Field ElanType (List FieldType) (meant_step l) (fields_step l) z))
-      (alike_held (meant l y.of.0) y.names y.of.1)))
+      rw (← is) (subst AllSized (sym (fold-roll-Field (Bool → ElanType) (List FieldType) (meant_step l) (fields_step l) z))
+      (alike_held (meant l y.of.0 true) y.names (y.of.1 true))))
 
   own_sized : (n : ℕ) (t : ElanType) → IsSized t → IsSized (made n t)
   own_sized n t e = by_test (is_open t)
@@ -193,18 +207,20 @@ module _ (l : Looks) (sized : SizedBy l) where
 
       by_test : (b : Bool) → IsSized (if b then types.Open else types.Own n t)
       by_test true = open_sized
-      by_test false = ap is_sized own_shape ∙ e
+      by_test false = (ap is_sized own_shape ∙ e.0, ap (λ (s : Shape). cells_fit (length (cell_kinds s))) own_shape ∙ e.1)
 
   defined_sized : (first n : ℕ) (w : Defined) (t : ElanType) → as_defined first l n w ≡ named.Of t → IsSized t
-  defined_sized first n (defined.Abbreviation of) t e = let i : meant l of ≡ t = cc in subst IsSized i (meant_sized of)
-  defined_sized first n (defined.New of) t e = let i : made (first + n) (meant l of) ≡ t = cc in subst IsSized i (own_sized (first + n) (meant l of) (meant_sized of))
+  defined_sized first n (defined.Abbreviation of) t e = let i : meant l of true ≡ t = cc in subst IsSized i (meant_sized of true)
+  defined_sized first n (defined.New of) t e =
+      let i : made (first + n) (meant l of true) ≡ t = cc in
+      subst IsSized i (own_sized (first + n) (meant l of true) (meant_sized of true))
   defined_sized first n (defined.Number k) t e = absurd cc
   defined_sized first n defined.Other t e = absurd cc
 
 -- ---- names
 
-pub type_sized : (ts : List TypeName) → SizedNames ts → (of : TypePhrase) → IsSized (type_in ts of)
-type_sized ts sized of = meant_sized (look ts) sized of
+pub type_sized : (ts : List TypeName) → SizedNames ts → (of : TypePhrase) (inside : Bool) → IsSized (meant (look ts) of inside)
+type_sized ts sized of inside = meant_sized (look ts) sized of inside
 
 pub none_sized : SizedNames []
 none_sized x t e = absurd cc

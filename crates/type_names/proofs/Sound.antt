@@ -22,7 +22,7 @@ use Rattle.elan_names.specs.declared.type_name.Named.TheVariants as named
 use Rattle.type_definitions.specs.declared.definition.Defined.{Defined}
 use Rattle.type_definitions.specs.declared.definition.Defined.TheVariants as defined
 use Rattle.type_definitions.specs.declared.definition.Definition.{Definition}
-use Rattle.type_names.specs.Types.{meant, type_in, look, first_from, made, as_defined, by_definition, denoted, names_of}
+use Rattle.type_names.specs.Types.{meant, look, first_from, made, as_defined, by_definition, denoted, names_of}
 use Rattle.type_names.specs.Faults.{Here, here, calls, comes_back, named_in, names_in, number_named, numbers_named, named_faults, written_faults}
 use Rattle.type_names.specs.walks.Further.{known_over}
 use Rattle.type_names.proofs.Looked.{look_both}
@@ -35,8 +35,8 @@ Mean ts = (x : List ℕ) (t : ElanType) → look ts x ≡ Some (named.Of t) → 
 
 -- What is written at a place under a name breaks no rule.
 abbrev pub SoundAs : Here → ℕ → List ℕ → Defined → Type 0
-SoundAs h at x (defined.Abbreviation of) = (named_faults h at of (first_from 0 h.definitions x) ≡ []) × (written_faults h of ≡ [])
-SoundAs h at x (defined.New of) = (named_faults h at of (first_from 0 h.definitions x) ≡ []) × (written_faults h of ≡ [])
+SoundAs h at x (defined.Abbreviation of) = (named_faults h at of (first_from 0 h.definitions x) ≡ []) × (written_faults h of true ≡ [])
+SoundAs h at x (defined.New of) = (named_faults h at of (first_from 0 h.definitions x) ≡ []) × (written_faults h of true ≡ [])
 SoundAs h at x (defined.Number k) = Unit {0}
 SoundAs h at x defined.Other = Unit {0}
 
@@ -120,8 +120,8 @@ made_open n t e = by_test (is_open t) refl
 module _ (first : ℕ) where
   pub defined_kept : (l m : Looks) → ((x : List ℕ) → is_unknown (l x) ≡ false → l x ≡ m x) → (n : ℕ) (w : Defined)
       → is_unknown (Some (as_defined first l n w)) ≡ false → as_defined first l n w ≡ as_defined first m n w
-  defined_kept l m less n (defined.Abbreviation of) e = ap (λ (t : ElanType). named.Of t) (meant_kept l m less of e)
-  defined_kept l m less n (defined.New of) e = ap (λ (t : ElanType). named.Of (made (first + n) t)) (meant_kept l m less of (made_known (first + n) (meant l of) e))
+  defined_kept l m less n (defined.Abbreviation of) e = ap (λ (t : ElanType). named.Of t) (meant_kept l m less of true e)
+  defined_kept l m less n (defined.New of) e = ap (λ (t : ElanType). named.Of (made (first + n) t)) (meant_kept l m less of true (made_known (first + n) (meant l of true) e))
   defined_kept l m less n (defined.Number k) e = refl
   defined_kept l m less n defined.Other e = refl
 
@@ -246,10 +246,10 @@ module _ (first : ℕ) where
                 }
 
         -- what is written breaks no rule, and its type is not known
-        next : (f c : ℕ) (of : TypePhrase) → suc f ≤ suc last → written_faults h of ≡ [] → is_open (meant (denoted first around ds f) of) ≡ true → Next f c of
+        next : (f c : ℕ) (of : TypePhrase) → suc f ≤ suc last → written_faults h of true ≡ [] → is_open (meant (denoted first around ds f) of true) ≡ true → Next f c of
         next f c of few e o =
-            elim (is_meant seen rs (denoted first around ds f) (less_seen (suc f) few) (numbers_seen f) of e) [
-              | inl m ↦ absurd (both_ways (is_open (meant (denoted first around ds f) of)) m.closed o)
+            elim (is_meant seen rs (denoted first around ds f) (less_seen (suc f) few) (numbers_seen f) of true e) [
+              | inl m ↦ absurd (both_ways (is_open (meant (denoted first around ds f) of true)) m.closed o)
               | inr g ↦ next_named f c of few g
             ]
 
@@ -284,7 +284,7 @@ module _ (first : ℕ) where
             by_what : (w : Defined) → g.d.what ≡ w → SoundAs h g.d.at g.d.name w → is_unknown (Some (as_defined first (denoted first around ds f) c w)) ≡ true
                 → Call (calls ds) n (Goes f) c
             by_what (defined.Abbreviation of) i s u = called of (ap names_in i) s.0 (next f c of g.few s.1 u)
-            by_what (defined.New of) i s u = called of (ap names_in i) s.0 (next f c of g.few s.1 (made_open (first + c) (meant (denoted first around ds f) of) u))
+            by_what (defined.New of) i s u = called of (ap names_in i) s.0 (next f c of g.few s.1 (made_open (first + c) (meant (denoted first around ds f) of true) u))
             by_what (defined.Number k) i s u = absurd cc
             by_what defined.Other i s u = absurd cc
 
@@ -331,9 +331,10 @@ module _ (first : ℕ) where
 
 -- ---- types
 
-pub written_means : (h : Here) → Mean h.seen → (of : TypePhrase) → written_faults h of ≡ [] → is_open (type_in h.seen of) ≡ false
-written_means h means of e =
-    elim (is_meant h.seen h.refinements (look h.seen) (λ x k. refl) (λ x k i. i) of e) [
+pub written_means : (h : Here) → Mean h.seen → (of : TypePhrase) (inside : Bool) → written_faults h of inside ≡ []
+    → is_open (meant (look h.seen) of inside) ≡ false
+written_means h means of inside e =
+    elim (is_meant h.seen h.refinements (look h.seen) (λ x k. refl) (λ x k i. i) of inside e) [
       | inl m ↦ m.closed
       | inr g ↦ absurd (both_ways (is_open g.of) (means g.name g.of g.seen_as) (sym (ap is_unknown g.seen_as) ∙ g.unknown))
     ]

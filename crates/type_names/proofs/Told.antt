@@ -1,5 +1,5 @@
 -- What the code tells of types as they are written.
-use Rattle.std.proofs.Common.{◌≡◌, ℕ, false, List, [], ◌∷◌, ◌++◌, map, Option, Some, None, refl, sym, ap, ◌∙◌}
+use Rattle.std.proofs.Common.{◌≡◌, ℕ, Bool, true, false, List, [], ◌∷◌, ◌++◌, map, Option, Some, None, refl, sym, ap, ◌∙◌}
 use Rattle.std.specs.Prelude.{flat_map, Result, Ok, Err, IfOk}
 use Rattle.std.proofs.Common.{append_assoc}
 use Rattle.std.proofs.lemmas.List.{map-append}
@@ -19,7 +19,7 @@ use Rattle.type_names.specs.declared.judgement.Judged.{Judged as Told}
 use Rattle.type_names.specs.declared.judgement.Fields.{Fields}
 use Rattle.type_names.specs.declared.search.Search.{Search}
 use Rattle.type_names.specs.Types.{look, size_of, row_of, structure_of}
-use Rattle.type_names.specs.Faults.{JudgedFields, judged, judged_fields, judged_step, judged_fields_step, first_fault, size_faults, row_fault, structure_fault}
+use Rattle.type_names.specs.Faults.{Judged, JudgedFields, judged, judged_fields, judged_step, judged_fields_step, first_fault, size_faults, row_fault, structure_fault}
 use Rattle.type_names.specs.Faults.{doubled_names, fields_faults}
 use Rattle.type_names.specs.walks.Seen.{earlier, with_fault, Notes}
 use Rattle.type_names.specs.walks.Judged.{told, told_fields, texts, named_alike}
@@ -74,35 +74,35 @@ module _ (seen : List TypeName) (rs : List Refinement) where
   abbrev size_is : Size → Option ℕ
   size_is = size_of (look seen)
 
-  row_told : (at : ℕ) (size : Size) (t : TypePhrase) (row : Told) → row.of ≡ row_of (size_is size) (judged seen rs t).of
-      → row.first ≡ earlier (first_fault (row_fault at (size_is size) (judged seen rs t).of))
-      (earlier (first_fault (size_faults seen rs size)) (first_fault (judged seen rs t).faults))
-      → row ≡ told (judged seen rs (type.Row at size t))
-  row_told at size t row o f =
-      let j = judged seen rs t in
+  row_told : (at : ℕ) (size : Size) (t : TypePhrase) (inside : Bool) (row : Told) → row.of ≡ row_of (size_is size) (judged seen rs t true).of
+      → row.first ≡ earlier (first_fault (row_fault at (size_is size) (judged seen rs t true).of))
+      (earlier (first_fault (size_faults seen rs size)) (first_fault (judged seen rs t true).faults))
+      → row ≡ told (judged seen rs (type.Row at size t) inside)
+  row_told at size t inside row o f =
+      let j = judged seen rs t true in
       ap (λ (u : ElanType). told_of u row.first) o
       ∙ ap (told_of (row_of (size_is size) j.of)) (f ∙ sym (first_three (row_fault at (size_is size) j.of) (size_faults seen rs size) j.faults))
-      ∙ ap told (sym (row_is at size t))
+      ∙ ap (λ (g : Bool → Judged). told (g inside)) (sym (row_is at size t))
 
-  pub rows_told : {E : Type 0} (r : Result Told E) (at : ℕ) (size : Size) (p t u : TypePhrase) (items : Told) (n : Option ℕ) (broken behind : Option Fault)
-      → p ≡ type.Row at size t → u ≡ t → items ≡ told (judged seen rs u) → n ≡ size_is size → broken ≡ first_fault (size_faults seen rs size)
+  pub rows_told : {E : Type 0} (r : Result Told E) (at : ℕ) (size : Size) (p t u : TypePhrase) (inside : Bool) (items : Told) (n : Option ℕ) (broken behind : Option Fault)
+      → p ≡ type.Row at size t → u ≡ t → items ≡ told (judged seen rs u true) → n ≡ size_is size → broken ≡ first_fault (size_faults seen rs size)
       → behind ≡ earlier broken items.first
       → IfOk r (λ row. (row.of ≡ row_of n items.of) × (row.first ≡ earlier (first_fault (row_fault at n items.of)) behind))
-      → IfOk r (λ row. row ≡ told (judged seen rs p))
-  rows_told (Ok row) at size p t u items n broken behind e g i k w b h =
-      let j : items ≡ told (judged seen rs t) = i ∙ ap (λ (v : TypePhrase). told (judged seen rs v)) g in
-      row_told at size t row (h.0 ∙ ap (λ (m : Option ℕ). row_of m items.of) k ∙ ap (λ (v : Told). row_of (size_is size) v.of) j)
+      → IfOk r (λ row. row ≡ told (judged seen rs p inside))
+  rows_told (Ok row) at size p t u inside items n broken behind e g i k w b h =
+      let j : items ≡ told (judged seen rs t true) = i ∙ ap (λ (v : TypePhrase). told (judged seen rs v true)) g in
+      row_told at size t inside row (h.0 ∙ ap (λ (m : Option ℕ). row_of m items.of) k ∙ ap (λ (v : Told). row_of (size_is size) v.of) j)
       (h.1 ∙ ap (λ (m : Option ℕ). earlier (first_fault (row_fault at m items.of)) behind) k
       ∙ ap (λ (v : Told). earlier (first_fault (row_fault at (size_is size) v.of)) behind) j
-      ∙ ap (earlier (first_fault (row_fault at (size_is size) (judged seen rs t).of)))
+      ∙ ap (earlier (first_fault (row_fault at (size_is size) (judged seen rs t true).of)))
       (b ∙ ap (λ (f : Option Fault). earlier f items.first) w ∙ ap (λ (v : Told). earlier (first_fault (size_faults seen rs size)) v.first) j))
-      ∙ ap (λ (q : TypePhrase). told (judged seen rs q)) (sym e)
-  rows_told (Err x) at size p t u items n broken behind e g i k w b h = tt
+      ∙ ap (λ (q : TypePhrase). told (judged seen rs q inside)) (sym e)
+  rows_told (Err x) at size p t u inside items n broken behind e g i k w b h = tt
 
-  structure_told : (at : ℕ) (p : TypePhrase) (fs gs : List Field) (known : Fields) (whole : Told) → p ≡ type.Struct at fs → gs ≡ fs
+  structure_told : (at : ℕ) (p : TypePhrase) (inside : Bool) (fs gs : List Field) (known : Fields) (whole : Told) → p ≡ type.Struct at fs → gs ≡ fs
       → known ≡ told_fields (map (judged_fields seen rs) gs) → whole.of ≡ structure_of known.list
-      → whole.first ≡ earlier (first_fault (structure_fault at known.list)) known.first → whole ≡ told (judged seen rs p)
-  structure_told at p fs gs known whole e g k o f =
+      → whole.first ≡ earlier (first_fault (structure_fault at known.list)) known.first → whole ≡ told (judged seen rs p inside)
+  structure_told at p inside fs gs known whole e g k o f =
       let js = map (judged_fields seen rs) fs in
       let list = flat_map (λ (f : JudgedFields). f.fields) js in
       let i : known ≡ told_fields js = k ∙ ap (λ (hs : List Field). told_fields (map (judged_fields seen rs) hs)) g in
@@ -110,14 +110,14 @@ module _ (seen : List TypeName) (rs : List Refinement) where
       ∙ ap (told_of (structure_of list))
       (f ∙ ap (λ (v : Fields). earlier (first_fault (structure_fault at v.list)) v.first) i
       ∙ sym (first_append (structure_fault at list) (fields_faults [] js)))
-      ∙ ap told (sym (structure_is at fs)) ∙ ap (λ (q : TypePhrase). told (judged seen rs q)) (sym e)
+      ∙ ap (λ (g : Bool → Judged). told (g inside)) (sym (structure_is at fs)) ∙ ap (λ (q : TypePhrase). told (judged seen rs q inside)) (sym e)
 
-  pub structures_told : {E : Type 0} (r : Result Told E) (at : ℕ) (p : TypePhrase) (fs gs : List Field) (known : Fields)
+  pub structures_told : {E : Type 0} (r : Result Told E) (at : ℕ) (p : TypePhrase) (inside : Bool) (fs gs : List Field) (known : Fields)
       → p ≡ type.Struct at fs → gs ≡ fs → known ≡ told_fields (map (judged_fields seen rs) gs)
       → IfOk r (λ whole. (whole.of ≡ structure_of known.list) × (whole.first ≡ earlier (first_fault (structure_fault at known.list)) known.first))
-      → IfOk r (λ whole. whole ≡ told (judged seen rs p))
-  structures_told (Ok whole) at p fs gs known e g k h = structure_told at p fs gs known whole e g k h.0 h.1
-  structures_told (Err x) at p fs gs known e g k h = tt
+      → IfOk r (λ whole. whole ≡ told (judged seen rs p inside))
+  structures_told (Ok whole) at p inside fs gs known e g k h = structure_told at p inside fs gs known whole e g k h.0 h.1
+  structures_told (Err x) at p inside fs gs known e g k h = tt
 
   abbrev judge : List Field → List JudgedFields
   judge fs = map (judged_fields seen rs) fs
@@ -127,14 +127,13 @@ module _ (seen : List TypeName) (rs : List Refinement) where
 
   -- the fields of one type more
   pub fields_turn : (list new all : List FieldType) (first doubled now one : Option Fault) (j : Told) (f : Field) (ns : List Name)
-      (left rest : List Field) → left ≡ f ∷ rest → ns ≡ f.names → j ≡ told (judged seen rs f.of) → new ≡ list ++ named_alike j.of ns
+      (left rest : List Field) → left ≡ f ∷ rest → ns ≡ f.names → j ≡ told (judged seen rs f.of true) → new ≡ list ++ named_alike j.of ns
       → doubled ≡ first_fault (doubled_names (texts list) ns) → now ≡ earlier (earlier first j.first) doubled
       → list ++ all_fields (judge left) ≡ all → earlier first (first_fault (fields_faults (texts list) (judge left))) ≡ one
       → (new ++ all_fields (judge rest) ≡ all) × (earlier now (first_fault (fields_faults (texts new) (judge rest))) ≡ one)
   fields_turn list new all first doubled now one j f ns left rest e m i n d w h k =
-      let of = judged seen rs f.of in
+      let of = judged seen rs f.of true in
       let js = judge rest in
-      let step : JudgedFields = judged_fields_step seen rs (record { of = of; names = f.names }) in
       let names = doubled_names (texts list) f.names in
       let more : new ≡ list ++ named_alike of.of f.names =
       n ∙ ap (λ (xs : List Name). list ++ named_alike j.of xs) m ∙ ap (λ (v : Told). list ++ named_alike v.of f.names) i in

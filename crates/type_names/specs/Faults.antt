@@ -1,5 +1,5 @@
 -- Which rules types break.
-use Rattle.std.specs.Prelude.{ℕ, ℤ, Bool, not, ◌==◌, ◌&&◌, ◌||◌, List, [], ◌∷◌, ◌++◌, map, flat_map, length, Option, Some, None, option_map, option_to_list}
+use Rattle.std.specs.Prelude.{ℕ, ℤ, Bool, true, false, not, ◌==◌, ◌&&◌, ◌||◌, List, [], ◌∷◌, ◌++◌, map, flat_map, length, Option, Some, None, option_map, option_to_list}
 use Rattle.std.specs.Prelude.{slice_get, if◌then◌else◌}
 use Rattle.std.specs.List.{list_any}
 use Rattle.std.specs.Option.{is_some}
@@ -25,7 +25,9 @@ use Rattle.elan_tree.specs.declared.tree.Level.{Level}
 use Rattle.elan_tree.specs.declared.tree.LevelUnit.{LevelUnit}
 use Rattle.elan_tree.specs.declared.tree.LevelUnit.TheVariants as level
 use Rattle.elan_walk.specs.Nodes as nodes
-use Rattle.elan_walk.specs.Nodes.{Node, of_type, item, abbreviation, new_type}
+use Rattle.elan_walk.specs.declared.node.Held.{Held}
+use Rattle.elan_walk.specs.declared.node.Held.TheVariants.{Bound}
+use Rattle.elan_walk.specs.Nodes.{Node, of_type, content, item, abbreviation, new_type}
 use Rattle.elan_names.specs.declared.heading.Sort.TheVariants.{Procedure}
 use Rattle.elan_names.specs.declared.type_name.TypeName.{TypeName}
 use Rattle.elan_names.specs.declared.type_name.Named.{Named}
@@ -101,6 +103,11 @@ pub record JudgedFields : Type 0 where
   pub names : List Name
   pub faults : List Fault
 
+-- DATASPACE stands in a wrong place inside another type, for a name of a type, and behind BOUND.
+abbrev pub space_judged : ℕ → Bool → Judged
+space_judged at inside =
+    if inside then record { of = types.Open; faults = (at, WrongPlace) ∷ [] } else record { of = types.Dataspace; faults = [] }
+
 -- What has a meaning in all its parts may be too large.
 abbrev pub large_fault : ℕ → Bool → ElanType → List Fault
 large_fault at sound t = if sound && is_too_large t then (at, TooLarge) ∷ [] else []
@@ -154,31 +161,38 @@ module _ (seen : List TypeName) (refinements : List Refinement) where
   abbrev pub name_judged : Name → Judged
   name_judged n = record { of = type_named (look seen n.text); faults = name_faults n (look seen n.text) }
 
-  -- A type that is not built has a fault too; no text has one that is asked for its meaning.
-  abbrev pub judged_step : TypePhrase-F Judged JudgedFields → Judged
-  judged_step (phrase.Int at) = record { of = types.Int; faults = [] }
-  judged_step (phrase.Bool at) = record { of = types.Bool; faults = [] }
-  judged_step (phrase.Text at) = record { of = types.Text; faults = [] }
-  judged_step (phrase.Task at) = record { of = types.Task; faults = [] }
-  judged_step (phrase.Named n) = name_judged n
-  judged_step (phrase.Row at size t) =
-      record { of = row_of (size_of (look seen) size) t.of; faults = row_fault at (size_of (look seen) size) t.of ++ size_faults size ++ t.faults }
-  judged_step (phrase.Struct at fields) =
+  abbrev pub judged_step : TypePhrase-F (Bool → Judged) JudgedFields → Bool → Judged
+  judged_step (phrase.Int at) inside = record { of = types.Int; faults = [] }
+  judged_step (phrase.Bool at) inside = record { of = types.Bool; faults = [] }
+  judged_step (phrase.Text at) inside = record { of = types.Text; faults = [] }
+  judged_step (phrase.Task at) inside = record { of = types.Task; faults = [] }
+  judged_step (phrase.Dataspace at) inside = space_judged at inside
+  judged_step (phrase.Named n) inside = name_judged n
+  judged_step (phrase.Row at size t) inside =
+      let u = t true in
+      record { of = row_of (size_of (look seen) size) u.of; faults = row_fault at (size_of (look seen) size) u.of ++ size_faults size ++ u.faults }
+  judged_step (phrase.Struct at fields) inside =
       let fs = flat_map (λ f. f.fields) fields in record { of = structure_of fs; faults = structure_fault at fs ++ fields_faults [] fields }
-  judged_step _ = record { of = types.Open; faults = (0, Unknown) ∷ [] }
 
-  abbrev pub judged_fields_step : Field-F Judged JudgedFields → JudgedFields
-  judged_fields_step f = record { fields = map (λ n. record { name = n.text; of = f.of.of }) f.names; names = f.names; faults = f.of.faults }
+  abbrev pub judged_fields_step : Field-F (Bool → Judged) JudgedFields → JudgedFields
+  judged_fields_step f =
+      let t = f.of true in record { fields = map (λ n. record { name = n.text; of = t.of }) f.names; names = f.names; faults = t.faults }
 
-  abbrev pub judged : TypePhrase → Judged
-  judged = fold-TypePhrase Judged JudgedFields judged_step judged_fields_step
+  -- inside another type, or not
+  abbrev pub judged : TypePhrase → Bool → Judged
+  judged = fold-TypePhrase (Bool → Judged) JudgedFields judged_step judged_fields_step
 
   abbrev pub judged_fields : Field → JudgedFields
-  judged_fields = fold-Field Judged JudgedFields judged_step judged_fields_step
+  judged_fields = fold-Field (Bool → Judged) JudgedFields judged_step judged_fields_step
+
+-- The type of what BOUND variables stand for is as if it stood inside another.
+abbrev pub is_inside : Held → Bool
+is_inside Bound = true
+is_inside _ = false
 
 module _ (h : Here) where
-  abbrev pub written_faults : TypePhrase → List Fault
-  written_faults of = (judged h.seen h.refinements of).faults
+  abbrev pub written_faults : TypePhrase → Bool → List Fault
+  written_faults of inside = (judged h.seen h.refinements of inside).faults
 
   -- ---- definitions
 
@@ -197,11 +211,12 @@ module _ (h : Here) where
   or_named (f ∷ fs) gs = f ∷ fs
 
   abbrev pub definition_faults : ℕ → Name → TypePhrase → List Fault
-  definition_faults at n of = or_named (written_faults of) (named_faults at of (first_from 0 h.definitions n.text))
+  definition_faults at n of = or_named (written_faults of true) (named_faults at of (first_from 0 h.definitions n.text))
 
   abbrev pub node_faults : Node → List Fault
-  node_faults (of_type of) = written_faults of
-  node_faults (item held of n) = written_faults of
+  node_faults (of_type of) = written_faults of false
+  node_faults (content of) = written_faults of true
+  node_faults (item held of n) = written_faults of (is_inside held)
   node_faults (abbreviation n of) = definition_faults n.at n of
   node_faults (new_type at n of) = definition_faults at n of
   node_faults _ = []

@@ -1,5 +1,5 @@
 -- What names and types as they are written denote.
-use Rattle.std.specs.Prelude.{ℕ, zero, suc, ◌+◌, ℤ, pos, negsuc, Bool, false, ◌&&◌, ◌||◌, List, [], ◌∷◌, ◌++◌, map, flat_map, length, Option, Some, None}
+use Rattle.std.specs.Prelude.{ℕ, zero, suc, ◌+◌, ℤ, pos, negsuc, Bool, true, false, ◌&&◌, ◌||◌, List, [], ◌∷◌, ◌++◌, map, flat_map, length, Option, Some, None}
 use Rattle.std.specs.Prelude.{option_map, if◌then◌else◌, nat_le}
 use Rattle.std.specs.List.{list_any}
 use Rattle.std.specs.Str.{bytes_eq}
@@ -67,39 +67,44 @@ abbrev pub type_named : Option Named → ElanType
 type_named None = types.Open
 type_named (Some n) = type_of n
 
--- where names denote this
+-- Where names denote this, a type is written alone, or inside another one, for a name of a type or for the content of a data space; there
+-- DATASPACE has no meaning.
 module _ (look : List ℕ → Option Named) where
   abbrev pub size_of : Size → Option ℕ
   size_of (size.Number at n) = size_in n
   size_of (size.Named n) = size_named (look n.text)
 
-  abbrev pub meant_step : TypePhrase-F ElanType (List FieldType) → ElanType
-  meant_step (phrase.Int at) = types.Int
-  meant_step (phrase.Bool at) = types.Bool
-  meant_step (phrase.Text at) = types.Text
-  meant_step (phrase.Task at) = types.Task
-  meant_step (phrase.Named n) = type_named (look n.text)
-  meant_step (phrase.Row at size t) = row_of (size_of size) t
-  meant_step (phrase.Struct at fields) = structure_of (flat_map (λ fs. fs) fields)
-  meant_step _ = types.Open
+  abbrev pub meant_step : TypePhrase-F (Bool → ElanType) (List FieldType) → Bool → ElanType
+  meant_step (phrase.Int at) inside = types.Int
+  meant_step (phrase.Bool at) inside = types.Bool
+  meant_step (phrase.Text at) inside = types.Text
+  meant_step (phrase.Task at) inside = types.Task
+  meant_step (phrase.Dataspace at) inside = if inside then types.Open else types.Dataspace
+  meant_step (phrase.Named n) inside = type_named (look n.text)
+  meant_step (phrase.Row at size t) inside = row_of (size_of size) (t true)
+  meant_step (phrase.Struct at fields) inside = structure_of (flat_map (λ fs. fs) fields)
 
   -- fields of one type
-  abbrev pub fields_step : Field-F ElanType (List FieldType) → List FieldType
-  fields_step f = map (λ n. record { name = n.text; of = f.of }) f.names
+  abbrev pub fields_step : Field-F (Bool → ElanType) (List FieldType) → List FieldType
+  fields_step f = map (λ n. record { name = n.text; of = f.of true }) f.names
 
-  -- the type that is written; open where it has no meaning
-  abbrev pub meant : TypePhrase → ElanType
-  meant = fold-TypePhrase ElanType (List FieldType) meant_step fields_step
+  -- the type that is written, inside another one or not; open where it has no meaning
+  abbrev pub meant : TypePhrase → Bool → ElanType
+  meant = fold-TypePhrase (Bool → ElanType) (List FieldType) meant_step fields_step
 
   abbrev pub fields_meant : Field → List FieldType
-  fields_meant = fold-Field ElanType (List FieldType) meant_step fields_step
+  fields_meant = fold-Field (Bool → ElanType) (List FieldType) meant_step fields_step
 
 -- what a name denotes where these are declared
 abbrev pub look : List TypeName → List ℕ → Option Named
 look ts x = option_map (λ t. t.of) (first_type x ts)
 
 abbrev pub type_in : List TypeName → TypePhrase → ElanType
-type_in ts of = meant (look ts) of
+type_in ts of = meant (look ts) of false
+
+-- the type that is written for a name of a type, or for the content of a data space
+abbrev pub type_within : List TypeName → TypePhrase → ElanType
+type_within ts of = meant (look ts) of true
 
 -- ---- what names denote
 
@@ -110,8 +115,8 @@ made n t = if is_open t then types.Open else types.Own n t
 -- where own types are numbered from this number on
 module _ (first : ℕ) where
   abbrev pub as_defined : (List ℕ → Option Named) → ℕ → Defined → Named
-  as_defined look n (defined.Abbreviation of) = named.Of (meant look of)
-  as_defined look n (defined.New of) = named.Of (made (first + n) (meant look of))
+  as_defined look n (defined.Abbreviation of) = named.Of (meant look of true)
+  as_defined look n (defined.New of) = named.Of (made (first + n) (meant look of true))
   as_defined look n (defined.Number k) = named.Size k
   as_defined look n defined.Other = named.Other
 

@@ -106,10 +106,26 @@ fn structure_judged(alloc: Global, at: u32, fields: Fields) -> Result<Judged, No
     Ok(Judged::whole(at, ElanType::Struct(fields), first))
 }
 
-/// What a type means, and its first fault.
+// DATASPACE stands in a wrong place inside another type.
+fn space_judged(at: u32, inside: bool) -> Judged
+    ensures { result ≡ told (faults.space_judged at inside) }
+{
+    if inside {
+        Judged::open(Some((at, Why::WrongPlace)))
+    } else {
+        Judged::closed(ElanType::Dataspace)
+    }
+}
+
+/// What a type means, inside another one or not, and its first fault.
 #[cycle(judging)]
-pub fn judge(alloc: Global, visible: Visible<'_>, of: &TypePhrase) -> Result<Judged, NoMemory>
-    ensures { IfOk result (λ judged. judged ≡ told (faults.judged (names_seen visible.entry) visible.entry.refinements.now of.now)) }
+pub fn judge(
+    alloc: Global,
+    visible: Visible<'_>,
+    of: &TypePhrase,
+    inside: bool,
+) -> Result<Judged, NoMemory>
+    ensures { IfOk result (λ judged. judged ≡ told (faults.judged (names_seen visible.entry) visible.entry.refinements.now of.now inside)) }
 {
     match of {
         TypePhrase::Int(_) => Ok(Judged::closed(ElanType::Int)),
@@ -118,7 +134,7 @@ pub fn judge(alloc: Global, visible: Visible<'_>, of: &TypePhrase) -> Result<Jud
         TypePhrase::Task(_) => Ok(Judged::closed(ElanType::Task)),
         TypePhrase::Named(name) => name_judged(visible, name),
         TypePhrase::Row { at, size, of } => {
-            let items = judge(alloc, visible, of.get())?;
+            let items = judge(alloc, visible, of.get(), true)?;
             let behind = earlier(visible.size_fault(size), items.first);
             row_judged(alloc, *at, visible.size(size), behind, items.of)
         }
@@ -126,7 +142,7 @@ pub fn judge(alloc: Global, visible: Visible<'_>, of: &TypePhrase) -> Result<Jud
             let fields = fields_judged(alloc, visible, fields.as_slice())?;
             structure_judged(alloc, *at, fields)
         }
-        TypePhrase::Dataspace(_) => Ok(Judged::open(Some((0, Why::Unknown)))),
+        TypePhrase::Dataspace(at) => Ok(space_judged(*at, inside)),
     }
 }
 
@@ -137,7 +153,7 @@ fn fields_judged(alloc: Global, visible: Visible<'_>, fields: &[Field]) -> Resul
     let mut list = List::new(alloc);
     let mut first = None;
     for field in fields {
-        let judged = judge(alloc, visible, &field.of)?;
+        let judged = judge(alloc, visible, &field.of, true)?;
         first = earlier(first, judged.first);
         let doubled = add_fields(alloc, &mut list, field.names.as_slice(), &judged.of)?;
         first = earlier(first, doubled);

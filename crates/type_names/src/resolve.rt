@@ -7,7 +7,7 @@ ghost use Rattle.type_names.specs.Types as spec;
 ghost use Rattle.type_names.specs.walks.Further as walk;
 
 use crate::calls::calls;
-use crate::written::type_in;
+use crate::written::type_within;
 use call_graph::CallGraph;
 use elan_names::type_directory::TypeDirectory;
 use elan_names::type_name::{Named, TypeName};
@@ -47,9 +47,9 @@ fn as_defined(
     ensures { IfOk result (λ named. named ≡ spec.as_defined around.entry.first (spec.look (own.now ++ around.entry.names.now)) number what.now) }
 {
     match what {
-        Defined::Abbreviation(of) => Ok(Named::Of(type_in(alloc, own, around.names, of)?)),
+        Defined::Abbreviation(of) => { Ok(Named::Of(type_within(alloc, own, around.names, of)?)) },
         Defined::New(of) => {
-            let concrete = type_in(alloc, own, around.names, of)?;
+            let concrete = type_within(alloc, own, around.names, of)?;
             let number = around.first.checked_add(number).ok_or(NoMemory)?;
             Ok(Named::Of(made(alloc, number, concrete)?))
         }

@@ -13,10 +13,20 @@ use crate::visible::Visible;
 use elan_names::type_directory::TypeDirectory;
 use elan_tree::{Name, Refinement, TypePhrase};
 use elan_types::Why;
-use elan_walk::{Node, Visitor};
+use elan_walk::{Held, Node, Visitor};
 use eu_base::NoMemory;
 use std::alloc::Global;
 use type_definitions::definition::Definition;
+
+// The type of what BOUND variables stand for is as if it stood inside another.
+fn is_inside(held: Held) -> bool
+    ensures { result ≡ spec.is_inside held }
+{
+    match held {
+        Held::Bound => true,
+        Held::Variable | Held::Constant => false,
+    }
+}
 
 /// Whoever looks for the first type that breaks a rule.
 #[derive(Drop)]
@@ -55,15 +65,16 @@ impl<'a> Search<'a> {
         }
     }
 
-    fn written_fault(&self, of: &TypePhrase) -> Result<Option<Fault>, NoMemory>
-        ensures { IfOk result (λ fault. fault ≡ spec.first_fault (spec.written_faults (here_of self.now) of.now)) }
+    // The fault of a type that stands inside another one, or not.
+    fn written_fault(&self, of: &TypePhrase, inside: bool) -> Result<Option<Fault>, NoMemory>
+        ensures { IfOk result (λ fault. fault ≡ spec.first_fault (spec.written_faults (here_of self.now) of.now inside)) }
     {
         let visible = Visible {
             own: &self.here.names,
             around: self.around,
             refinements: self.refinements,
         };
-        let judged = judge(self.alloc, visible, of)?;
+        let judged = judge(self.alloc, visible, of, inside)?;
         Ok(judged.first)
     }
 
@@ -109,7 +120,7 @@ impl<'a> Search<'a> {
     ) -> Result<Option<Fault>, NoMemory>
         ensures { IfOk result (λ fault. fault ≡ spec.first_fault (spec.definition_faults (here_of self.now) at name.now of.now)) }
     {
-        match self.written_fault(of)? {
+        match self.written_fault(of, true)? {
             Some(fault) => Ok(Some(fault)),
             None => self.named_fault(at, name, of),
         }
@@ -127,11 +138,11 @@ impl<'a> Search<'a> {
     }
 
     #[tactic(auto, using(crate::proofs::Told::noted))]
-    fn see_type(self, of: &TypePhrase) -> Search<'a>
+    fn see_type(self, of: &TypePhrase, inside: bool) -> Search<'a>
         ensures { result.wanted ≡ false → (self.entry.wanted ≡ false) × (result ≡ with_fault self.entry
-            (spec.first_fault (spec.written_faults (here_of self.entry) of.now))) }
+            (spec.first_fault (spec.written_faults (here_of self.entry) of.now inside))) }
     {
-        let found = self.written_fault(of);
+        let found = self.written_fault(of, inside);
         self.note(found)
     }
 
@@ -162,8 +173,9 @@ impl<'a> Visitor for Search<'a> {
 
     fn visit(self, node: Node<'_>) -> Search<'a> {
         match node {
-            Node::Type(of) => self.see_type(of),
-            Node::Item(_, of, _) => self.see_type(of),
+            Node::Type(of) => self.see_type(of, false),
+            Node::Content(of) => self.see_type(of, true),
+            Node::Item(held, of, _) => self.see_type(of, is_inside(held)),
             Node::Abbreviation(name, of) => self.see_definition(name.at, name, of),
             Node::NewType(at, name, of) => self.see_definition(at, name, of),
             _ => self.note(Ok(None)),

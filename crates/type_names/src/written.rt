@@ -11,6 +11,25 @@ use elan_types::ElanType;
 use eu_base::NoMemory;
 use std::alloc::Global;
 
+// The type that is written, inside another one or not, where these names are declared here and around; open where it has no meaning.
+fn meant(
+    alloc: Global,
+    here: &TypeDirectory,
+    around: &TypeDirectory,
+    of: &TypePhrase,
+    inside: bool,
+) -> Result<ElanType, NoMemory>
+    ensures { IfOk result (λ meant. meant ≡ spec.meant (spec.look (here.now ++ around.now)) of.now inside) }
+{
+    let visible = Visible {
+        own: here,
+        around,
+        refinements: &[],
+    };
+    let judged = judge(alloc, visible, of, inside)?;
+    Ok(judged.of)
+}
+
 /// The type that is written, where these names are declared here and around; open where it has no meaning.
 pub fn type_in(
     alloc: Global,
@@ -20,11 +39,17 @@ pub fn type_in(
 ) -> Result<ElanType, NoMemory>
     ensures { IfOk result (λ meant. meant ≡ spec.type_in (here.now ++ around.now) of.now) }
 {
-    let visible = Visible {
-        own: here,
-        around,
-        refinements: &[],
-    };
-    let judged = judge(alloc, visible, of)?;
-    Ok(judged.of)
+    meant(alloc, here, around, of, false)
+}
+
+/// The type that is written for a name of a type, or for the content of a data space.
+pub fn type_within(
+    alloc: Global,
+    here: &TypeDirectory,
+    around: &TypeDirectory,
+    of: &TypePhrase,
+) -> Result<ElanType, NoMemory>
+    ensures { IfOk result (λ meant. meant ≡ spec.type_within (here.now ++ around.now) of.now) }
+{
+    meant(alloc, here, around, of, true)
 }

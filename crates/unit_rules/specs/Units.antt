@@ -1,8 +1,17 @@
 -- Stores, lists of units, and bodies.
-use Rattle.std.specs.Prelude.{ℕ, Bool, true, false, ◌||◌, List, [], ◌∷◌, flat_map, Option, Some, None, if◌then◌else◌}
+use Rattle.std.specs.Prelude.{ℕ, Bool, true, false, ◌||◌, List, [], ◌∷◌, flat_map, Option, Some, None, option_map, if◌then◌else◌}
 use Rattle.std.specs.Option.{option_map_or}
+use Rattle.eu_base.specs.declared.shape.Shape.{Shape}
 use Rattle.elan_types.specs.declared.elan_type.ElanType.{ElanType}
-use Rattle.elan_types.specs.Types.{shape_in, has_own, is_open}
+use Rattle.elan_types.specs.declared.elan_type.ElanType.TheVariants.{Dataspace}
+use Rattle.elan_types.specs.Types.{shape_in, same_type, has_own, is_open}
+use Rattle.elan_types.specs.declared.core_phrase.PlacePhrase.{PlacePhrase, out-PlacePhrase}
+use Rattle.elan_types.specs.declared.core_phrase.ValuePhrase.{ValuePhrase}
+use Rattle.elan_types.specs.declared.core_phrase.Actual.{Actual}
+use Rattle.elan_types.specs.declared.core_phrase.Arm.{Arm}
+use Rattle.elan_types.specs.declared.core_phrase.ValueArm.{ValueArm}
+use Rattle.elan_types.specs.declared.core_phrase.Action.TheOpen as phrase
+use Rattle.elan_types.specs.declared.core_phrase.Action.TheOpen.{PlacePhrase-F}
 use Rattle.elan_types.specs.declared.core_phrase.ValuePhrase.TheVariants as value
 use Rattle.elan_types.specs.declared.core_phrase.Action.{Action}
 use Rattle.elan_types.specs.declared.core_phrase.Action.TheVariants as action
@@ -27,17 +36,45 @@ agreed_as at (Some t) m = if delivers t m then gives t else breaks (at, WrongTyp
 abbrev pub agreed : ℕ → Meant → Meant → Verdict ElanType
 agreed at l r = agreed_as at (type_in l) r
 
+-- A variable for a data space gets a copy.
+abbrev pub given_to : Bool → PlacePhrase → Shape → ValuePhrase → Action
+given_to is_space x s v = if is_space then action.Copy x v else action.Store x s v
+
 -- A variable is needed at the left.
 abbrev pub stored : ℕ → Meant → Meant → Verdict Action
-stored at l r = agreed at l r >>= (λ t. variable at l >>= (λ x. gives (action.Store x (shape_in t) (value_of r))))
+stored at l r = agreed at l r >>= (λ t. variable at l >>= (λ x. gives (given_to (same_type Dataspace t) x (shape_in t) (value_of r))))
 
 -- For types in which one of a text's own occurs no assignment is predefined.
 abbrev pub assigned : ℕ → Meant → Meant → Verdict Meant
 assigned at l r = if option_map_or has_own (type_in l) false then breaks (at, WrongType) else stored at l r >>= (λ a. gives (unit_of (a ∷ [])))
 
+-- ---- BOUND variables
+
+abbrev pub content_here : PlacePhrase-F Action Actual PlacePhrase ValuePhrase Arm ValueArm → Option (PlacePhrase × Shape)
+content_here (phrase.Content p s) = Some (p, s)
+content_here _ = None
+
+-- the BOUND variable for whose content a place stands, and the shape of the content
+abbrev pub bound_in : Meant → Option (PlacePhrase × Shape)
+bound_in (Variable at t x) = content_here (out-PlacePhrase x)
+bound_in m = None
+
+-- A BOUND variable that is given a data space is bound to it.
+abbrev pub binding : Meant → Meant → Option Action
+binding l r = if delivers Dataspace r then option_map (λ b. action.Bind b.0 b.1 (value_of r)) (bound_in l) else None
+
+-- In an assignment it is bound where its name alone stands at the left.
+abbrev pub binding_if : Bool → Meant → Meant → Option Action
+binding_if named l r = if named then binding l r else None
+
+-- What else it is given is stored in its content.
+abbrev pub stored_or : ℕ → Meant → Meant → Option Action → Verdict Action
+stored_or at l r None = stored at l r
+stored_or at l r (Some a) = gives a
+
 -- a name in its declaration, and its initial value
 abbrev pub initial : ℕ → Meant → Meant → Verdict Meant
-initial at n m = stored at n m >>= (λ a. gives (Done (a ∷ [])))
+initial at n m = stored_or at n m (binding n m) >>= (λ a. gives (Done (a ∷ [])))
 
 -- ---- lists of units
 

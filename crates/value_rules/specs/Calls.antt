@@ -29,7 +29,7 @@ use Rattle.elan_meant.specs.declared.meant.Meant.{Meant}
 use Rattle.elan_meant.specs.declared.meant.Meant.TheVariants.{Absent, Variable, Value, Done, Left, Start}
 use Rattle.elan_names.specs.Callees.{Callee}
 use Rattle.elan_names.specs.Callees.{Predefined, Body}
-use Rattle.elan_names.specs.declared.predefined.Predefined.TheVariants.{Operation, Change, Request, ErrorStop}
+use Rattle.elan_names.specs.declared.predefined.Predefined.TheVariants.{Operation, Change, Request, OnSpaces, ErrorStop}
 use Rattle.elan_scope.specs.Scope.{Callable, predefined_callable, find, is_known, can_be_called, refinement_named, held, has_open, is_open_result, is_open_heading}
 use Rattle.elan_names.specs.declared.type_name.TypeName.{TypeName}
 use Rattle.elan_names.specs.Types.{is_open_named}
@@ -65,6 +65,10 @@ abbrev pub parameter : ℕ → ElanType → Access → PlacePhrase → Meant
 parameter at t Const p = constant at t p
 parameter at t Var p = Variable at t p
 
+-- A BOUND variable stands for the content of the data space to which it is bound.
+abbrev pub bound : ℕ → ElanType → PlacePhrase → Meant
+bound at t p = Variable at t (place.Content p (shape_in t))
+
 -- ---- calls
 
 -- A variable is needed for a VAR parameter.
@@ -89,6 +93,8 @@ performed at (Predefined (Operation o)) (Some t) as' = gives (Value at t (value.
 performed at (Predefined (Change c)) r (actual.Place x s ∷ actual.Value v ∷ []) = gives (Done (action.Modify c x v ∷ []))
 performed at (Predefined (Request q)) (Some t) as' = gives (Value at t (value.Ask q as'))
 performed at (Predefined (Request q)) None as' = gives (Done (action.Ask q as' ∷ []))
+performed at (Predefined (OnSpaces o)) (Some t) as' = gives (Value at t (value.Consult o (values_in as')))
+performed at (Predefined (OnSpaces o)) None as' = gives (Done (action.Perform o (values_in as') ∷ []))
 performed at (Predefined ErrorStop) r (actual.Value v ∷ []) = gives (Done (action.ErrorStop v ∷ []))
 performed at (Body n) (Some t) as' = gives (Value at t (value.Call n as' (shape_in t)))
 performed at (Body n) None as' = gives (Done (action.Call n as' ∷ []))
@@ -198,6 +204,7 @@ refined_as k Counter at s o = told (breaks (at, NoVariable))
 abbrev pub denoted : Known → Usage → ℕ → Scope → List ℕ → Home → ℕ → Denotes → Ruled Meant
 denoted k u at s x home n (denotes.Variable t) = told (gives (Variable at t (place_in home n Const)))
 denoted k u at s x home n (denotes.Constant t) = told (gives (constant at t (place_in home n Const)))
+denoted k u at s x home n (denotes.Bound t) = told (gives (bound at t (place_in home n Const)))
 denoted k u at s x home n (denotes.Parameter p) = told (gives (parameter at p.of p.access (place_in home n p.access)))
 denoted k u at s x home n denotes.Procedure = told (applied at s Procedure x [])
 denoted k u at s x home n denotes.Refinement = refined_as k u at s (refinement_named s x)
@@ -207,11 +214,13 @@ abbrev pub named : Known → Usage → ℕ → Scope → List ℕ → Option Fou
 named k u at s x (Some f) = denoted k u at s x f.home f.number f.denotes
 named k u at s x None = told (applied at s Procedure x [])
 
--- what is held under a name has a type without meaning
+-- what is held under a name, or the content for which it stands, has a type without meaning
 abbrev pub holds_open : Denotes → Bool
+holds_open (denotes.Bound t) = is_open t
 holds_open d = has_open (held d)
 
--- A name hangs on a type that has no meaning: that of a variable, constant or parameter, or of what a PROC takes or delivers.
+-- A name hangs on a type that has no meaning: that of a variable, constant or parameter, of the content of a data space, or of what a PROC
+-- takes or delivers.
 abbrev pub denotes_open : Scope → List ℕ → Denotes → Bool
 denotes_open s x denotes.Procedure = is_unclear s Procedure x []
 denotes_open s x d = holds_open d
@@ -244,6 +253,7 @@ is_open_type at (Some t) = nat_eq t.at at && is_open_named t.of
 abbrev pub declared_as : ℕ → Home → ℕ → Denotes → Meant
 declared_as at home n (denotes.Variable t) = Variable at t (place_in home n Const)
 declared_as at home n (denotes.Constant t) = Variable at t (place_in home n Const)
+declared_as at home n (denotes.Bound t) = bound at t (place_in home n Const)
 declared_as at home n d = Done []
 
 -- A name is declared where the first declaration of that name is this one. One that is declared nowhere is unknown.

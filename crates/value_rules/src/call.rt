@@ -5,6 +5,7 @@ ghost use Rattle.elan_types.specs.declared.elan_type.ElanType.{ElanType as ElanT
 ghost use Rattle.elan_types.specs.declared.core_phrase.Actual.{Actual as Actuals};
 ghost use Rattle.eu_base.specs.Operations.{result_kind};
 ghost use Rattle.eu_base.specs.Requests.{request_result};
+ghost use Rattle.eu_base.specs.SpaceOperations.{space_result_kind};
 ghost use Rattle.elan_types.specs.Types.{shape_in, type_in};
 ghost use Rattle.elan_names.specs.Callees as callees;
 ghost use Rattle.elan_names.specs.Predefined as table;
@@ -31,7 +32,7 @@ use elan_names::predefined::Predefined;
 use elan_scope::scope::Scope;
 use elan_scope::trouble::Trouble;
 use elan_types::{Access, Action, Actual, Change, ElanType, Formal, Operation, ValuePhrase, Why};
-use eu_base::{List, NoMemory, RequestName};
+use eu_base::{List, NoMemory, RequestName, SpaceOperation};
 use std::alloc::Global;
 
 // ---- what is given
@@ -203,6 +204,22 @@ fn requested(alloc: Global, at: u32, name: RequestName, actuals: List<Actual>) -
     }
 }
 
+// A call on data spaces, for what it delivers where it does.
+fn on_spaces(alloc: Global, at: u32, operation: SpaceOperation, actuals: List<Actual>) -> Judged
+    ensures { Tells result (spec.performed at (callees.Predefined (names.OnSpaces operation)) (option_map type_in (space_result_kind operation)) actuals) }
+{
+    let values = values_in(alloc, actuals)?;
+    match operation.result_kind() {
+        None => done(alloc, Action::Perform(operation, values)),
+        Some(kind) => delivering(
+            alloc,
+            at,
+            ElanType::of_kind(kind),
+            ValuePhrase::Consult(operation, values),
+        ),
+    }
+}
+
 fn predefined(alloc: Global, at: u32, callee: Predefined, actuals: List<Actual>) -> Judged
     ensures { Tells result (spec.performed at (callees.Predefined callee) (table.result callee) actuals) }
 {
@@ -210,6 +227,7 @@ fn predefined(alloc: Global, at: u32, callee: Predefined, actuals: List<Actual>)
         Predefined::Operation(operation) => operated(alloc, at, operation, actuals),
         Predefined::Change(change) => changed(alloc, at, change, actuals),
         Predefined::Request(name) => requested(alloc, at, name, actuals),
+        Predefined::OnSpaces(operation) => on_spaces(alloc, at, operation, actuals),
         Predefined::ErrorStop => stopped(alloc, at, actuals),
     }
 }

@@ -4,6 +4,8 @@ ghost use Rattle.std.specs.Prelude.{◌≡◌, [], option_map, IfOk};
 ghost use Rattle.std.specs.Option.{option_map_or};
 ghost use Rattle.elan_scope.specs.declared.delivery.Delivery.TheVariants as deliver;
 ghost use Rattle.elan_types.specs.declared.core_phrase.Access.TheVariants as accesses;
+ghost use Rattle.elan_types.specs.declared.core_phrase.PlacePhrase.TheVariants as places;
+ghost use Rattle.elan_types.specs.Types as types;
 ghost use Rattle.elan_meant.specs.declared.meant.Meant.TheVariants as means;
 ghost use Rattle.value_rules.specs.Calls as spec;
 ghost use Rattle.elan_scope.specs.Scope as scopes;
@@ -27,7 +29,7 @@ use elan_scope::known::Known;
 use elan_scope::scope::{Found, Home, Scope, Usage};
 use elan_scope::trouble::Trouble;
 use elan_types::{Access, Action, ElanType, Parameter, PlacePhrase, ValuePhrase, Why};
-use eu_base::{List, NoMemory};
+use eu_base::{Boxed, List, NoMemory};
 use std::alloc::Global;
 
 // The place of what is held with this access; only PROCs and OPs have parameters.
@@ -58,10 +60,9 @@ impl Held {
     }
 }
 
-fn variable(at: u32, of: &ElanType, held: Held) -> Judged
-    ensures { Tells result (gives (means.Variable at of.now (spec.place_in held.home held.number held.access))) }
+fn variable_at(at: u32, of: &ElanType, place: PlacePhrase) -> Judged
+    ensures { Tells result (gives (means.Variable at of.now place)) }
 {
-    let place = held.place()?;
     match of.try_clone() {
         Err(_refusal) => {
             place.let_go();
@@ -69,6 +70,35 @@ fn variable(at: u32, of: &ElanType, held: Held) -> Judged
         }
         Ok(of) => Ok(Meant::Variable { at, of, place }),
     }
+}
+
+fn variable(at: u32, of: &ElanType, held: Held) -> Judged
+    ensures { Tells result (gives (means.Variable at of.now (spec.place_in held.home held.number held.access))) }
+{
+    let place = held.place()?;
+    variable_at(at, of, place)
+}
+
+// The content of this type of the data space to which a variable is bound.
+fn content(alloc: Global, of: &ElanType, variable: PlacePhrase) -> Result<PlacePhrase, NoMemory>
+    ensures { IfOk result (λ place. place ≡ places.Content variable (types.shape_in of.now)) }
+{
+    let variable = Boxed::new(alloc, variable)?;
+    match of.shape(alloc) {
+        Err(refusal) => {
+            variable.into_inner().let_go();
+            Err(refusal)
+        }
+        Ok(shape) => Ok(PlacePhrase::Content(variable, shape)),
+    }
+}
+
+// A BOUND variable stands for the content of the data space to which it is bound.
+fn bound(alloc: Global, at: u32, of: &ElanType, held: Held) -> Judged
+    ensures { Tells result (gives (spec.bound at of.now (spec.place_in held.home held.number held.access))) }
+{
+    let place = content(alloc, of, held.place()?)?;
+    variable_at(at, of, place)
 }
 
 fn constant(alloc: Global, at: u32, of: &ElanType, held: Held) -> Judged
@@ -155,12 +185,12 @@ fn refined_as(
 
 // ---- identifiers without actuals
 
-// Whether what is held under a name has a type without meaning.
+// Whether what is held under a name, or the content for which it stands, has a type without meaning.
 fn holds_open(denotes: &Denotes) -> bool
     ensures { result ≡ spec.holds_open denotes.now }
 {
     match denotes {
-        Denotes::Variable(of) | Denotes::Constant(of) => of.is_open(),
+        Denotes::Variable(of) | Denotes::Constant(of) | Denotes::Bound(of) => of.is_open(),
         Denotes::Parameter(parameter) => parameter.of.is_open(),
         Denotes::Procedure | Denotes::Refinement | Denotes::Denoter(_) => false,
     }
@@ -184,6 +214,7 @@ fn denoted(
     match found.denotes {
         Denotes::Variable(of) => variable(at, of, plainly_held(found)),
         Denotes::Constant(of) => constant(alloc, at, of, plainly_held(found)),
+        Denotes::Bound(of) => bound(alloc, at, of, plainly_held(found)),
         Denotes::Parameter(given) => parameter(alloc, at, found.home, found.number, given),
         Denotes::Procedure => applied_alone(alloc, at, scope, name),
         Denotes::Refinement => refined_as(alloc, known, usage, at, scope, name),
@@ -302,6 +333,7 @@ fn declared_as(alloc: Global, at: u32, found: Found<'_>) -> Judged
 {
     match found.denotes {
         Denotes::Variable(of) | Denotes::Constant(of) => variable(at, of, plainly_held(found)),
+        Denotes::Bound(of) => bound(alloc, at, of, plainly_held(found)),
         Denotes::Parameter(_) | Denotes::Procedure | Denotes::Refinement | Denotes::Denoter(_) =>
             Ok(Meant::Done(List::new(alloc))),
     }

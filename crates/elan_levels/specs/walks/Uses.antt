@@ -2,7 +2,7 @@
 use Rattle.std.specs.Prelude.{ℕ, List, [], ◌∷◌, ◌++◌, option_to_list}
 use Rattle.elan_tree.specs.declared.phrase.Unit.{Unit as Statement}
 use Rattle.elan_walk.specs.Nodes as nodes
-use Rattle.elan_walk.specs.Nodes.{Node, alone, other, sign, of_type, item, let_name, abbreviation, new_type, unbuilt}
+use Rattle.elan_walk.specs.Nodes.{Node, alone, other, sign, of_type, item, let_name, abbreviation, new_type, content}
 use Rattle.elan_scope.specs.declared.scope.Scope.{Scope}
 use Rattle.elan_scope.specs.Scope.{refinement_named}
 
@@ -17,7 +17,7 @@ module _ (s : Scope) where
   called (let_name n c) = []
   called (abbreviation n of) = []
   called (new_type at n of) = []
-  called unbuilt = []
+  called (content of) = []
 
   abbrev pub all_called : List Node → List ℕ
   all_called [] = []

@@ -3,8 +3,8 @@ use Rattle.std.specs.Prelude.{pos, Bool, ◌&&◌, List, [], ◌∷◌, Option}
 use Rattle.std.specs.Option.{unwrap_or}
 use Rattle.eu_base.specs.declared.shape.Shape.{Shape}
 use Rattle.elan_types.specs.declared.elan_type.ElanType.{ElanType}
-use Rattle.elan_types.specs.declared.elan_type.ElanType.TheVariants.{Int}
-use Rattle.elan_types.specs.Types.{shape_in}
+use Rattle.elan_types.specs.declared.elan_type.ElanType.TheVariants.{Int, Dataspace}
+use Rattle.elan_types.specs.Types.{shape_in, same_type}
 use Rattle.elan_types.specs.declared.core_phrase.ValuePhrase.{ValuePhrase}
 use Rattle.elan_types.specs.declared.core_phrase.ValuePhrase.TheVariants as value
 use Rattle.elan_types.specs.declared.core_phrase.Action.TheVariants as action
@@ -20,9 +20,9 @@ use Rattle.elan_meant.specs.Parts.{actions, may_deliver, written, unit_of}
 abbrev pub nothing_done : Ruled (List Meant) → Ruled Meant
 nothing_done parts = parts >>= (λ ms. gives (Done []))
 
--- the shape of the type that two phrases deliver
-abbrev pub agreed_shape : Verdict ElanType → Verdict Shape
-agreed_shape q = verdict.◌>>=◌ q (λ t. verdict.gives (shape_in t))
+-- whether the type that two phrases deliver is that of data spaces, and its shape
+abbrev pub agreed_shape : Verdict ElanType → Verdict (Bool × Shape)
+agreed_shape q = verdict.◌>>=◌ q (λ t. verdict.gives (same_type Dataspace t, shape_in t))
 
 abbrev pub uncounted : Meant → Meant → Meant → Meant
 uncounted c us u = unit_of (action.Loop (written c) (actions us) (written u) ∷ [])

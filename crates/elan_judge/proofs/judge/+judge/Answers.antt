@@ -18,7 +18,7 @@ use Rattle.elan_judge.specs.walks.Steps as walk
 use Rattle.elan_judge.proofs.Rows.{row_further, row_whole, row_goes, two_more, roles_go, roles_end, row_is, one_is, branches_go, branches_end, cases_go, cases_end}
 use Rattle.elan_judge.proofs.Rows.{first_fails, first_is, whole_fails, whole_is}
 use Rattle.elan_judge.proofs.Shapes.{units_of, units_absent, units_written, choice_parts, case_parts, loop_of, choice_is, selection_is, procedure_is, second_is, begun_is, alone, firsts, others_are, only_is, cand_is, cor_is, index_is}
-use Rattle.elan_judge.proofs.Shapes.{loop_is, branch_shape, case_shape, counter_shape, item_is, variables_is, constants_is, let_is}
+use Rattle.elan_judge.proofs.Shapes.{loop_is, branch_shape, case_shape, counter_shape, item_is, variables_is, bound_is, becomes_is, constants_is, let_is}
 use Rattle.elan_judge.proofs.judge.+judge.Goals as goal
 use Rattle.elan_judge.proofs.judge.+judge.Goals.{judge-in-None, judge-in-Some, judge-in-None-otherwise, judge-in-Some-otherwise}
 
@@ -281,6 +281,19 @@ judge_unit-returns-in-Constants t c =
     constants_is c.args.scope.now c.args.known.now c.judge_declaration-in-Constants.result c.args.unit.now c.in-Constants.field-0 c.in-Constants.field-1
     c.in-Constants.items c.as_slice-in-Constants.result.now c.in-Constants.is c.as_slice-in-Constants.ensures
     (c.judge_declaration-in-Constants.ensures c.in-Constants.field-0)
+
+pub judge_unit-returns-in-Bound : goal.judge_unit-returns-in-Bound
+judge_unit-returns-in-Bound t c =
+    bound_is c.args.scope.now c.args.known.now c.judge_declaration-in-Bound.result c.args.unit.now c.in-Bound.field-0 c.in-Bound.field-1
+    c.in-Bound.items c.as_slice-in-Bound.result.now c.in-Bound.is c.as_slice-in-Bound.ensures (c.judge_declaration-in-Bound.ensures c.in-Bound.field-0)
+
+pub judge_unit-returns-in-Becomes : goal.judge_unit-returns-in-Becomes
+judge_unit-returns-in-Becomes t c =
+    let s = c.args.scope.now in
+    let k = c.args.known.now in
+    becomes_is s k c.assignment_phrase.result c.args.unit.now c.in-Becomes.at c.in-Becomes.left c.in-Becomes.right c.is_name-named.result c.in-Becomes.is
+    (c.is_name-named.ensures s)
+    (c.assignment_phrase.ensures k (shape.expr s c.in-Becomes.left) (shape.expr s c.in-Becomes.right) c.judge-left.ensures c.judge-right.ensures)
 
 pub judge_unit-returns-in-Let : goal.judge_unit-returns-in-Let
 judge_unit-returns-in-Let t c =

@@ -3,8 +3,8 @@ use Rattle.std.proofs.Common.{rules, ◌≡◌, ◌+◌, ◌++◌, [], ◌∷◌
 use Rattle.std.specs.Prelude.{flat_map, option_map, unwrap_or}
 use Rattle.std.proofs.lemmas.List.{drop_all}
 use Rattle.elan_tree.specs.declared.phrase.Expr.TheFolds.{the_lemmas}
-use Rattle.elan_walk.specs.declared.node.Held.TheVariants.{Variable, Constant}
-use Rattle.elan_walk.specs.Nodes.{other, sign, of_type, item, all, in_expr, in_branch, in_case, in_counter, in_item, in_limit, in_unit, labels}
+use Rattle.elan_walk.specs.declared.node.Held.TheVariants.{Variable, Constant, Bound}
+use Rattle.elan_walk.specs.Nodes.{other, sign, of_type, content, item, all, in_expr, in_branch, in_case, in_counter, in_item, in_limit, in_unit, labels}
 use Rattle.elan_walk.proofs.Went.{rest_of, two, three, four, turn, ends}
 use Rattle.elan_walk.proofs.walk.+walk.Goals as goal
 
@@ -75,6 +75,13 @@ visit_unit-returns-in-Constants g t c =
     let b = flat_map (λ i. i Constant c.in-Constants.of) (map in_item c.as_slice-in-Constants.result.now) in
     let e : a ++ b ≡ in_unit c.args.unit.now = search (rules, the_lemmas, c.in-Constants.is, c.as_slice-in-Constants.ensures) in
     two g.V.Visitor.wanted g.V.Visitor.after a b e c.visit-visitor-in-Constants.ensures c.in_items-in-Constants.ensures
+
+pub visit_unit-returns-in-Bound : goal.visit_unit-returns-in-Bound
+visit_unit-returns-in-Bound g t c =
+    let a = content c.in-Bound.of ∷ [] in
+    let b = flat_map (λ i. i Bound c.in-Bound.of) (map in_item c.as_slice-in-Bound.result.now) in
+    let e : a ++ b ≡ in_unit c.args.unit.now = search (rules, the_lemmas, c.in-Bound.is, c.as_slice-in-Bound.ensures) in
+    two g.V.Visitor.wanted g.V.Visitor.after a b e c.visit-visitor-in-Bound.ensures c.in_items-in-Bound.ensures
 
 pub visit_unit-returns-in-Becomes : goal.visit_unit-returns-in-Becomes
 visit_unit-returns-in-Becomes g t c =

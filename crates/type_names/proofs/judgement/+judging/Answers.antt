@@ -7,12 +7,12 @@ use Rattle.type_names.proofs.judgement.+judging.Goals as goal
 pub judge-returns-in_ok-items-in-Row : goal.judge-returns-in_ok-items-in-Row
 judge-returns-in_ok-items-in-Row t c =
     rows_told (names_seen c.args.visible) c.args.visible.refinements.now c.row_judged.result c.in-Row.at c.in-Row.size c.args.of.now c.in-Row.of
-    c.get.result.now c.in_ok-items-in-Row.items c.size.result c.size_fault.result c.earlier-behind.result c.in-Row.is c.get.ensures
+    c.get.result.now c.args.inside c.in_ok-items-in-Row.items c.size.result c.size_fault.result c.earlier-behind.result c.in-Row.is c.get.ensures
     c.in_ok-items-in-Row.ensures c.size.ensures c.size_fault.ensures c.earlier-behind.ensures c.row_judged.ensures
 
 pub judge-returns-in_ok-fields-in-Struct : goal.judge-returns-in_ok-fields-in-Struct
 judge-returns-in_ok-fields-in-Struct t c =
-    structures_told (names_seen c.args.visible) c.args.visible.refinements.now c.structure_judged.result c.in-Struct.at c.args.of.now
+    structures_told (names_seen c.args.visible) c.args.visible.refinements.now c.structure_judged.result c.in-Struct.at c.args.of.now c.args.inside
     c.in-Struct.fields c.as_slice.result.now c.in_ok-fields-in-Struct.fields c.in-Struct.is c.as_slice.ensures c.in_ok-fields-in-Struct.ensures
     c.structure_judged.ensures
 

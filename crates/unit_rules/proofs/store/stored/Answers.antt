@@ -10,6 +10,6 @@ returns-in-Err c = stored_fails c.args.at c.args.left c.args.right c.in-Err.trou
 
 pub returns-in-Ok-variable : goal.returns-in-Ok-variable
 returns-in-Ok-variable c =
-    subst (λ (r : Ruled Action). Is c.store.result r)
-    (sym (stored_is c.args.at c.args.left c.args.right c.in-Ok.shape c.in-Ok-variable.place c.in-Ok.ensures c.in-Ok-variable.ensures))
-    c.store.ensures
+    subst (λ (r : Ruled Action). Is c.given_to.result r)
+    (sym (stored_is c.args.at c.args.left c.args.right (c.in-Ok.is_space, c.in-Ok.shape) c.in-Ok-variable.place c.in-Ok.ensures c.in-Ok-variable.ensures))
+    c.given_to.ensures

@@ -1,5 +1,5 @@
 use Rattle.std.proofs.lemmas.Result.{on_ok_weaker}
-use Rattle.task_texts.specs.Below.source_machine.specs.Tasks.{replied, with_doing}
+use Rattle.task_tidy.specs.Below.source_machine.specs.Tasks.{replied, with_doing}
 use Rattle.live_tasks.proofs.Standing.{reads, stood, call_sound, call_whole, call_fits, call_each}
 use Rattle.live_tasks.proofs.tasks.Tasks.answer.Goals as goal
 

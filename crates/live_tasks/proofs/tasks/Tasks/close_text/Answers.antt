@@ -1,7 +1,7 @@
 use Rattle.std.proofs.Common.{arith}
 use Rattle.source_texts.specs.Sources.{source_space}
-use Rattle.task_texts.specs.Below.source_machine.specs.Stores.{with_named}
-use Rattle.task_texts.specs.Below.source_machine.specs.Tasks.{Idle, with_doing}
+use Rattle.task_tidy.specs.Below.source_machine.specs.Stores.{with_named}
+use Rattle.task_tidy.specs.Below.source_machine.specs.Tasks.{Idle, with_doing}
 use Rattle.live_tasks.proofs.Standing.{reads, stood, stands_at, but_one, call_sound, call_stands, call_puts}
 use Rattle.space_memory.specs.Changes.{frames_before}
 use Rattle.live_tasks.specs.Tasks.{task_roots}

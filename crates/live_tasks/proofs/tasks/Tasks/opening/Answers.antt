@@ -1,7 +1,7 @@
 use Rattle.std.proofs.Common.{◌≡◌, ◌++◌, ◌∷◌, [], List, ap, sym, ◌∙◌, subst}
 use Rattle.page_pool.specs.Pool.{Pages}
-use Rattle.task_texts.specs.Below.source_machine.specs.Systems.{new_own}
-use Rattle.task_texts.specs.Below.live_task.specs.declared.task.Task.{Task}
+use Rattle.task_tidy.specs.Below.source_machine.specs.Systems.{new_own}
+use Rattle.task_tidy.specs.Below.live_task.specs.declared.task.Task.{Task}
 use Rattle.live_tasks.specs.Tasks.{IsFit, StandIn}
 use Rattle.live_tasks.proofs.Fresh.{two_roots}
 use Rattle.live_tasks.proofs.Opening.{opening_fits, opening_stands}

@@ -1,0 +1,137 @@
+//! Data spaces in programs.
+
+/// Texts with data spaces, and behind each what it writes, or at which place and for which reason it is refused: DATASPACE and BOUND
+/// variables, the calls on data spaces and their names, where DATASPACE may stand, what is bound and what is stored, own operators beside
+/// it, and what is not built yet. A text that has a meaning and puts nothing writes nothing.
+pub const SPACES: &str = "\
+> DATASPACE VAR d; put (type (d))
+FEHLER : Datenraum existiert nicht
+> DATASPACE VAR d :: nilspace; put (type (d)); type (d, 7); put (type (d)); forget (d); put (type (d))
+0 7 
+FEHLER : Datenraum existiert nicht
+> DATASPACE VAR d :: nilspace, e :: d; type (e, 3); put (type (d)); put (type (e)); d := e; put (type (d))
+0 3 3 
+> DATASPACE CONST c :: nilspace; put (type (c))
+0 
+> BOUND INT VAR b :: nilspace
+FEHLER : Datenraum existiert nicht
+> DATASPACE VAR d :: nilspace; BOUND INT VAR b :: d; b := 4; put (b); b INCR 2; put (b)
+4 6 
+> DATASPACE VAR d :: nilspace; BOUND ROW 3 INT VAR b; b := d; b [2] := 5; put (b [2]); put (b [4])
+5 
+FEHLER : Index ausserhalb
+> DATASPACE VAR d :: nilspace; BOUND INT VAR b :: d; BOUND TEXT VAR t :: d
+FEHLER : falscher Datenraumtyp
+> DATASPACE VAR d :: nilspace; BOUND INT VAR b :: d, c :: d; b := 7; put (c); c := b + 1; put (b)
+7 8 
+> DATASPACE VAR d :: nilspace; BOUND INT VAR b :: 3
+FEHLER : Datenraum existiert nicht
+> DATASPACE VAR d :: nilspace; BOUND INT VAR b; (b) := d
+FEHLER : falscher Typ (Zeile 1, Stelle 47)
+> TYPE T = INT; DATASPACE VAR d :: nilspace; BOUND T VAR b; CONCR (b) := d
+FEHLER : falscher Typ (Zeile 1, Stelle 59)
+> TYPE T = INT; DATASPACE VAR d :: nilspace; BOUND T VAR b; b := d; CONCR (b) := 3; put (CONCR (b))
+3 
+> TYPE T = INT; OP := (T VAR a, DATASPACE CONST d): put (9) END OP :=; BOUND T VAR b; b := nilspace
+FEHLER : Datenraum existiert nicht
+> TYPE T = INT; OP := (T VAR a, DATASPACE CONST d): put (9) END OP :=; T VAR b; b := nilspace
+9 
+> OP := (DATASPACE VAR a, DATASPACE CONST d): put (9) END OP :=; DATASPACE VAR b; b := nilspace; DATASPACE VAR c :: b
+9 
+FEHLER : Datenraum existiert nicht
+> OP := (X VAR a, DATASPACE CONST d): END OP :=; INT PROC f: BOUND INT VAR b; b := nilspace END PROC f; put (1)
+FEHLER : unbekannt (Zeile 1, Stelle 8)
+> INT PROC f: BOUND INT VAR b; b := nilspace END PROC f; OP := (X VAR a, DATASPACE CONST d): END OP :=; put (1)
+FEHLER : falscher Typ (Zeile 1, Stelle 30)
+> ROW 2 DATASPACE VAR a
+FEHLER : falsche Stelle (Zeile 1, Stelle 7)
+> STRUCT (INT a, DATASPACE b) VAR s
+FEHLER : falsche Stelle (Zeile 1, Stelle 16)
+> LET D = DATASPACE; D VAR d
+FEHLER : falsche Stelle (Zeile 1, Stelle 9)
+> TYPE D = DATASPACE; D VAR d
+FEHLER : falsche Stelle (Zeile 1, Stelle 10)
+> BOUND DATASPACE VAR d; d := nilspace
+FEHLER : falsche Stelle (Zeile 1, Stelle 7)
+> BOUND ROW 2 DATASPACE VAR d
+FEHLER : falsche Stelle (Zeile 1, Stelle 13)
+> BOUND X VAR d; d := nilspace; put (d)
+FEHLER : unbekannt (Zeile 1, Stelle 7)
+> BOUND INT VAR d, d
+FEHLER : doppelt (Zeile 1, Stelle 18)
+> DATASPACE VAR d, e; IF d = e THEN put (1) FI
+FEHLER : falscher Typ (Zeile 1, Stelle 24)
+> DATASPACE VAR d; d := 3
+FEHLER : falscher Typ (Zeile 1, Stelle 18)
+> DATASPACE VAR d; INT VAR i :: d
+FEHLER : falscher Typ (Zeile 1, Stelle 26)
+> PROC p (DATASPACE CONST d): put (type (d)) END PROC p; p (nilspace)
+0 
+> PROC p (DATASPACE VAR d): d := nilspace END PROC p; DATASPACE VAR e; p (e); put (type (e))
+0 
+> DATASPACE PROC f: DATASPACE VAR d :: nilspace; type (d, 4); d END PROC f; put (type (f))
+4 
+> PROC p (INT VAR i): i INCR 1 END PROC p; BOUND INT VAR b :: new (\"x\"); p (b); p (b); put (b); BOUND INT VAR c :: old (\"x\"); put (c)
+2 2 
+> BOUND INT VAR i :: new (\"i\"); FOR i UPTO 3 REP put (i) PER; put (i)
+1 2 3 3 
+> put (exists (\"a\")); DATASPACE VAR d; d := new (\"a\"); IF exists (\"a\") THEN put (1) FI
+FEHLER : falscher Typ (Zeile 1, Stelle 1)
+> IF exists (\"a\") THEN put (1) FI; DATASPACE VAR d; d := new (\"a\"); IF exists (\"a\") THEN put (2) FI; rename (\"a\", \"b\"); copy (\"b\", \"c\"); forget (\"b\"); IF exists (\"c\") THEN put (3) FI; put (type (old (\"b\")))
+2 3 
+FEHLER : Datenraum gibt es nicht
+> new (\"a\")
+FEHLER : falscher Typ (Zeile 1, Stelle 1)
+> type (3)
+FEHLER : falscher Typ (Zeile 1, Stelle 1)
+> type (nilspace, 3)
+FEHLER : Datenraum existiert nicht
+> forget (3)
+FEHLER : falscher Typ (Zeile 1, Stelle 1)
+> rename (\"a\")
+FEHLER : unbekannt (Zeile 1, Stelle 1)
+> send (niltask, 1, d, i)
+FEHLER : kein ELAN-Text
+> INT VAR send
+FEHLER : kein ELAN-Text
+> BOUND TEXT VAR t :: new (\"t\"); t := \"abc\"; t CAT \"d\"; put (t); put (LENGTH t)
+abcd 4 
+> PACKET p DEFINES b: BOUND INT VAR b END PACKET p
+FEHLER : kein ELAN-Text (Zeile 1, Stelle 1)
+> BOUND TASK VAR t :: new (\"t\"); IF t = niltask THEN put (1) FI
+1 
+> LET b = 3; BOUND INT VAR b
+FEHLER : doppelt (Zeile 1, Stelle 26)
+> BOUND INT VAR b; ROW b INT VAR a
+FEHLER : falscher Typ (Zeile 1, Stelle 22)
+> BOUND INT VAR b; put (b)
+FEHLER : Datenraum existiert nicht
+> BOUND INT VAR b :: nilspace :: nilspace
+FEHLER : kein ELAN-Text (Zeile 1, Stelle 29)
+> BOUND INT VAR b; b := b
+FEHLER : Datenraum existiert nicht
+> DATASPACE VAR d :: nilspace; BOUND INT VAR b :: d; DATASPACE VAR e :: b
+FEHLER : falscher Typ (Zeile 1, Stelle 66)
+> BOUND INT VAR b; DATASPACE VAR d; d := b
+FEHLER : falscher Typ (Zeile 1, Stelle 35)
+> BOUND STRUCT (INT x, TEXT t) VAR s :: new (\"s\"); s.x := 3; s.t := \"q\"; put (s.t); put (s.x)
+q 3 
+> nilspace
+FEHLER : falscher Typ (Zeile 1, Stelle 1)
+> put (nilspace)
+FEHLER : falscher Typ (Zeile 1, Stelle 1)
+> DATASPACE VAR d :: nilspace; d := d; put (type (d))
+0 
+> INT VAR type; type := 3; put (type)
+3 
+> INT PROC type (DATASPACE CONST d): 9 END PROC type; put (type (nilspace))
+9 
+> BOOL VAR new :: TRUE; IF new THEN put (1) FI
+1 
+> BOUND INT CONST b :: nilspace
+FEHLER : kein ELAN-Text (Zeile 1, Stelle 11)
+> PROC p (BOUND INT VAR b): END PROC p; put (1)
+FEHLER : kein ELAN-Text (Zeile 1, Stelle 9)
+> BOUND ROW 129 ROW 128 INT VAR a
+FEHLER : zu gross (Zeile 1, Stelle 7)
+";

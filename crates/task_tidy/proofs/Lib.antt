@@ -1,0 +1,4 @@
+pub mod Left
+pub mod Named
+pub mod Denoted
+pub mod Keeping

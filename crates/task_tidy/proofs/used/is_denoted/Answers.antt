@@ -1,0 +1,12 @@
+use Rattle.std.proofs.Common.{rules}
+use Rattle.space_memory.specs.Memories.{roots}
+use Rattle.task_texts.specs.Below.task_job.proofs.Framed.{whole_there}
+use Rattle.task_tidy.proofs.used.is_denoted.Goals as goal
+
+pub returns-in-Ok-clause-stands : goal.returns-in-Ok-clause-stands
+returns-in-Ok-clause-stands c =
+    whole_there c.variables_denote.new.m.pool.now _ (roots c.variables_denote.new.m.memory.now) _ (search rules) (search rules) c.variables_denote.new.m.agree
+
+pub returns-in-Err-NoMemory-clause-stands : goal.returns-in-Err-NoMemory-clause-stands
+returns-in-Err-NoMemory-clause-stands c =
+    whole_there c.variables_denote.new.m.pool.now _ (roots c.variables_denote.new.m.memory.now) _ (search rules) (search rules) c.variables_denote.new.m.agree
