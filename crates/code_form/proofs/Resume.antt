@@ -2,7 +2,7 @@
 use Rattle.std.proofs.Common.{◌≡◌, ℕ, zero, suc, ◌+◌, ◌≤◌, List, [], ◌∷◌, ◌++◌, Some, refl, sym, ap, ◌∙◌, subst, arith, ⊎_elim}
 use Rattle.std.specs.Prelude.{slice_get}
 use Rattle.std.proofs.lemmas.Bool.{cases_lt}
-use Rattle.eu_base.specs.declared.request.Reply.{Reply}
+use Rattle.eu_base.specs.Requests.{Answer}
 use Rattle.code_form.specs.declared.halt.Halt.TheVariants as halts
 use Rattle.code_form.specs.Program.{Program, instr_of}
 use Rattle.code_form.specs.declared.waits.Waits.{Waits}
@@ -35,19 +35,19 @@ one_rest p c s r r' a b =
     (cases_lt a.0 b.0)
 
 -- the same stage with more marks and replies; a rest for want of them is where the step was made
-abbrev Widens : ℕ → List Reply → Stage → Control → Scene → Stage → Type 0
+abbrev Widens : ℕ → List Answer → Stage → Control → Scene → Stage → Type 0
 Widens marks replies (On c' s') c s st = st ≡ On c' (wider s' marks replies)
 Widens marks replies (Over r) c s st = IsPaused r.how → (r.control ≡ c) × (r.scene ≡ s)
 Widens marks replies Lost c s st = Unit {0}
 
-after_widens : (marks : ℕ) (replies : List Reply) (a : After) (d : Control) (s : Scene)
+after_widens : (marks : ℕ) (replies : List Answer) (a : After) (d : Control) (s : Scene)
     → Widens marks replies (after_stage a d s) d s (after_stage a d (wider s marks replies))
 after_widens marks replies (To c' m) d s = refl
 after_widens marks replies (Asks c' q m) d s = refl
 after_widens marks replies (Stops stop) d s = λ paused. absurd paused
 after_widens marks replies Unsaid d s = tt
 
-of_marks : (marks : ℕ) (replies : List Reply) (st st' : Stage) (c : Control) (s s' : Scene) → ((r : Rest) → st ≡ Over r → IsPaused r.how → ⊥)
+of_marks : (marks : ℕ) (replies : List Answer) (st st' : Stage) (c : Control) (s s' : Scene) → ((r : Rest) → st ≡ Over r → IsPaused r.how → ⊥)
     → Widens marks replies st c s st' → Widens marks replies st c s' st'
 of_marks marks replies (On c' x) st' c s s' never w = w
 of_marks marks replies (Over r) st' c s s' never w = λ paused. absurd (never r refl paused)
@@ -61,7 +61,7 @@ never_paused (Stops stop) d s r e paused =
     subst (λ (x : Rest). IsPaused x.how) (sym f) paused
 never_paused Unsaid d s r e paused = let f : ⊥ = cc in f
 
-mark_widens : (marks : ℕ) (replies : List Reply) (m : ℕ) (a : After) (d : Control) (s : Scene)
+mark_widens : (marks : ℕ) (replies : List Answer) (m : ℕ) (a : After) (d : Control) (s : Scene)
     → Widens marks replies (mark_stage m a d s) d s (mark_stage (m + marks) a d (wider s marks replies))
 mark_widens marks replies zero a d s = λ paused. (refl, refl)
 mark_widens marks replies (suc m) a d s =
@@ -71,30 +71,30 @@ mark_widens marks replies (suc m) a d s =
     (of_marks marks replies (after_stage a d s') (after_stage a d (wider s' marks replies)) d s' s (never_paused a d s')
     (after_widens marks replies a d s'))
 
-move_widens : (marks : ℕ) (replies : List Reply) (m : Move) (d : Control) (s : Scene)
+move_widens : (marks : ℕ) (replies : List Answer) (m : Move) (d : Control) (s : Scene)
     → Widens marks replies (move_stage m d s) d s (move_stage m d (wider s marks replies))
 move_widens marks replies (Goes c' m) d s = refl
 move_widens marks replies (Spends a) d s = mark_widens marks replies s.marks a d s
 move_widens marks replies (Halts stop) d s = λ paused. (refl, refl)
-move_widens marks replies (Refuses stop c') d s = refl
+move_widens marks replies (Refuses stop c' m) d s = refl
 move_widens marks replies Ends d s = λ paused. (refl, refl)
 move_widens marks replies Unknown d s = tt
 move_widens marks replies Stuck d s = tt
 
-stage_widens : (p : Program) (marks : ℕ) (replies : List Reply) (w : Waits) (c : Position) (s : Scene)
+stage_widens : (p : Program) (marks : ℕ) (replies : List Answer) (w : Waits) (c : Position) (s : Scene)
     → Widens marks replies (stage_at w p c s) (record { position = c; waits = w }) s (stage_at w p c (wider s marks replies))
 stage_widens p marks replies Nothing c s = move_widens marks replies (step p c s.mem) (free c) s
 stage_widens p marks replies (Given r) c s =
     move_widens marks replies (takes_reply (instr_of (slice_get p.lines c.pc)) r c s.mem) (given c r) s
 stage_widens p marks replies (Asked q) c s = asks s.replies
   where
-    asks : (rs : List Reply)
+    asks : (rs : List Answer)
         → Widens marks replies (reply_stage rs q c s) (record { position = c; waits = Asked q }) s (reply_stage (rs ++ replies) q c (wider s marks replies))
     asks [] = λ paused. (refl, refl)
     asks (r ∷ rs) = refl
 stage_widens p marks replies (Refused stop) c s = λ paused. (refl, refl)
 
-module _ (p : Program) (marks : ℕ) (replies : List Reply) (last : Rest) where
+module _ (p : Program) (marks : ℕ) (replies : List Answer) (last : Rest) where
   resume_stage : (j : ℕ) (st : Stage) (c : Control) (s : Scene) (r : Rest) → IsPaused r.how
       → ((c : Control) (s : Scene) → exec p j c s ≡ Some r → Rests p c (wider s marks replies) last) → carry_on st (exec p j) ≡ Some r
       → Rests p r.control (wider r.scene marks replies) last → Widens marks replies st c s (advance p c (wider s marks replies))
@@ -120,4 +120,4 @@ pub resumed : Resumes
 resumed p c s r last marks replies paused a h = resume p marks replies last a.0 c s r paused a.1 h
 
 pub replied : Replies
-replied p c s q reply last h = (suc h.0, h.1)
+replied p c s q a last h = (suc h.0, h.1)

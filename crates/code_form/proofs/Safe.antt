@@ -1,14 +1,14 @@
 -- A step from a state that fits can be made, and leads to one that fits. One induction over the instructions, so it stands in one file.
 use Rattle.std.proofs.Common.{◌≡◌, ℕ, suc, ◌+◌, ◌-◌, ◌*◌, ◌<◌, ◌≤◌, ◌%◌, List, [], ◌∷◌, ◌++◌, map, length, Option, Some, None, Bool, true, false, cond, refl, sym}
 use Rattle.std.proofs.Common.{ap, ◌∙◌, subst, arith, length-append, append_assoc, append-nil}
-use Rattle.std.specs.Prelude.{slice_get, take, drop, flat_map, Ok, Err, ℤ, pos, negsuc, nat_le, ◌&&◌}
+use Rattle.std.specs.Prelude.{slice_get, take, drop, flat_map, Ok, Err}
 use Rattle.std.specs.Ordering.{int_eq}
+use Rattle.std.specs.List.{AllByRecursion}
 use Rattle.std.proofs.lemmas.List.{length-map, take-map, drop-map}
 use Rattle.std.proofs.lemmas.Option.{slice_get_within}
-use Rattle.std.proofs.lemmas.Bool.{le-leb, leb-true}
+use Rattle.std.proofs.lemmas.Bool.{leb-true}
 use Rattle.eu_base.specs.declared.address.Addr.{Addr}
 use Rattle.eu_base.specs.declared.address.TheConstants.{CELLS}
-use Rattle.eu_base.specs.declared.value.TheConstants.{OPERAND_BYTES}
 use Rattle.eu_base.specs.declared.value.Kind.{Kind}
 use Rattle.eu_base.specs.declared.value.Kind.TheVariants as kinds
 use Rattle.eu_base.specs.declared.value.Value.{Value}
@@ -28,7 +28,8 @@ use Rattle.eu_base.specs.declared.request.RequestName.{RequestName}
 use Rattle.eu_base.specs.declared.request.Request.{Request}
 use Rattle.eu_base.specs.declared.request.Reply.{Reply}
 use Rattle.eu_base.specs.declared.request.Reply.TheVariants as replies
-use Rattle.eu_base.specs.Requests.{request_kinds, request_places, request_result, request_size, request_of, read_as, answer_of}
+use Rattle.eu_base.specs.Requests.{request_kinds, request_places, request_result, request_size, is_message, sends, request_of, read_as, answer_of}
+use Rattle.eu_base.specs.Requests.{then_asked, message_values, Suits}
 use Rattle.eu_base.specs.Cells.{Cell, Free, Word, Letters, held_of, IsCell, run_cell, packet_cell, place_in, written, cell_blocks, area_blocks, blocks_in, freed}
 use Rattle.code_form.specs.declared.operand.Operand.{Operand}
 use Rattle.code_form.specs.declared.operand.Operand.TheVariants.{Value as Of, Place as At, Aggregate}
@@ -44,224 +45,22 @@ use Rattle.code_form.specs.declared.code.Spot.{Spot}
 use Rattle.code_form.specs.declared.code.Entry.{Entry}
 use Rattle.code_form.specs.declared.code.Layout.{Layout}
 use Rattle.code_form.specs.declared.code.Layout.TheVariants as layouts
-use Rattle.code_form.specs.Program.{Program, line_of, instr_of, in_body, deeper, owner, owner_in, owner_at, layout_of, cells_of, cells_in, cells_at, CellUse, HoldsValue, cell_uses, frame_cells}
+use Rattle.code_form.specs.Program.{Program, line_of, instr_of, in_body, deeper, owner, owner_in, CellUse, HoldsValue, cell_uses, frame_cells}
 use Rattle.code_form.specs.Machine.{Mem, with_cells, if_there, takes_number, content_at, mem_after, changes, answers, keeps_space, without_held, copies, can_all_change}
 use Rattle.code_form.specs.Machine.{fills, binds}
-use Rattle.code_form.specs.Machine.{value_in, keeps, settles, takes_reply, asking, given, answered}
+use Rattle.code_form.specs.Machine.{value_in, keeps, settles, takes_reply, asking, given, answered, answered_by, Asks, after_word, asks_with, asks_for}
+use Rattle.code_form.specs.Machine.{receives_at, receives, last_made, puts_reply}
 use Rattle.code_form.specs.Machine.{Frame, Position, free, To, Stops, Unsaid, Move, Goes, Spends, operand_of, least_bytes, operand_bytes, bytes_on, bytes_of, base_of, at}
 use Rattle.code_form.specs.Machine.{using, goes, pushes, on_value, on_all, on_place, on_values, on_operands, on_result, or_halt, on_word, on_cell, on_cells, is_free, are_free}
 use Rattle.code_form.specs.Machine.{limit_cell, held_cells, frame_contents, link_contents, written_from, enters, calls_to, call_move, refer_move}
 use Rattle.code_form.specs.Machine.{on_item, further, next, takes, puts, written_all, takes_all, puts_all, content_blocks, is_framed, Unknown, goes, Halts, back_into, back_to, out_to, limit_to, instruction, step}
-use Rattle.code_form.specs.Valid.{Next, cell_value, cell_place, HasKinds, pushed_kinds, pushed_operands, with_answer, with_result, HasResult, IsRefinement, IsCalled, IsReferred, IsFine, IsValid, FitsKind}
-use Rattle.code_form.specs.Valid.{is_ask, is_asking, request_operands, FitsKinds, MadeSo, IsMade, FitsFrames, Fits}
+use Rattle.code_form.specs.Valid.{Next, cell_value, cell_place, pushed_kinds, pushed_operands, with_answer, with_result, HasResult, IsRefinement, IsCalled, IsReferred, IsFine, IsValid, FitsKind}
+use Rattle.code_form.specs.Valid.{is_ask, is_asking, request_operands, FitsKinds, MadeSo, FitsFrames, Fits}
 use Rattle.code_form.specs.Runs.{IsSafe, StaysFit}
-use Rattle.eu_base.proofs.Results.{result_gives, answer_gives, kind_is}
-use Rattle.eu_base.proofs.Shapes.{kinds_of_cell}
+use Rattle.eu_base.proofs.Results.{result_gives, answer_gives, kind_is, message_suits}
+use Rattle.code_form.proofs.Places.{place_there}
 use Rattle.code_form.proofs.Plans.{IsAnswer, Delivers, planned_delivers}
-
--- so many operands a request has
-pub request_many : (q : RequestName) → length (request_operands q) ≡ request_size q
-request_many q =
-    omega (
-      arith,
-      length-append (map cell_value (request_kinds q)) (map cell_place (request_places q)),
-      length-map (request_kinds q) cell_value,
-      length-map (request_places q) cell_place,
-    )
-
--- what stands behind values
-pub fits_behind : (ks : List Kind) (more : List OperandKind) (os : List Operand) → FitsKinds os (map cell_value ks ++ more) → FitsKinds (drop (length ks) os) more
-fits_behind [] more os is = is
-fits_behind (k ∷ ks) more [] is = absurd is
-fits_behind (k ∷ ks) more (o ∷ os) is = fits_behind ks more os is.1
-
--- an operand that is a value of one cell, and any value
-abbrev IsOne : Kind → Operand → Type 0
-IsOne k (Of v) = kind_of v ≡ k
-IsOne k _ = ⊥
-
-one_of : (k : Kind) (vs : List Value) → map kind_of vs ≡ k ∷ [] → IsOne k (operand_of vs)
-one_of k [] e = absurd (cc e)
-one_of k (v ∷ []) e = cc e
-one_of k (v ∷ w ∷ vs) e = absurd (cc e)
-
-pub is_one : (o : Operand) (k : Kind) → FitsKind o (cell_value k) → IsOne k o
-is_one o k h = subst (IsOne k) (sym h.is) (one_of k h.values (h.kinds ∙ kinds_of_cell k))
-
-pub as_one : (v : Value) (k : Kind) → kind_of v ≡ k → FitsKind (Of v) (cell_value k)
-as_one v k e = record { values = v ∷ []; is = refl; kinds = ap (λ k. k ∷ []) e ∙ sym (kinds_of_cell k) }
-
-abbrev pub HasValues : List Kind → Operand → Type 0
-HasValues ks (Of v) = kind_of v ∷ [] ≡ ks
-HasValues ks (At a) = ⊥
-HasValues ks (Aggregate vs) = map kind_of vs ≡ ks
-
-values_of : (ks : List Kind) (vs : List Value) → map kind_of vs ≡ ks → HasValues ks (operand_of vs)
-values_of ks [] e = e
-values_of ks (v ∷ []) e = e
-values_of ks (v ∷ w ∷ vs) e = e
-
-pub has_values : (o : Operand) (ks : List Kind) → HasKinds o ks → HasValues ks o
-has_values o ks h = subst (HasValues ks) (sym h.is) (values_of ks h.values h.kinds)
-
--- it stands in as many cells as it has kinds
-many_values : (vs : List Value) → length (held_cells (operand_of vs)) ≡ length vs
-many_values [] = refl
-many_values (v ∷ []) = refl
-many_values (v ∷ w ∷ vs) = length-map (v ∷ w ∷ vs) held_of
-
-pub as_many_cells : (o : Operand) (k : OperandKind) → FitsKind o k → length (held_cells o) ≡ length (cell_uses k)
-as_many_cells o (OfKind s) h =
-    let many = many_values h.values in
-    let kinds = ap length h.kinds in
-    ap (λ o. length (held_cells o)) h.is ∙ omega (arith, many, kinds, length-map h.values kind_of, length-map (cell_kinds s) HoldsValue)
-as_many_cells (Of v) (AtKind s) h = absurd h
-as_many_cells (At a) (AtKind s) h = refl
-as_many_cells (Aggregate vs) (AtKind s) h = absurd h
-
-pub all_cells : (os : List Operand) (ks : List OperandKind) → FitsKinds os ks → length (flat_map held_cells os) ≡ length (flat_map cell_uses ks)
-all_cells [] [] h = refl
-all_cells [] (k ∷ ks) h = absurd h
-all_cells (o ∷ os) [] h = absurd h
-all_cells (o ∷ os) (k ∷ ks) h =
-    let here = as_many_cells o k h.0 in
-    let rest = all_cells os ks h.1 in
-    omega (
-      arith,
-      here,
-      rest,
-      length-append (held_cells o) (flat_map held_cells os),
-      length-append (cell_uses k) (flat_map cell_uses ks),
-    )
-
--- a number in a row is below its length
-pub in_row_below : (n : ℕ) (z : ℤ) (k : ℕ) → in_row n z ≡ Some k → k < n
-in_row_below n (pos m) k e = by (nat_le 1 m) (nat_le m n) refl refl e
-  where
-    by : (b d : Bool) → nat_le 1 m ≡ b → nat_le m n ≡ d → cond (b && d) (Some (m - 1)) None ≡ Some k → k < n
-    by true true f g h = let same : m - 1 ≡ k = cc h in omega (arith, same, leb-true 1 m f, leb-true m n g)
-    by true false f g h = absurd (cc h)
-    by false d f g h = absurd (cc h)
-in_row_below n (negsuc m) k e = absurd (cc e)
-
-some_is : {A : Type 0} (a b : A) → Some a ≡ Some b → a ≡ b
-some_is a b e = cc
-
--- room for more is room for less
-cells_fewer : (m n : ℕ) → m ≤ n → cells_fit n ≡ true → cells_fit m ≡ true
-cells_fewer m n le e = le-leb m CELLS (omega (arith, le, leb-true n CELLS e))
-
-bytes_fewer : (m n : ℕ) → m ≤ n → bytes_fit n ≡ true → bytes_fit m ≡ true
-bytes_fewer m n le e = le-leb m OPERAND_BYTES (omega (arith, le, leb-true n OPERAND_BYTES e))
-
--- what is pending below is not more than what is pending in all
-bytes_below : (ops : List Operand) (held : ℕ) → held ≤ bytes_on ops held
-bytes_below [] held = omega arith
-bytes_below (o ∷ ops) held = omega (arith, bytes_below ops held)
-
-operands_inj : (ps : List OperandKind) (a b : List OperandKind) → pushed_operands ps a ≡ pushed_operands ps b → a ≡ b
-operands_inj [] a b e = e
-operands_inj (k ∷ ps) a b e = let f = operands_inj ps (k ∷ a) (k ∷ b) e in cc
-
-module _ (p : Program) (valid : IsValid p) where
-  -- where bodies stand
-  pub owner_is : (n : ℕ) (e : Entry) → slice_get p.bodies n ≡ Some e → owner p (Some n) ≡ owner_in n e.layout
-  owner_is n e has = ap (λ o. owner_at n (layout_of o)) has
-
-  own_cells : (n : ℕ) (e : Entry) (ps : List OperandKind) (vs : List Kind) → slice_get p.bodies n ≡ Some e → e.layout ≡ layouts.Own ps vs
-      → length (frame_cells p (Some n)) ≡ length (flat_map cell_uses ps) + length vs
-  own_cells n e ps vs has own =
-      let o : owner p (Some n) ≡ Some n = owner_is n e has ∙ ap (owner_in n) own in
-      let c : cells_in p (Some n) ≡ cells_of (layouts.Own ps vs) = ap (λ o. cells_at (layout_of o)) has ∙ ap cells_of own in
-      ap (λ o. length (cells_in p o)) o ∙ ap length c ∙ length-append (flat_map cell_uses ps) (map HoldsValue vs)
-      ∙ ap (λ n. length (flat_map cell_uses ps) + n) (length-map vs HoldsValue)
-
-  -- the instruction that made a frame is the call of its body, or a reference to it
-  made_line : (pc : ℕ) (i : Instr) (ks : List OperandKind) (m : Spot) → slice_get p.lines pc ≡ Some (line_of i ks m) → IsFine p pc i ks m
-  made_line pc i ks m e = valid.each pc (line_of i ks m) e
-
-  module _ (f : Frame) (body : Option ℕ) (floor below : ℕ) (m : Spot) (floor_below : ℕ) (made : IsMade p f body floor below m floor_below) where
-    -- what is so of a frame of a PROC and of one of a refinement
-    pub by_layout : (P : Layout → Type 0) → ((ps : List OperandKind) (vs : List Kind) → made.entry.layout ≡ layouts.Own ps vs → P (layouts.Own ps vs))
-        → ((l : Layout) → made.entry.layout ≡ l → IsRefinement l → P l) → (l : Layout) → made.entry.layout ≡ l → P l
-    by_layout P a b (layouts.Own ps vs) e = a ps vs e
-    by_layout P a b (layouts.Of q) e = b (layouts.Of q) e tt
-    by_layout P a b layouts.Level e = b layouts.Level e tt
-
-    abbrev pub Proc : List OperandKind → List Kind → Type 0
-    Proc ps vs = MadeSo p (layouts.Own ps vs) made.number made.pc made.rest m f floor below
-
-    pub as_proc : (ps : List OperandKind) (vs : List Kind) → made.entry.layout ≡ layouts.Own ps vs → Proc ps vs
-    as_proc ps vs e = subst (λ l. MadeSo p l made.number made.pc made.rest m f floor below) e made.made
-
-    abbrev pub Refined : Type 0
-    Refined = (slice_get p.lines made.pc ≡ Some (line_of (Refer made.number) made.rest m)) × (f.refines ≡ true) × (f.base ≡ below) × (floor ≡ f.used + 2)
-
-    refined : (l : Layout) → IsRefinement l → MadeSo p l made.number made.pc made.rest m f floor below → Refined
-    refined (layouts.Own ps vs) r h = absurd r
-    refined (layouts.Of q) r h = h
-    refined layouts.Level r h = h
-
-    pub as_refined : (l : Layout) → made.entry.layout ≡ l → IsRefinement l → Refined
-    as_refined l e r = refined l r (subst (λ l. MadeSo p l made.number made.pc made.rest m f floor below) e made.made)
-
-    -- the cells that were in use before a frame are fewer than those behind it
-    used_below : f.used ≤ floor
-    used_below =
-        by_layout (λ _. f.used ≤ floor) (λ ps vs e. let h = as_proc ps vs e in omega (arith, h.2, h.3))
-        (λ l e r. let h = as_refined l e r in omega (arith, h.3)) made.entry.layout refl
-
-    -- where it returns to, its result is pending
-    returns : Next p.lines f.back (with_result made.entry.delivers made.rest) m
-    returns =
-        subst (λ n. Next p.lines n (with_result made.entry.delivers made.rest) m) (sym made.back)
-        (by_layout (λ _. Next p.lines (made.pc + 1) (with_result made.entry.delivers made.rest) m) proc refinement made.entry.layout refl)
-      where
-        proc : (ps : List OperandKind) (vs : List Kind) → made.entry.layout ≡ layouts.Own ps vs
-            → Next p.lines (made.pc + 1) (with_result made.entry.delivers made.rest) m
-        proc ps vs e =
-            let c : IsCalled p made.pc made.number (pushed_operands ps made.rest) m =
-            made_line made.pc (Call made.number) (pushed_operands ps made.rest) m (as_proc ps vs e).0 in
-            let same : c.entry ≡ made.entry = some_is c.entry made.entry (sym c.has ∙ made.has) in
-            let l : layouts.Own c.parameters c.variables ≡ layouts.Own ps vs = sym c.own ∙ ap (λ (x : Entry). x.layout) same ∙ e in
-            let q : c.parameters ≡ ps = cc in
-            let rest : c.rest ≡ made.rest = operands_inj ps c.rest made.rest (ap (λ ps. pushed_operands ps c.rest) (sym q) ∙ sym c.taken) in
-            subst (λ rest. Next p.lines (made.pc + 1) (with_result made.entry.delivers rest) m) rest
-            (subst (λ (x : Entry). Next p.lines (made.pc + 1) (with_result x.delivers c.rest) m) same c.next)
-
-        refinement : (l : Layout) → made.entry.layout ≡ l → IsRefinement l → Next p.lines (made.pc + 1) (with_result made.entry.delivers made.rest) m
-        refinement l e r =
-            let c : IsReferred p made.pc made.number made.rest m = made_line made.pc (Refer made.number) made.rest m (as_refined l e r).0 in
-            let same : c.entry ≡ made.entry = some_is c.entry made.entry (sym c.has ∙ made.has) in
-            subst (λ (x : Entry). Next p.lines (made.pc + 1) (with_result x.delivers made.rest) m) same c.next
-
-    -- a refinement uses the cells of the frame below
-    pub same_owner : (l : Layout) → made.entry.layout ≡ l → IsRefinement l → owner p (Some made.number) ≡ owner p m.body
-    same_owner l e r =
-        let c : IsReferred p made.pc made.number made.rest m = made_line made.pc (Refer made.number) made.rest m (as_refined l e r).0 in
-        owner_is made.number c.entry c.has ∙ c.owned
-
-  -- the cells of the level and of the innermost PROC lie below the FOR limits
-  pub level_below : (fs : List Frame) (body : Option ℕ) (floor : ℕ) → FitsFrames p fs body floor → length p.variables ≤ floor
-  level_below [] body floor h = omega (arith, h.1)
-  level_below (f ∷ fs) body floor h =
-      let below = level_below fs h.0.body h.1.0 h.1.1.1 in
-      omega (arith, below, h.1.1.0.used, used_below f body floor (base_of fs) h.0 h.1.0 h.1.1.0)
-
-  pub frame_below : (fs : List Frame) (body : Option ℕ) (floor : ℕ) → FitsFrames p fs body floor → base_of fs + length (frame_cells p body) ≤ floor
-  frame_below [] body floor h = let e : length (frame_cells p body) ≡ 0 = ap (λ b. length (frame_cells p b)) h.0 in omega (arith, e)
-  frame_below (f ∷ fs) body floor h =
-      let made = h.1.1.0 in
-      let below = frame_below fs h.0.body h.1.0 h.1.1.1 in
-      let e : length (frame_cells p body) ≡ length (frame_cells p (Some made.number)) = ap (λ b. length (frame_cells p b)) made.is in
-      by_layout f body floor (base_of fs) h.0 h.1.0 made (λ _. f.base + length (frame_cells p body) ≤ floor)
-      (λ ps vs l. let x = as_proc f body floor (base_of fs) h.0 h.1.0 made ps vs l in omega (arith, e, own_cells made.number made.entry ps vs made.has l, x.3))
-      (λ l q r.
-      let x = as_refined f body floor (base_of fs) h.0 h.1.0 made l q r in
-      let o : length (frame_cells p (Some made.number)) ≡ length (frame_cells p h.0.body) =
-      ap (λ o. length (cells_in p o)) (same_owner f body floor (base_of fs) h.0 h.1.0 made l q r) in
-      omega (arith, e, o, below, x.2, x.3, made.used))
-      made.entry.layout refl
+use Rattle.code_form.proofs.Frames.{request_many, fits_behind, is_one, as_one, has_values, all_cells, in_row_below, some_is, cells_fewer, bytes_fewer, bytes_below, owner_is, by_layout, as_proc, as_refined, used_below, returns, same_owner, level_below, frame_below}
 
 module _ (p : Program) (valid : IsValid p) (pc : ℕ) (ops : List Operand) (used : ℕ) (frames : List Frame) (mem : Mem) where
   abbrev now : Position
@@ -708,12 +507,52 @@ module _ (p : Program) (valid : IsValid p) (pc : ℕ) (ops : List Operand) (used
     keep_safe (k ∷ ks) (At a ∷ os) v rest r is next g = put_safe a v rest r next g
     keep_safe (k ∷ ks) (Aggregate vs ∷ os) v rest r is next g = absurd is.0
 
+    -- its variables get what a message brings
+    receives_safe : (ks : List Kind) (os : List Operand) (es : List (ℕ × Value)) (rest : List OperandKind) (r : List Operand) (u : Mem)
+        → FitsKinds os (map cell_place ks ++ []) → AllByRecursion (Suits ks) es → Next p.lines (pc + 1) rest m → Has r rest
+        → Safe (receives now r os es u)
+    receives_safe ks os [] rest r u is suits next g = fit (pc + 1) rest r next g
+    receives_safe ks os (e ∷ es) rest r u is suits next g =
+        let x = place_there ks os e.0 suits.0.0 is suits.0.1 in
+        let a = x.0 in
+        let now' = λ (held : Value). without_held (space_of held) (with_cells (written u.cells a (held_of e.1)) u) in
+        subst (λ (o : Option Operand). Safe (receives_at now r o e.1 u (receives now r os es))) (sym x.1)
+        (cond_safe (is_in (kind_of e.1 ∷ []) a.area a.cell u.heads) _ _
+        (λ _. cell_safe (kind_of e.1) (u.cells a) (λ held. cond (takes (held_of e.1) (u.cells a)) (receives now r os es (now' held)) Unknown)
+        (λ held _. cond_safe (takes (held_of e.1) (u.cells a)) (receives now r os es (now' held)) Unknown
+        (λ _. receives_safe ks os es rest r (now' held) is suits.1 next g) tt))
+        (fits_at (pc + 1) rest r (Refused NoSpace) next g (λ e. absurd (cc e))))
+
+    put_reply_safe : (b : Bool) (q : RequestName) (t : Reply) (os r : List Operand) (rest : List OperandKind)
+        → FitsKinds os (map cell_place (request_places q) ++ []) → Next p.lines (pc + 1) rest m → Has r rest → Safe (puts_reply b q t now os r mem)
+    put_reply_safe true q t os r rest is next g =
+        receives_safe (request_places q) os (message_values q t (last_made mem)) rest r mem is (message_suits q t (last_made mem)) next g
+    put_reply_safe false q t os r rest is next g = or_safe (read_as q t) _ (λ v _. keep_safe (request_places q) os v rest r is next g)
+
+    -- what a request asks for
+    asks_safe : (b : Bool) (q : RequestName) (os : List Operand) → ((asked : Request) → Fits p (asking now asked)) → Safe (Spends (asks_for b q os now mem))
+    asks_safe false q os h = h _
+    asks_safe true q os h = by (drop (length (request_kinds q)) os)
+      where
+        looked : (b : Bool) (x : Cell)
+            → Safe (Spends (cond b (after_word x (λ n. Asks now (request_of q (item.Space (space_in n) ∷ map value_in os)) mem)) (Stops NoSpace)))
+        looked false x = tt
+        looked true Free = tt
+        looked true (Word n) = h _
+        looked true (Letters t) = tt
+
+        by : (places : List Operand) → Safe (Spends (asks_with q (map value_in os) places now mem))
+        by [] = tt
+        by (Of v ∷ r) = tt
+        by (At a ∷ r) = looked (is_in (kinds.Space ∷ []) a.area a.cell mem.heads) (mem.cells a)
+        by (Aggregate vs ∷ r) = tt
+
     -- what a request does with its reply
     settle_safe : (q : RequestName) (t : Reply) (o : Option Kind) → request_result q ≡ o → (os r : List Operand) (rest : List OperandKind)
         → FitsKinds (drop (length (request_kinds q)) os) (map cell_place (request_places q) ++ []) → Next p.lines (pc + 1) (with_answer o rest) m
         → Has r rest → Safe (settles q o t now os r mem)
     settle_safe q t None e os r rest is next g =
-        or_safe (read_as q t) _ (λ v _. keep_safe (request_places q) (drop (length (request_kinds q)) os) v rest r is next g)
+        put_reply_safe (is_message q) q t (drop (length (request_kinds q)) os) r rest is next g
     settle_safe q t (Some k) e os r rest is next g =
         or_safe (answer_of q t) _
         (λ v h. push_safe (Of v) (cell_value k) r rest (as_one v k (kind_is k v (answer_gives q k t e v h))) next g.0)
@@ -808,7 +647,7 @@ module _ (p : Program) (valid : IsValid p) (pc : ℕ) (ops : List Operand) (used
         (fit (pc + 1) f.2.0 r f.2.2 g)))))
     safe (Ask q) ks line f k =
         taken_safe q f.0 ops _ (subst (Has ops) f.1 k) (λ os r fits g.
-        fits_at pc ks ops (Asked (request_of q (map value_in os))) (Ask q, line) k (λ _. ap (λ l. is_ask (instr_of l)) line))
+        asks_safe (sends q) q os (λ asked. fits_at pc ks ops (Asked asked) (Ask q, line) k (λ _. ap (λ l. is_ask (instr_of l)) line)))
     safe ErrorStop ks line f k =
         one_value ops kinds.Text f.0 _ (subst (Has ops) f.1 k) (λ v r e g. fits_at (pc + 1) f.0 r _ f.2 g (λ e. absurd (cc e)))
     safe (Call n) ks line f k = call_safe n ks line f k
@@ -849,7 +688,7 @@ takes_safe p c r mem valid fits =
 
 -- a request is answered where it was made
 answered_fits : (p : Program) (c : Position) (q : Request) (r : Reply) → Fits p (asking c q) → Fits p (answered q r c)
-answered_fits p c q r fits = by r
+answered_fits p c q r fits = by (then_asked q r) r
   where
     so : (w : Waits) → (is_asking w ≡ true → is_ask (instr_of (slice_get p.lines c.pc)) ≡ true) → Fits p (record { position = c; waits = w })
     so w asks = record {
@@ -865,12 +704,16 @@ answered_fits p c q r fits = by r
       bytes = fits.bytes;
     }
 
-    by : (r : Reply) → Fits p (answered q r c)
-    by (replies.Stopped stop) = so (Refused stop) (λ e. absurd (cc e))
-    by replies.Done = so (Given replies.Done) (λ _. fits.asks refl)
-    by (replies.Text t) = so (Given (replies.Text t)) (λ _. fits.asks refl)
-    by (replies.Task n) = so (Given (replies.Task n)) (λ _. fits.asks refl)
-    by (replies.Truth b) = so (Given (replies.Truth b)) (λ _. fits.asks refl)
+    by : (o : Option Request) (r : Reply) → Fits p (answered_by o r c)
+    by (Some q) r = so (Asked q) (λ _. fits.asks refl)
+    by None (replies.Stopped stop) = so (Refused stop) (λ e. absurd (cc e))
+    by None replies.Done = so (Given replies.Done) (λ _. fits.asks refl)
+    by None (replies.Text t) = so (Given (replies.Text t)) (λ _. fits.asks refl)
+    by None (replies.Task n) = so (Given (replies.Task n)) (λ _. fits.asks refl)
+    by None (replies.Truth b) = so (Given (replies.Truth b)) (λ _. fits.asks refl)
+    by None replies.Taken = so (Given replies.Taken) (λ _. fits.asks refl)
+    by None (replies.Receipt z) = so (Given (replies.Receipt z)) (λ _. fits.asks refl)
+    by None (replies.Message code from space) = so (Given (replies.Message code from space)) (λ _. fits.asks refl)
 
 pub stays_fit : StaysFit
 stays_fit = record { steps = step_safe; replies = answered_fits; takes = takes_safe }

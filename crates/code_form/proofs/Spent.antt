@@ -4,27 +4,27 @@ use Rattle.std.proofs.Common.{◌≡◌, ℕ, zero, suc, ◌+◌, ◌-◌, ◌�
 use Rattle.std.proofs.Common.{⊎_elim}
 use Rattle.std.specs.Prelude.{slice_get}
 use Rattle.eu_base.specs.declared.request.Request.{Request}
-use Rattle.eu_base.specs.declared.request.Reply.{Reply}
+use Rattle.eu_base.specs.Requests.{Answer}
 use Rattle.code_form.specs.Program.{Program, instr_of}
 use Rattle.code_form.specs.declared.waits.Waits.{Waits}
 use Rattle.code_form.specs.declared.waits.Waits.TheVariants.{Nothing, Asked, Given, Refused}
-use Rattle.code_form.specs.Machine.{Position, Control, free, asking, given, answered, After, To, Asks, Stops, Unsaid, Move, Goes, Spends, Halts, Refuses}
+use Rattle.code_form.specs.Machine.{Position, Control, free, asking, given, answered, after_reply, After, To, Asks, Stops, Unsaid, Move, Goes, Spends, Halts, Refuses}
 use Rattle.code_form.specs.Machine.{Ends, Unknown, Stuck, Mem, Scene, Rest, step, takes_reply, Stage, On, Over, Lost, after_stage, mark_stage, reply_stage}
 use Rattle.code_form.specs.Machine.{move_stage, stage_at, advance, carry_on, exec}
 use Rattle.code_form.specs.Runs.{IsPaused, Rests, Stands, StandsOn}
 use Rattle.code_form.proofs.Resume.{replied}
 
 -- with so many marks, and with these replies besides
-abbrev pub at_marks : List Reply → ℕ → Scene → Scene
+abbrev pub at_marks : List Answer → ℕ → Scene → Scene
 at_marks rs m s = record s { marks = m; replies = s.replies ++ rs }
 
 -- with no more marks than the stage spends and k besides, it leads there with k
-abbrev Shifts : List Reply → Stage → Control → Scene → (ℕ → Stage) → Type 0
+abbrev Shifts : List Answer → Stage → Control → Scene → (ℕ → Stage) → Type 0
 Shifts rs (On c' s') c s f = (s'.marks ≤ s.marks) × ((k : ℕ) → f ((s.marks - s'.marks) + k) ≡ On c' (at_marks rs k s'))
 Shifts rs (Over r) c s f = IsPaused r.how ⊎ (s.marks ≡ 0) → (r.control ≡ c) × (r.scene ≡ s)
 Shifts rs Lost c s f = Unit {0}
 
-paid_shifts : (rs : List Reply) (m : ℕ) (a : After) (d : Control) (s : Scene) → s.marks ≡ suc m
+paid_shifts : (rs : List Answer) (m : ℕ) (a : After) (d : Control) (s : Scene) → s.marks ≡ suc m
     → Shifts rs (after_stage a d (record s { marks = m })) d s (λ n. mark_stage n a d (at_marks rs n s))
 paid_shifts rs m (To c' x) d s e =
     (omega (arith, e), λ k. let f : (s.marks - m) + k ≡ suc k = omega (arith, e) in ap (λ n. mark_stage n (To c' x) d (at_marks rs n s)) f)
@@ -33,29 +33,29 @@ paid_shifts rs m (Asks c' q x) d s e =
 paid_shifts rs m (Stops stop) d s e = λ calm. absurd (⊎_elim (λ paused. paused) (λ none. omega (arith, e, none)) calm)
 paid_shifts rs m Unsaid d s e = tt
 
-mark_shifts : (rs : List Reply) (m : ℕ) (a : After) (d : Control) (s : Scene) → s.marks ≡ m
+mark_shifts : (rs : List Answer) (m : ℕ) (a : After) (d : Control) (s : Scene) → s.marks ≡ m
     → Shifts rs (mark_stage m a d s) d s (λ n. mark_stage n a d (at_marks rs n s))
 mark_shifts rs zero a d s e = λ paused. (refl, refl)
 mark_shifts rs (suc m) a d s e = paid_shifts rs m a d s e
 
-move_shifts : (rs : List Reply) (m : Move) (d : Control) (s : Scene) → Shifts rs (move_stage m d s) d s (λ n. move_stage m d (at_marks rs n s))
+move_shifts : (rs : List Answer) (m : Move) (d : Control) (s : Scene) → Shifts rs (move_stage m d s) d s (λ n. move_stage m d (at_marks rs n s))
 move_shifts rs (Goes c' x) d s =
     (omega arith, λ k. let f : (s.marks - s.marks) + k ≡ k = omega arith in ap (λ n. move_stage (Goes c' x) d (at_marks rs n s)) f)
 move_shifts rs (Spends a) d s = mark_shifts rs s.marks a d s refl
 move_shifts rs (Halts stop) d s = λ paused. (refl, refl)
-move_shifts rs (Refuses stop c') d s =
-    (omega arith, λ k. let f : (s.marks - s.marks) + k ≡ k = omega arith in ap (λ n. move_stage (Refuses stop c') d (at_marks rs n s)) f)
+move_shifts rs (Refuses stop c' x) d s =
+    (omega arith, λ k. let f : (s.marks - s.marks) + k ≡ k = omega arith in ap (λ n. move_stage (Refuses stop c' x) d (at_marks rs n s)) f)
 move_shifts rs Ends d s = λ paused. (refl, refl)
 move_shifts rs Unknown d s = tt
 move_shifts rs Stuck d s = tt
 
-pub stage_shifts : (p : Program) (rs : List Reply) (w : Waits) (c : Position) (s : Scene)
+pub stage_shifts : (p : Program) (rs : List Answer) (w : Waits) (c : Position) (s : Scene)
     → Shifts rs (stage_at w p c s) (record { position = c; waits = w }) s (λ n. stage_at w p c (at_marks rs n s))
 stage_shifts p rs Nothing c s = move_shifts rs (step p c s.mem) (free c) s
 stage_shifts p rs (Given r) c s = move_shifts rs (takes_reply (instr_of (slice_get p.lines c.pc)) r c s.mem) (given c r) s
 stage_shifts p rs (Asked q) c s = asks s.replies
   where
-    asks : (xs : List Reply) → Shifts rs (reply_stage xs q c s) (asking c q) s (λ n. reply_stage (xs ++ rs) q c (at_marks rs n s))
+    asks : (xs : List Answer) → Shifts rs (reply_stage xs q c s) (asking c q) s (λ n. reply_stage (xs ++ rs) q c (at_marks rs n s))
     asks [] = λ paused. (refl, refl)
     asks (x ∷ xs) = (omega arith, λ k. let f : (s.marks - s.marks) + k ≡ k = omega arith in ap (λ n. reply_stage ((x ∷ xs) ++ rs) q c (at_marks rs n s)) f)
 stage_shifts p rs (Refused stop) c s = λ paused. (refl, refl)
@@ -80,7 +80,7 @@ move_falls (Spends a) d s = by s.marks refl
     by zero e = omega (arith, e)
     by (suc n) e = after_falls n a d s
 move_falls (Halts stop) d s = omega arith
-move_falls (Refuses stop c') d s = omega arith
+move_falls (Refuses stop c' x) d s = omega arith
 move_falls Ends d s = omega arith
 move_falls Unknown d s = tt
 move_falls Stuck d s = tt
@@ -90,7 +90,7 @@ stage_falls p Nothing c s = move_falls (step p c s.mem) (free c) s
 stage_falls p (Given r) c s = move_falls (takes_reply (instr_of (slice_get p.lines c.pc)) r c s.mem) (given c r) s
 stage_falls p (Asked q) c s = by s.replies
   where
-    by : (rs : List Reply) → Falls s.marks (reply_stage rs q c s)
+    by : (rs : List Answer) → Falls s.marks (reply_stage rs q c s)
     by [] = omega arith
     by (r ∷ rs) = omega arith
 stage_falls p (Refused stop) c s = omega arith
@@ -106,11 +106,11 @@ falls p (suc n) c s r e = by (λ c s e. falls p n c s r e) (advance p c s) (stag
     by ih Lost f e = absurd (cc e)
 
 -- what comes to rest from a place, with all marks and replies from another
-pub record Leads (p : Program) (rs : List Reply) (c : Control) (s : Scene) (r : Rest) : Type 0 where
+pub record Leads (p : Program) (rs : List Answer) (c : Control) (s : Scene) (r : Rest) : Type 0 where
   pub less : r.scene.marks ≤ s.marks
   pub goes : (k : ℕ) (last : Rest) → Rests p r.control (at_marks rs k r.scene) last → Rests p c (at_marks rs ((s.marks - r.scene.marks) + k) s) last
 
-module _ (p : Program) (rs : List Reply) where
+module _ (p : Program) (rs : List Answer) where
   leads_stage : (j : ℕ) (st : Stage) (c : Control) (s : Scene) (r : Rest) → IsPaused r.how ⊎ (s.marks ≡ 0)
       → ((c : Control) (s : Scene) → IsPaused r.how ⊎ (s.marks ≡ 0) → exec p j c s ≡ Some r → Leads p rs c s r) →
       carry_on st (exec p j) ≡ Some r → Shifts rs st c s (λ n. advance p c (at_marks rs n s)) → Leads p rs c s r
@@ -164,12 +164,12 @@ module _ (p : Program) (first : Control) (was : Mem) where
         subst (λ n. Rests p first (record { mem = was; marks = n; replies = more }) last) e h;
   }
 
-  -- after a reply
-  pub stands_reply : (spent : ℕ) (replies : List Reply) (c : Position) (now : Mem) (q : Request) (reply : Reply)
-      → Stands p first was spent replies (asking c q) now → Stands p first was spent (replies ++ reply ∷ []) (answered q reply c) now
-  stands_reply spent replies c now q reply k = record {
+  -- after an answer
+  pub stands_reply : (spent : ℕ) (replies : List Answer) (c : Position) (now : Mem) (q : Request) (a : Answer)
+      → Stands p first was spent replies (asking c q) now → Stands p first was spent (replies ++ a ∷ []) (answered q a.reply c) (after_reply q a now)
+  stands_reply spent replies c now q a k = record {
     goes = λ marks more last g.
-        let same : replies ++ reply ∷ more ≡ (replies ++ reply ∷ []) ++ more = sym (append_assoc replies (reply ∷ []) more) in
+        let same : replies ++ a ∷ more ≡ (replies ++ a ∷ []) ++ more = sym (append_assoc replies (a ∷ []) more) in
         subst (λ rs. Rests p first (record { mem = was; marks = spent + marks; replies = rs }) last) same
-        (k.goes marks (reply ∷ more) last (replied p c (record { mem = now; marks = marks; replies = more }) q reply last g));
+        (k.goes marks (a ∷ more) last (replied p c (record { mem = now; marks = marks; replies = more }) q a last g));
   }

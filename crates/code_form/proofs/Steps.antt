@@ -23,7 +23,7 @@ use Rattle.eu_base.specs.SpaceOperations.{space_operand_kinds, Plan, planned, co
 use Rattle.eu_base.specs.SpacePlaces.{is_in}
 use Rattle.eu_base.specs.Operations.{Given, operand_kinds, result_of, change_kind, changed, is_past, has_reached}
 use Rattle.eu_base.specs.declared.request.Reply.{Reply}
-use Rattle.eu_base.specs.Requests.{request_kinds, request_result, request_size, read_as, answer_of}
+use Rattle.eu_base.specs.Requests.{request_kinds, request_result, request_size, is_message, sends, request_of, read_as, answer_of, message_values}
 use Rattle.code_form.specs.declared.operand.Operand.{Operand}
 use Rattle.code_form.specs.declared.operand.Operand.TheVariants.{Value as Of, Place as At, Aggregate}
 use Rattle.code_form.specs.declared.instr.Instr.{Instr}
@@ -41,6 +41,7 @@ use Rattle.eu_base.specs.Operations.{in_row}
 use Rattle.code_form.specs.Machine.{on_item, further, next, takes, puts, written_all, takes_all, puts_all, content_blocks, is_framed, back_into, Goes, Unknown, goes, Halts, are_free, limit_cell, frame_contents}
 use Rattle.code_form.specs.Machine.{if_there, takes_number, content_at, mem_after, changes, answers, keeps_space, without_held, copies, can_all_change, fills, binds}
 use Rattle.code_form.specs.Machine.{link_contents, written_from, enters, calls_to, call_move, refer_move, back_to}
+use Rattle.code_form.specs.Machine.{value_in, after_word, asks_with, asks_for, receives_at, receives, last_made, puts_reply}
 use Rattle.code_form.specs.Machine.{out_to, instruction, keeps, settles, takes_reply, step, free, given, mark_stage, move_stage, stage, advance, carry_on, exec}
 use Rattle.code_form.specs.Valid.{is_mark, IsFine, IsValid}
 use Rattle.code_form.specs.Runs.{Rests, ahead, steps_left}
@@ -114,6 +115,24 @@ module _ (p : Program) (valid : IsValid p) where
     marked (suc m) (Asks c' q x) deep = spent_less m (length c'.frames) c'.pc deep
     marked (suc m) (Stops stop) deep = tt
     marked (suc m) Unsaid deep = tt
+
+    -- a request
+    asks_deeper : (b : Bool) (q : RequestName) (os : List Operand) → Deeper (asks_for b q os c s.mem)
+    asks_deeper false q os = omega arith
+    asks_deeper true q os = by (drop (length (request_kinds q)) os)
+      where
+        looked : (a : Addr) (b : Bool) (x : Cell)
+            → Deeper (cond b (after_word x (λ n. Asks c (request_of q (item.Space (space_in n) ∷ map value_in os)) s.mem)) (Stops NoSpace))
+        looked a false x = tt
+        looked a true Free = tt
+        looked a true (Word n) = omega arith
+        looked a true (Letters t) = tt
+
+        by : (places : List Operand) → Deeper (asks_with q (map value_in os) places c s.mem)
+        by [] = tt
+        by (Of v ∷ r) = tt
+        by (At a ∷ r) = looked a (is_in (kinds.Space ∷ []) a.area a.cell s.mem.heads) (s.mem.cells a)
+        by (Aggregate vs ∷ r) = tt
 
     go : (pc : ℕ) → ahead p.lines pc < ahead p.lines c.pc → steps_left p.lines s.marks depth pc < steps_left p.lines s.marks depth c.pc
     go pc lt = omega arith
@@ -385,7 +404,7 @@ module _ (p : Program) (valid : IsValid p) where
         (λ k. near_there (kinds.Int ∷ []) q s.mem _ (near_word _ (λ n. near_if (has_reached way (number_in k) (number_in n)) _ _
         (go a (on_jump c.pc a l e (ap (λ i. is_mark (Some i)) is) f.2.3.spaced)) (go (c.pc + 1) (on_next c.pc l e (ap (λ i. is_mark (Some i)) is))))
         (s.mem.cells q))) (limit_cell c s.mem.cells)) c.ops
-    at_instr l e (Ask q) is f = near_operands (request_size q) _ (λ os r. marked s.marks _ (omega arith)) [] c.ops
+    at_instr l e (Ask q) is f = near_operands (request_size q) _ (λ os r. marked s.marks _ (asks_deeper (sends q) q os)) [] c.ops
     at_instr l e ErrorStop is f = near_value _ (λ v r. go (c.pc + 1) (on_next c.pc l e (ap (λ i. is_mark (Some i)) is))) c.ops
     at_instr l e (Call n) is f = call_near n (slice_get p.bodies n)
     at_instr l e (Refer n) is f = refer_near n (slice_get p.bodies n)
@@ -401,9 +420,31 @@ module _ (p : Program) (valid : IsValid p) where
     keep_near l e is (At a ∷ os) v r = put_near l e is a v r
     keep_near l e is (Aggregate vs ∷ os) v r = tt
 
+    receives_near : (l : Line) → slice_get p.lines c.pc ≡ Some l → is_mark (Some l.instr) ≡ false → (r os : List Operand) (es : List (ℕ × Value)) (m : Mem)
+        → Near (receives c r os es m)
+    receives_near l e is r os [] m = go_near l e is r m
+    receives_near l e is r os (x ∷ es) m = by (λ m. receives_near l e is r os es m) (slice_get os x.0)
+      where
+        by : ((m : Mem) → Near (receives c r os es m)) → (o : Option Operand) → Near (receives_at c r o x.1 m (receives c r os es))
+        by more None = tt
+        by more (Some (Of v)) = tt
+        by more (Some (At a)) =
+            let now = λ (held : Value). without_held (space_of held) (with_cells (written m.cells a (held_of x.1)) m) in
+            near_if (is_in (kind_of x.1 ∷ []) a.area a.cell m.heads) _ _
+            (near_cell (λ held. cond (takes (held_of x.1) (m.cells a)) (receives c r os es (now held)) Unknown)
+            (λ held. near_if (takes (held_of x.1) (m.cells a)) (receives c r os es (now held)) Unknown (more (now held)) tt)
+            (kind_of x.1) (m.cells a))
+            (go (c.pc + 1) (on_next c.pc l e is))
+        by more (Some (Aggregate vs)) = tt
+
+    put_reply_near : (l : Line) → slice_get p.lines c.pc ≡ Some l → is_mark (Some l.instr) ≡ false → (b : Bool) (q : RequestName) (t : Reply)
+        → (os r : List Operand) → Near (puts_reply b q t c os r s.mem)
+    put_reply_near l e is true q t os r = receives_near l e is r os (message_values q t (last_made s.mem)) s.mem
+    put_reply_near l e is false q t os r = near_or _ (λ v. keep_near l e is os v r) (read_as q t)
+
     settle_near : (l : Line) → slice_get p.lines c.pc ≡ Some l → is_mark (Some l.instr) ≡ false → (q : RequestName) (t : Reply) (o : Option Kind)
         → (os r : List Operand) → Near (settles q o t c os r s.mem)
-    settle_near l e is q t None os r = near_or _ (λ v. keep_near l e is (drop (length (request_kinds q)) os) v r) (read_as q t)
+    settle_near l e is q t None os r = put_reply_near l e is (is_message q) q t (drop (length (request_kinds q)) os) r
     settle_near l e is q t (Some k) os r = near_or _ (λ v. push_near l e is (Of v) r) (answer_of q t)
 
     reply_near : (l : Line) → slice_get p.lines c.pc ≡ Some l → (t : Reply) (i : Instr) → l.instr ≡ i → Near (takes_reply (Some i) t c s.mem)

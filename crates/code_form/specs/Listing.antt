@@ -147,6 +147,9 @@ request_name (requests.Begin start) = codes "begin(TEXT,PROC "
 request_name requests.EndOf = codes "end(TASK)"
 request_name requests.End = codes "end"
 request_name requests.Break = codes "break"
+request_name requests.Send = codes "send(TASK,INT,DATASPACE,INT)"
+request_name requests.Wait = codes "wait(DATASPACE,INT,TASK)"
+request_name requests.Call = codes "call(TASK,INT,DATASPACE,INT)"
 
 -- where a body begins, and how many cells its frame has for its parameters and variables
 abbrev pub first_of : Option Entry → ℕ

@@ -1,5 +1,5 @@
 -- What the machine does with a list of instructions, one by one.
-use Rattle.std.specs.Prelude.{ℕ, zero, suc, ◌+◌, ◌-◌, Bool, true, false, ◌&&◌, cond, List, [], ◌∷◌, ◌++◌, map, flat_map, length, take, drop, Option, Some, None, Result, Ok, Err}
+use Rattle.std.specs.Prelude.{ℕ, zero, suc, ◌+◌, ◌-◌, Bool, true, false, ◌&&◌, cond, List, [], ◌∷◌, ◌++◌, map, flat_map, length, take, drop, Option, Some, None, Ok, Err}
 use Rattle.std.specs.Prelude.{ℤ, pos, ◌*◌, ◌%◌, slice_get}
 use Rattle.std.specs.Ordering.{int_eq}
 use Rattle.eu_base.specs.declared.address.Area.{Area}
@@ -22,10 +22,10 @@ use Rattle.eu_base.specs.Room.{value_bytes, values_bytes, place_bytes, values_bl
 use Rattle.eu_base.specs.declared.shape.Shape.{Shape}
 use Rattle.eu_base.specs.Shapes.{cell_kinds}
 use Rattle.eu_base.specs.Operations.{Given, operand_kinds, result_of, change_kind, changed, is_past, has_reached, next_number, in_row}
-use Rattle.eu_base.specs.Requests.{request_kinds, request_result, request_size, request_of, read_as, answer_of}
+use Rattle.eu_base.specs.Requests.{request_kinds, request_result, request_size, is_message, sends, request_of, read_as, answer_of}
+use Rattle.eu_base.specs.Requests.{Answer, reply_changes, then_asked, message_values}
 use Rattle.eu_base.specs.Cells.{Cell, Free, Word, Letters, Cells, held_of, area_cell, run_cell, packet_cell, place_number, place_in, written, without, freed, cell_blocks}
 use Rattle.eu_base.specs.Cells.{AreBare, area_blocks, blocks_in}
-use Rattle.eu_base.specs.declared.space_operation.SpaceOperation.{SpaceOperation}
 use Rattle.eu_base.specs.DataSpaces.{Heads, SpaceChange, Fills, heads_by}
 use Rattle.eu_base.specs.SpaceOperations.{space_operand_kinds, Plan, planned, copy_plan, bind_plan, forgetting}
 use Rattle.eu_base.specs.SpaceCells.{cells_by}
@@ -93,13 +93,13 @@ pub data After : Type 0 where
   Stops : Stop → After
   Unsaid : After
 
--- what an instruction does: it goes on, spends a mark and then does more, stops, goes on to where a stop waits, ends the command; or what
--- it reads is not known; or it cannot be done
+-- what an instruction does: it goes on, spends a mark and then does more, stops and has done nothing, goes on to where a stop waits, ends the command;
+-- or what it reads is not known; or it cannot be done
 pub data Move : Type 0 where
   Goes : Position → Mem → Move
   Spends : After → Move
   Halts : Stop → Move
-  Refuses : Stop → Position → Move
+  Refuses : Stop → Position → Mem → Move
   Ends : Move
   Unknown : Move
   Stuck : Move
@@ -415,18 +415,6 @@ keeps c [] v ops m = goes c ops m
 keeps c (At a ∷ os) v ops m = puts c a v ops m
 keeps c _ v ops m = Stuck
 
--- what a request does with the reply, where it took these operands: what it delivers is pushed; where it delivers nothing, its variable
--- behind its values gets what it reads
-abbrev pub settles : RequestName → Option Kind → Reply → Position → List Operand → List Operand → Mem → Move
-settles name None r c os ops m = or_halt (read_as name r) (λ v. keeps c (drop (length (request_kinds name)) os) v ops m)
-settles name (Some k) r c os ops m = or_halt (answer_of name r) (λ v. pushes c (Of v) ops m)
-
--- what an instruction does that made a request, with the reply. No other makes one
-abbrev pub takes_reply : Option Instr → Reply → Position → Mem → Move
-takes_reply (Some (Ask name)) r c m =
-    on_operands (request_size name) [] c.ops (λ os ops. settles name (request_result name) r c os ops m)
-takes_reply _ r c m = Stuck
-
 -- ---- data spaces
 
 -- the place where the content of a data space begins. The nil space has none; the number 0, which no data space has, stands for it
@@ -459,6 +447,68 @@ keeps_space a s m go = cond (takes_number (m.cells a)) (go (with_cells (written 
 -- the data space that a variable held is forgotten
 abbrev pub without_held : Option SpaceNo → Mem → Mem
 without_held held m = mem_after (forgetting held m.heads) m
+
+-- ---- requests
+
+-- a variable gets what a message brings, which is no text; where it held a data space, that is forgotten then. Where the variable is gone, the command
+-- stops behind the request
+abbrev pub receives_in : Position → List Operand → Addr → Value → Mem → (Mem → Move) → Move
+receives_in c ops a v m go =
+    cond (is_in (kind_of v ∷ []) a.area a.cell m.heads)
+    (on_cell (kind_of v) (m.cells a) (λ held.
+    cond (takes (held_of v) (m.cells a)) (go (without_held (space_of held) (with_cells (written m.cells a (held_of v)) m))) Unknown))
+    (Refuses NoSpace (at c (c.pc + 1) ops) m)
+
+abbrev pub receives_at : Position → List Operand → Option Operand → Value → Mem → (Mem → Move) → Move
+receives_at c ops (Some (At a)) v m go = receives_in c ops a v m go
+receives_at c ops _ v m go = Stuck
+
+-- variables get all that a message brings, one after another
+abbrev pub receives : Position → List Operand → List Operand → List (ℕ × Value) → Mem → Move
+receives c ops os [] m = goes c ops m
+receives c ops os (e ∷ es) m = receives_at c ops (slice_get os e.0) e.1 m (receives c ops os es)
+
+-- the number that the last data space got
+abbrev pub last_made : Mem → SpaceNo
+last_made m = record { 0 = m.heads.last }
+
+-- the variables of a request, behind its values, get what a reply brings
+abbrev pub puts_reply : Bool → RequestName → Reply → Position → List Operand → List Operand → Mem → Move
+puts_reply true name r c os ops m = receives c ops os (message_values name r (last_made m)) m
+puts_reply false name r c os ops m = or_halt (read_as name r) (λ v. keeps c os v ops m)
+
+-- what a request does with the reply, where it took these operands: what it delivers is pushed; where it delivers nothing, its variables
+-- get what it reads
+abbrev pub settles : RequestName → Option Kind → Reply → Position → List Operand → List Operand → Mem → Move
+settles name None r c os ops m = puts_reply (is_message name) name r c (drop (length (request_kinds name)) os) ops m
+settles name (Some k) r c os ops m = or_halt (answer_of name r) (λ v. pushes c (Of v) ops m)
+
+-- what an instruction does that made a request, with the reply. No other makes one
+abbrev pub takes_reply : Option Instr → Reply → Position → Mem → Move
+takes_reply (Some (Ask name)) r c m =
+    on_operands (request_size name) [] c.ops (λ os ops. settles name (request_result name) r c os ops m)
+takes_reply _ r c m = Stuck
+
+-- the number that a cell holds, once a mark is spent
+abbrev pub after_word : Cell → (ℕ → After) → After
+after_word (Word n) go = go n
+after_word (Letters t) go = Unsaid
+after_word Free go = Unsaid
+
+-- a request that sends a data space is made with the one in its first variable
+abbrev pub asks_with : RequestName → List Value → List Operand → Position → Mem → After
+asks_with name vs (At a ∷ os) c m =
+    cond (is_in (kinds.Space ∷ []) a.area a.cell m.heads)
+    (after_word (m.cells a) (λ n. Asks c (request_of name (item.Space (space_in n) ∷ vs)) m))
+    (Stops NoSpace)
+asks_with _ vs _ c m = Unsaid
+
+-- what a request asks for with these operands
+abbrev pub asks_for : Bool → RequestName → List Operand → Position → Mem → After
+asks_for true name os c m = asks_with name (map value_in os) (drop (length (request_kinds name)) os) c m
+asks_for false name os c m = Asks c (request_of name (map value_in os)) m
+
+-- ---- what is done with data spaces
 
 -- a variable gets a copy of a data space
 abbrev pub copies : Position → Option SpaceNo → Addr → List Operand → Mem → Move
@@ -541,8 +591,8 @@ instruction p (Some (Step way a)) c m =
     if_there (kinds.Int ∷ []) x m (on_number (m.cells x) (λ z.
     cond (has_reached way limit z) (Goes (at c a ops) m) (goes c ops (with_cells (written m.cells x (held_of (item.Int (next_number way z)))) m))))))
 instruction p (Some (Ask name)) c m =
-    on_operands (request_size name) [] c.ops (λ os ops. Spends (Asks c (request_of name (map value_in os)) m))
-instruction p (Some ErrorStop) c m = on_value c.ops (λ v ops. Refuses (Own (text_of v)) (at c (c.pc + 1) ops))
+    on_operands (request_size name) [] c.ops (λ os ops. Spends (asks_for (sends name) name os c m))
+instruction p (Some ErrorStop) c m = on_value c.ops (λ v ops. Refuses (Own (text_of v)) (at c (c.pc + 1) ops) m)
 instruction p (Some (Call n)) c m = call_move c n (slice_get p.bodies n) m
 instruction p (Some (Refer n)) c m = refer_move c n (slice_get p.bodies n) m
 instruction p (Some (Back s)) c m = on_result s c.ops (λ result. back_to p result c.used c.frames m)
@@ -553,11 +603,11 @@ instruction p (Some End) c m = Ends
 abbrev pub step : Program → Position → Mem → Move
 step p c m = instruction p (instr_of (slice_get p.lines c.pc)) c m
 
--- what the machine runs on: its memory, the marks that are left, and the replies that are left
+-- what the machine runs on: its memory, the marks that are left, and the answers that are left
 pub record Scene : Type 0 where
   pub mem : Mem
   pub marks : ℕ
-  pub replies : List Reply
+  pub replies : List Answer
 
 -- how a run came to rest, and where
 pub record Rest : Type 0 where
@@ -565,13 +615,24 @@ pub record Rest : Type 0 where
   pub control : Control
   pub scene : Scene
 
--- what a reply leads to: a stop, or its instruction goes on with it
+-- what a reply leads to: the request that follows it, a stop, or its instruction goes on with it
+abbrev pub answered_by : Option Request → Reply → Position → Control
+answered_by (Some q) r c = asking c q
+answered_by None (replies.Stopped stop) c = refused c stop
+answered_by None replies.Done c = given c replies.Done
+answered_by None (replies.Text t) c = given c (replies.Text t)
+answered_by None (replies.Task n) c = given c (replies.Task n)
+answered_by None (replies.Truth b) c = given c (replies.Truth b)
+answered_by None replies.Taken c = given c replies.Taken
+answered_by None (replies.Receipt z) c = given c (replies.Receipt z)
+answered_by None (replies.Message code from space) c = given c (replies.Message code from space)
+
 abbrev pub answered : Request → Reply → Position → Control
-answered q (replies.Stopped stop) c = refused c stop
-answered q replies.Done c = given c replies.Done
-answered q (replies.Text t) c = given c (replies.Text t)
-answered q (replies.Task n) c = given c (replies.Task n)
-answered q (replies.Truth b) c = given c (replies.Truth b)
+answered q r c = answered_by (then_asked q r) r c
+
+-- and what it does to the data spaces
+abbrev pub after_reply : Request → Answer → Mem → Mem
+after_reply q a m = mem_after (reply_changes q a m.heads) m
 
 -- what a step leads to: a next state, rest, or nothing
 pub data Stage : Type 0 where
@@ -597,7 +658,7 @@ abbrev pub move_stage : Move → Control → Scene → Stage
 move_stage (Goes c' m) d s = On (free c') (record s { mem = m })
 move_stage (Spends a) d s = mark_stage s.marks a d s
 move_stage (Halts stop) d s = Over (rest_at (halts.Stopped stop) d s)
-move_stage (Refuses stop c') d s = On (refused c' stop) s
+move_stage (Refuses stop c' m) d s = On (refused c' stop) (record s { mem = m })
 move_stage Ends d s = Over (rest_at halts.Ended d s)
 move_stage Unknown d s = Lost
 move_stage Stuck d s = Lost
@@ -605,11 +666,11 @@ move_stage Stuck d s = Lost
 abbrev pub stage : Move → Position → Scene → Stage
 stage m c s = move_stage m (free c) s
 
-abbrev pub reply_stage : List Reply → Request → Position → Scene → Stage
+abbrev pub reply_stage : List Answer → Request → Position → Scene → Stage
 reply_stage [] q c s = Over (rest_at (halts.Asks q) (asking c q) s)
-reply_stage (r ∷ rs) q c s = On (answered q r c) (record s { replies = rs })
+reply_stage (a ∷ as') q c s = On (answered q a.reply c) (record s { mem = after_reply q a s.mem; replies = as' })
 
--- where nothing is waited for, a step is made; a request takes the next reply, and goes on with it; and what was refused stops
+-- where nothing is waited for, a step is made; a request takes the next answer, and goes on with it; and what was refused stops
 abbrev pub stage_at : Waits → Program → Position → Scene → Stage
 stage_at Nothing p c s = stage (step p c s.mem) c s
 stage_at (Asked q) p c s = reply_stage s.replies q c s

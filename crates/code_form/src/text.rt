@@ -454,5 +454,8 @@ fn request_name(name: RequestName) -> &'static [u8]
         RequestName::EndOf => b"end(TASK)",
         RequestName::End => b"end",
         RequestName::Break => b"break",
+        RequestName::Send => b"send(TASK,INT,DATASPACE,INT)",
+        RequestName::Wait => b"wait(DATASPACE,INT,TASK)",
+        RequestName::Call => b"call(TASK,INT,DATASPACE,INT)",
     }
 }

@@ -5,7 +5,7 @@ use Rattle.std.proofs.lemmas.List.{length-map}
 use Rattle.eu_base.specs.declared.value.Kind.{Kind}
 use Rattle.eu_base.specs.declared.value.Kind.TheVariants as kinds
 use Rattle.eu_base.specs.declared.value.Value.{Value}
-use Rattle.eu_base.specs.declared.request.Reply.{Reply}
+use Rattle.eu_base.specs.Requests.{Answer}
 use Rattle.eu_base.specs.Values.{IsOf, blank_of}
 use Rattle.eu_base.specs.Room.{cells_fit}
 use Rattle.eu_base.specs.declared.address.Area.{Area}
@@ -55,8 +55,8 @@ has_blank area kinds cells blank beyond =
     }
 
 -- where a command comes to rest that was run in pieces, it shows what evaluation gives with the marks that were spent and those that
--- it has from there, and with the replies that were given
-pub plays : (core : Core) (p : Program) (packets : List Slot) (spaces : Spaces) (was now : Mem) (spent left : ℕ) (replies : List Reply) (c : Control) (last : Rest)
+-- it has from there, and with the answers that were given
+pub plays : (core : Core) (p : Program) (packets : List Slot) (spaces : Spaces) (was now : Mem) (spent left : ℕ) (replies : List Answer) (c : Control) (last : Rest)
     → Behaves core p → HasAll p (at_start core packets spaces (spent + left) replies) was → Stands p (start p) was spent replies c now
     → Rests p c (record { mem = now; marks = left; replies = [] }) last → Shows p (evaluate core packets spaces (spent + left) replies) last
 plays core p packets spaces was now spent left replies c last b has k h =
@@ -64,6 +64,6 @@ plays core p packets spaces was now spent left replies c last b has k h =
     let r' = subst (λ rs. Rests p (start p) (record { mem = was; marks = spent + left; replies = rs }) last) (append-[] replies) r in
     b.only (at_start core packets spaces (spent + left) replies) was r'.0 last has r'.1
   where
-    append-[] : (l : List Reply) → l ++ [] ≡ l
+    append-[] : (l : List Answer) → l ++ [] ≡ l
     append-[] [] = refl
     append-[] (x ∷ l) = ap (λ l. x ∷ l) (append-[] l)

@@ -16,6 +16,7 @@ use Rattle.eu_base.specs.Room.{cells_fit}
 use Rattle.eu_base.specs.declared.address.Area.{Area}
 use Rattle.eu_base.specs.declared.address.Area.TheVariants.{Run, Packets}
 use Rattle.eu_base.specs.declared.address.Area.TheVariants as areas
+use Rattle.eu_base.specs.SoundSpaces.{AllCanCome}
 use Rattle.eu_base.specs.DataSpaces.{Spaces, heads_of}
 use Rattle.eu_base.specs.SpacePlaces.{kinds_of, values_of}
 use Rattle.std.proofs.lemmas.Bool.Decides.{nat_tests}
@@ -38,7 +39,7 @@ use Rattle.elan_types.specs.Typing.{outside_of, result_of_content, IsStart, Star
 use Rattle.elan_types.specs.Eval.{Slot, Holds, Taken, slot_at, World, Outcome, Gives, Left, Stopped, OutOfMarks, Asks, bind, branch, slot_blocks, cut, called, content, all, act, level}
 use Rattle.elan_types.specs.Command as endings
 use Rattle.elan_types.specs.Command.{Ending, ending, from_level, first_kinds, run_started, run_from, evaluate_from}
-use Rattle.place_gen.specs.Stretch.{Stretch, keeps, all_code, action_code, content_code}
+use Rattle.code_draft.specs.Stretch.{Stretch, keeps, all_code, action_code, content_code}
 use Rattle.place_gen.specs.Correct.{StandsFor, HasVariables, HasSpaces, HasAll, Shows, Comes, scene_of}
 use Rattle.place_gen.proofs.Lines.{HasAt, has_front, has_rest}
 use Rattle.place_gen.proofs.Homes.{Delivers, LeftBy}
@@ -187,6 +188,7 @@ module _ (core : Core) (typed : IsWellTyped core) where
   abbrev Has : Option ℕ → World → Mem → Type 0
   Has o w memory =
       HasVariables Run (kinds_at p (start_from o core)) w.store memory.cells × HasVariables Packets (P p) w.packets memory.cells × HasSpaces w.spaces memory
+      × AllCanCome w.replies
 
   -- ---- the units of a level
 
@@ -307,12 +309,13 @@ module _ (core : Core) (typed : IsWellTyped core) where
     abbrev RunsFrom : Option Body → Type 0
     RunsFrom o =
         HasAt p.lines 0 (started_lines q o) → (w : World) (memory : Mem) → HasVariables Run (kinds_at p (started_at q o)) w.store memory.cells
-        → HasVariables Packets (P p) w.packets memory.cells → HasSpaces w.spaces memory → cells_fit (length (kinds_at p (started_at q o))) ≡ true → cells_fit (length (P p)) ≡ true
+        → HasVariables Packets (P p) w.packets memory.cells → HasSpaces w.spaces memory → AllCanCome w.replies → cells_fit (length (kinds_at p (started_at q o))) ≡ true
+        → cells_fit (length (P p)) ≡ true
         → Comes p (free (record { pc = 0; ops = []; used = length (kinds_at p (started_at q o)); frames = start_frames (started_at q o) })) (scene_of w memory)
         (ending (run_started core w.marks o w))
 
     runs_some : RunsFrom (Some b)
-    runs_some has w memory h g spaces e f =
+    runs_some has w memory h g spaces come e f =
         by (kinds_at p (started_at q (Some b))) (sym kinds_are) h e
       where
         by : (ks : List Kind) → call_cells ≡ ks → HasVariables Run ks w.store memory.cells → cells_fit (length ks) ≡ true
@@ -324,6 +327,7 @@ module _ (core : Core) (typed : IsWellTyped core) where
               command = call_kept (P p) vs w.store memory.cells h e;
               packets = kept_slots Packets (P p) (P p) w.packets memory.cells g f;
               spaces = kept_spaces (P p) w.spaces memory spaces;
+              answers = come;
             }))
 
     runs_started : RunsFrom (slice_get core.bodies q)
@@ -342,8 +346,9 @@ module _ (core : Core) (typed : IsWellTyped core) where
         command = kept_slots Run (P p) p.variables w.store memory.cells h.0 e;
         packets = kept_slots Packets (P p) (P p) w.packets memory.cells h.1 f;
         spaces = kept_spaces (P p) w.spaces memory h.2;
+        answers = h.3;
       })
-  runs (Some q) so has w memory h e f = runs_started q so has w memory h.0 h.1 h.2 e f
+  runs (Some q) so has w memory h e f = runs_started q so has w memory h.0 h.1 h.2 h.3 e f
 
   -- where some cells have no room
   refused_start : (o : Option ℕ) (w : World) (memory : Mem) → Has o w memory
@@ -375,7 +380,7 @@ module _ (core : Core) (typed : IsWellTyped core) where
       let fits = cells_fit (length (P p)) in
       subst (λ (ks : List Kind). Comes p (start p) (scene_of w memory)
       (ending (branch (cells_fit (length ks) && fits) (run_from core.start core w.marks) (Stopped CellRoom) w))) first
-      (by_room core.start typed.starts (has_first core typed) w memory (h.command, h.packets, h.spaces) (cells_fit (length (start_kinds p))) fits refl refl)
+      (by_room core.start typed.starts (has_first core typed) w memory (h.0.command, h.0.packets, h.0.spaces, h.1) (cells_fit (length (start_kinds p))) fits refl refl)
 
   pub behaves : Behaves core p
   behaves = record {

@@ -9,7 +9,7 @@ use Rattle.elan_types.specs.Command as command
 use Rattle.place_gen.specs.Correct.{HasAll, Shows, Comes, scene_of}
 
 -- the code has the packets of the command and the cells that it starts with, and does what the command does, in any world with any marks
--- and replies
+-- and answers
 pub record Behaves (core : Core) (p : Program) : Type 0 where
   pub packets : p.packets ≡ core.packets
   pub inserted : p.inserted ≡ core.inserted

@@ -21,7 +21,7 @@ use Rattle.elan_scope.specs.Known.{delivered}
 use Rattle.elan_scope.specs.Phrase.{Phrase}
 use Rattle.elan_levels.specs.Bodies as b
 use Rattle.elan_levels.specs.Bodies.{parameters, result}
-use Rattle.elan_unbuilt.specs.Operators.{operator_text}
+use Rattle.elan_walk.specs.Operators.{operator_text}
 use Rattle.elan_judge.proofs.InScope.{InScope, body_units_in}
 use Rattle.elan_bodies.specs.Level as l
 use Rattle.elan_bodies.proofs.Counts.{unit_headings_count, all_headings_count}

@@ -39,7 +39,7 @@ use Rattle.type_definitions.specs.declared.definition.Defined.TheVariants as def
 use Rattle.type_definitions.specs.Definitions.{level_definitions, first_from}
 use Rattle.elan_levels.specs.Bodies as bodies
 use Rattle.elan_levels.specs.Bodies.{parameters, result, frame, body_within, routine_scope, seen_types, level_names, headings, numbered, bodies_of_units}
-use Rattle.elan_unbuilt.specs.Operators.{operator_text, sign_text}
+use Rattle.elan_walk.specs.Operators.{operator_text, sign_text}
 use Rattle.elan_scope.specs.Phrase as form
 use Rattle.elan_scope.specs.Known.{delivered}
 use Rattle.elan_scope.specs.declared.delivery.Delivery.TheVariants.{Open, Nothing}

@@ -1,6 +1,6 @@
 -- The answer that is found, as it is promised of a text.
-use Rattle.std.proofs.Common.{ap, ◌≡◌, Result, Ok, Err, Bool, true, false, Some, sym, subst}
-use Rattle.std.specs.Prelude.{IfOk, ◌↔◌}
+use Rattle.std.proofs.Common.{ap, ◌≡◌, Result, Ok, Err, Some, sym, subst}
+use Rattle.std.specs.Prelude.{IfOk}
 use Rattle.elan_scope.specs.declared.env.Env.{Env}
 use Rattle.elan_types.specs.declared.core_phrase.Core.{Core}
 use Rattle.elan_types.specs.Typing.{IsWellTyped}
@@ -10,10 +10,9 @@ use Rattle.elan_scope.specs.Ruled.{Fault, gives}
 use Rattle.elan_scope.specs.declared.known.Known.{Known}
 use Rattle.elan_rules.specs.Meaning.{judged}
 use Rattle.elan_check.specs.declared.error.CheckError.{CheckError}
-use Rattle.elan_check.specs.declared.error.CheckError.TheVariants.{NoMemory, NoMeaning, NotBuilt}
-use Rattle.elan_unbuilt.specs.NotBuilt.{not_built}
+use Rattle.elan_check.specs.declared.error.CheckError.TheVariants.{NoMemory, NoMeaning}
 use Rattle.elan_bodies.specs.Level.{text}
-use Rattle.elan_check.specs.Text.{Means, Refused, IsNotBuilt, IsCore, IsRefusal, Answers, earliest, known, faults}
+use Rattle.elan_check.specs.Text.{Means, Refused, IsCore, IsRefusal, Answers, earliest, known, faults}
 use Rattle.elan_check.specs.Packets.{AreCompiled}
 use Rattle.type_names.specs.Faults.{first_fault}
 use Rattle.elan_check.proofs.Bodies.{known_is}
@@ -25,16 +24,11 @@ pub record Checked (env : Env) (t : Tree) (q : Result Core CheckError) : Type 0 
   pub meaning : IfOk q (λ core. Means env t core)
   pub only : (core : Core) → Means env t core → IsCore core q
   pub refused : IsRefusal (Refused env t) q
-  pub not_built : (q ≡ Err NotBuilt) ↔ IsNotBuilt t
   pub typed : IfOk q (λ core. IsWellTyped core)
 
-both_ways : (b : Bool) → b ≡ false → b ≡ true → ⊥
-both_ways b h k = cc
-
 module _ (env : Env) (compiled : AreCompiled env) (t : Tree) where
-  core_means : (core : Core) → not_built t ≡ false → Answers env t (Ok core) → Means env t core
-  core_means core h a = record {
-    is_built = h;
+  core_means : (core : Core) → Answers env t (Ok core) → Means env t core
+  core_means core a = record {
     types = a.0;
     packets = ap (λ (c : Core). c.packets) a.2;
     inserted = ap (λ (c : Core). c.inserted) a.2;
@@ -45,33 +39,28 @@ module _ (env : Env) (compiled : AreCompiled env) (t : Tree) where
     phrases = subst (λ (k : Known). judged k (text env t) ≡ gives (means.Level core.units a.1)) (sym (known_is env t)) a.3;
   }
 
-  is_refused : (fault : Fault) → not_built t ≡ false → Answers env t (Err (NoMeaning fault.0 fault.1)) → Refused env t fault
-  is_refused fault h a = record {
-    is_built = h;
+  is_refused : (fault : Fault) → Answers env t (Err (NoMeaning fault.0 fault.1)) → Refused env t fault
+  is_refused fault a = record {
     first = is_earliest (known env t) (text env t) (first_fault (faults env t)) fault
         (subst (λ (k : Known). earliest (first_fault (faults env t)) (judged k (text env t)) ≡ Some fault) (sym (known_is env t)) a);
   }
 
-  pub text_checked : (q : Result Core CheckError) → not_built t ≡ false → Answers env t q → Checked env t q
-  text_checked (Ok core) h a = record {
-    meaning = core_means core h a;
-    only = λ other m. one_core env t core other (core_means core h a) m;
+  pub text_checked : (q : Result Core CheckError) → Answers env t q → Checked env t q
+  text_checked (Ok core) a = record {
+    meaning = core_means core a;
+    only = λ other m. one_core env t core other (core_means core a) m;
     refused = tt;
-    not_built = (λ e. absurd cc, λ i. absurd (both_ways (not_built t) h i));
-    typed = well_typed env (is_sound env compiled) t core (core_means core h a);
+    typed = well_typed env (is_sound env compiled) t core (core_means core a);
   }
-  text_checked (Err NoMemory) h a = record {
+  text_checked (Err NoMemory) a = record {
     meaning = tt;
     only = λ other m. tt;
     refused = tt;
-    not_built = (λ e. absurd cc, λ i. absurd (both_ways (not_built t) h i));
     typed = tt;
   }
-  text_checked (Err (NoMeaning at why)) h a = record {
+  text_checked (Err (NoMeaning at why)) a = record {
     meaning = tt;
-    only = λ other m. absurd (meant_is_not_refused env t other (at, why) m (is_refused (at, why) h a));
-    refused = is_refused (at, why) h a;
-    not_built = (λ e. absurd cc, λ i. absurd (both_ways (not_built t) h i));
+    only = λ other m. absurd (meant_is_not_refused env t other (at, why) m (is_refused (at, why) a));
+    refused = is_refused (at, why) a;
     typed = tt;
   }
-  text_checked (Err NotBuilt) h a = absurd a

@@ -19,7 +19,7 @@ use Rattle.elan_scope.specs.Ruled.{Fault, Ruled, gives, breaks, hangs, ◌>>=◌
 use Rattle.elan_rules.specs.Rules.{ruled}
 use Rattle.elan_rules.specs.Meaning.{judged, judged_all}
 use Rattle.elan_check.specs.declared.error.CheckError.{CheckError}
-use Rattle.elan_check.specs.declared.error.CheckError.TheVariants.{NoMemory, NoMeaning, NotBuilt}
+use Rattle.elan_check.specs.declared.error.CheckError.TheVariants.{NoMemory, NoMeaning}
 use Rattle.elan_names.specs.declared.type_name.TypeName.{TypeName}
 use Rattle.elan_scope.specs.Shown.{shown_types}
 use Rattle.type_names.specs.Types.{level_types}
@@ -75,7 +75,6 @@ module _ (env : Env) (t : Tree) (k : Known) (is : k ≡ bodies_known env t) wher
 
   pub refused_is : (d : Fault) (e : CheckError) → Some d ≡ first_fault (faults env t) → IsFault (earliest (Some d) parts) e → Answers env t (Err e)
   refused_is d NoMemory f h = tt
-  refused_is d NotBuilt f h = h
   refused_is d (NoMeaning at why) f h =
       ap (λ (o : Option Fault). earliest o (judged_text env t)) (sym f)
       ∙ ap (λ (q : Ruled Meant). earliest (Some d) q) (text_is parts refl)

@@ -16,7 +16,7 @@ use Rattle.elan_scope.specs.Phrase as form
 use Rattle.elan_scope.specs.Phrase.{plain, Phrase, phrase, Parts, none, part, all_of, around}
 use Rattle.elan_scope.specs.Ruled.{gives}
 use Rattle.elan_scope.specs.declared.known.Known.{Known}
-use Rattle.elan_unbuilt.specs.Operators.{operator_text}
+use Rattle.elan_walk.specs.Operators.{operator_text}
 use Rattle.unit_rules.specs.Units as u
 use Rattle.elan_meant.specs.Verdict.{told}
 use Rattle.elan_rules.specs.Rules.{ruled}

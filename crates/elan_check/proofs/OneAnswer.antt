@@ -1,4 +1,4 @@
--- A text has one answer: a core, or a refusal, or it has what is not built yet.
+-- A text has one answer: a core, or a refusal.
 use Rattle.std.proofs.Common.{◌≡◌, ℕ, ◌<◌, ◌≤◌, Bool, List, [], ◌∷◌, true, false, if◌then◌else◌, Option, Some, None, refl, sym, ap, ◌∙◌, subst, arith, inl, inr}
 use Rattle.elan_scope.specs.declared.env.Env.{Env}
 use Rattle.elan_types.specs.declared.core_phrase.Core.{Core}
@@ -17,10 +17,9 @@ use Rattle.elan_rules.specs.Rules.{ruled}
 use Rattle.elan_rules.specs.Meaning.{judged, judged_all}
 use Rattle.elan_check.proofs.Bodies.{known_is}
 use Rattle.elan_check.proofs.Spots.{never_hangs}
-use Rattle.elan_unbuilt.specs.NotBuilt.{not_built}
 use Rattle.elan_bodies.specs.Level.{text, text_parts}
 use Rattle.elan_rules.specs.Meaning as phrase
-use Rattle.elan_check.specs.Text.{Means, Refused, IsEarliest, earliest, known, faults, core_of, HasAnswer, meaning, refusal, not_yet, HasOneAnswer}
+use Rattle.elan_check.specs.Text.{Means, Refused, IsEarliest, earliest, known, faults, core_of, HasAnswer, meaning, refusal, HasOneAnswer}
 use Rattle.type_names.specs.Faults.{first_fault}
 use Rattle.elan_check.specs.Packets.{AreCompiled}
 use Rattle.elan_check.proofs.Inserted.{is_sound}
@@ -127,11 +126,10 @@ is_earliest k p o f e =
     earliest_is o (judged k p) (phrase.IsFirst k (phrase.phrases p)) (λ g h. judged_first k p g h) (λ g h. first.refused_of k p g h) f e
 
 module _ (env : Env) (compiled : AreCompiled env) (t : Tree) where
-  meant_answer : not_built t ≡ false → faults env t ≡ [] → (q : Ruled Meant) → judged (known env t) (text env t) ≡ q → HasAnswer env t
-  meant_answer h n (gives m) e =
+  meant_answer : faults env t ≡ [] → (q : Ruled Meant) → judged (known env t) (text env t) ≡ q → HasAnswer env t
+  meant_answer n (gives m) e =
       let d = level_gives (known env t) (text_parts env t) m e in
       meaning (core_of env t d.0 d.1) (record {
-        is_built = h;
         types = n;
         packets = refl;
         inserted = refl;
@@ -141,13 +139,12 @@ module _ (env : Env) (compiled : AreCompiled env) (t : Tree) where
         bodies = refl;
         phrases = e ∙ ap (λ (k : Meant). gives k) d.2;
       })
-  meant_answer h n (breaks f) e =
+  meant_answer n (breaks f) e =
       refusal f (record {
-        is_built = h;
         first = subst (λ (fs : List Fault). IsEarliest (first_fault fs) (phrase.IsFirst (known env t) (phrase.phrases (text env t))) f) (sym n)
             (first.refused_of (known env t) (text env t) f e);
       })
-  meant_answer h n hangs e = let s = is_sound env compiled in
+  meant_answer n hangs e = let s = is_sound env compiled in
       absurd (never_hangs env t s.closed s.means n (subst (λ (k : Known). judged k (text env t) ≡ hangs) (known_is env t) e))
 
   some_fault : (d : Fault) (q : Ruled Meant) → (f : Fault) × (earliest (Some d) q ≡ Some f)
@@ -159,27 +156,17 @@ module _ (env : Env) (compiled : AreCompiled env) (t : Tree) where
       by_test true = (g, refl)
       by_test false = (d, refl)
 
-  judged_answer : not_built t ≡ false → (fs : List Fault) → faults env t ≡ fs → HasAnswer env t
-  judged_answer h [] n = meant_answer h n (judged (known env t) (text env t)) refl
-  judged_answer h (d ∷ fs) n =
+  judged_answer : (fs : List Fault) → faults env t ≡ fs → HasAnswer env t
+  judged_answer [] n = meant_answer n (judged (known env t) (text env t)) refl
+  judged_answer (d ∷ fs) n =
       let f = some_fault d (judged (known env t) (text env t)) in
       refusal f.0 (record {
-        is_built = h;
         first = subst (λ (gs : List Fault). IsEarliest (first_fault gs) (phrase.IsFirst (known env t) (phrase.phrases (text env t))) f.0) (sym n)
             (is_earliest (known env t) (text env t) (Some d) f.0 f.1);
       })
 
-  answer_by : (b : Bool) → not_built t ≡ b → HasAnswer env t
-  answer_by true e = not_yet e
-  answer_by false e = judged_answer e (faults env t) refl
-
-  both_ways : not_built t ≡ false → not_built t ≡ true → ⊥
-  both_ways h k = cc
-
   pub one_answer : HasOneAnswer env t
   one_answer = record {
-    answer = answer_by (not_built t) refl;
+    answer = judged_answer (faults env t) refl;
     no_core_and_refusal = meant_is_not_refused env t;
-    no_core_not_built = λ c h k. both_ways h.is_built k;
-    no_refusal_not_built = λ f h k. both_ways h.is_built k;
   }

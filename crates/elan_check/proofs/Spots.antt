@@ -28,7 +28,7 @@ use Rattle.elan_scope.specs.declared.env.Env.{Env}
 use Rattle.elan_scope.specs.Shown.{shown_types}
 use Rattle.elan_levels.specs.Bodies as b
 use Rattle.elan_levels.specs.Bodies.{parameters, result, frame}
-use Rattle.elan_unbuilt.specs.Operators.{operator_text}
+use Rattle.elan_walk.specs.Operators.{operator_text}
 use Rattle.elan_scope.specs.Phrase as form
 use Rattle.elan_scope.specs.Phrase.{Plain, plain, Phrase, none, part, all_of, row, leaf}
 use Rattle.elan_scope.specs.Ruled.{Ruled, hangs}

@@ -49,7 +49,7 @@ use Rattle.elan_scope.specs.Phrase.{plain, Phrase, phrase, Parts, none, part, al
 use Rattle.elan_scope.specs.Ruled.{gives}
 use Rattle.elan_scope.specs.Known.{delivery_at}
 use Rattle.elan_scope.specs.declared.known.Known.{Known}
-use Rattle.elan_unbuilt.specs.Operators.{operator_text}
+use Rattle.elan_walk.specs.Operators.{operator_text}
 use Rattle.elan_meant.specs.Parts as p
 use Rattle.unit_rules.specs.Units as u
 use Rattle.elan_rules.specs.Rules.{ruled}

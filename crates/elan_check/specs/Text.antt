@@ -1,5 +1,5 @@
 -- The meaning of a text, and why it has none.
-use Rattle.std.specs.Prelude.{◌≡◌, ◌≤◌, ◌<◌, ◌⊎◌, nat_lt, if◌then◌else◌, true, false, List, [], ◌++◌, Option, Some, None, Result, Ok, Err}
+use Rattle.std.specs.Prelude.{◌≡◌, ◌≤◌, ◌<◌, ◌⊎◌, nat_lt, if◌then◌else◌, List, [], ◌++◌, Option, Some, None, Result, Ok, Err}
 use Rattle.eu_base.specs.declared.value.Kind.{Kind}
 use Rattle.elan_types.specs.declared.core_phrase.Core.{Core}
 use Rattle.elan_types.specs.declared.core_phrase.Action.{Action}
@@ -7,9 +7,8 @@ use Rattle.elan_types.specs.declared.core_phrase.Body.{Body}
 use Rattle.elan_tree.specs.declared.tree.Tree.{Tree}
 use Rattle.elan_tree.specs.declared.tree.Tree.TheVariants as tree
 use Rattle.elan_check.specs.declared.error.CheckError.{CheckError}
-use Rattle.elan_check.specs.declared.error.CheckError.TheVariants.{NoMemory, NoMeaning, NotBuilt}
+use Rattle.elan_check.specs.declared.error.CheckError.TheVariants.{NoMemory, NoMeaning}
 use Rattle.elan_meant.specs.declared.meant.Meant.TheVariants as means
-use Rattle.elan_unbuilt.specs.NotBuilt.{not_built}
 use Rattle.elan_scope.specs.declared.env.Env.{Env}
 use Rattle.elan_scope.specs.Scope.{variables_of}
 use Rattle.elan_scope.specs.Shown.{shown_types}
@@ -21,10 +20,6 @@ use Rattle.elan_bodies.specs.Level.{level_in, level_bodies, text_scope, text}
 use Rattle.elan_scope.specs.declared.known.Known.{Known}
 use Rattle.elan_bodies.specs.Refinements.{bodies_within, known_of}
 use Rattle.elan_rules.specs.Meaning as phrase
-
--- The text has a phrase or a name that is not built yet.
-abbrev pub IsNotBuilt : Tree → Type 0
-IsNotBuilt t = not_built t ≡ true
 
 -- after these packets
 module _ (env : Env) where
@@ -48,7 +43,6 @@ module _ (env : Env) where
 
 -- The text has this core after these packets: its bodies stand behind theirs.
 pub record Means (env : Env) (t : Tree) (c : Core) : Type 0 where
-  pub is_built : not_built t ≡ false
   pub types : faults env t ≡ []
   pub packets : c.packets ≡ env.packets
   pub inserted : c.inserted ≡ inserted env t
@@ -65,21 +59,18 @@ IsEarliest (Some e) First f = ((f ≡ e) × ((g : Fault) → First g → e.0 ≤
 
 -- This is the place of the first phrase that breaks a rule though all its parts have meaning, and its reason. Types are phrases too.
 pub record Refused (env : Env) (t : Tree) (fault : Fault) : Type 0 where
-  pub is_built : not_built t ≡ false
   pub first : IsEarliest (first_fault (faults env t)) (phrase.IsFirst (known env t) (phrase.phrases (text env t))) fault
 
 abbrev pub IsCore : Core → Result Core CheckError → Type 0
 IsCore core (Ok c) = c ≡ core
 IsCore core (Err NoMemory) = Unit {0}
 IsCore core (Err (NoMeaning at why)) = ⊥
-IsCore core (Err NotBuilt) = ⊥
 
 -- A refusal is one of these faults.
 abbrev pub IsRefusal : (Fault → Type 0) → Result Core CheckError → Type 0
 IsRefusal P (Ok c) = Unit {0}
 IsRefusal P (Err NoMemory) = Unit {0}
 IsRefusal P (Err (NoMeaning at why)) = P (at, why)
-IsRefusal P (Err NotBuilt) = Unit {0}
 
 -- the first fault of a type, or what is said of the phrases, whichever stands before the other
 abbrev pub earliest : {A : Type 0} → Option Fault → Ruled A → Option Fault
@@ -92,7 +83,6 @@ earliest (Some f) r = Some f
 abbrev pub IsFault : Option Fault → CheckError → Type 0
 IsFault fault NoMemory = Unit {0}
 IsFault fault (NoMeaning at why) = fault ≡ Some (at, why)
-IsFault fault NotBuilt = ⊥
 
 -- what is known of the bodies of a text as they are gone over, and what it means, or its first fault, as phrases are judged
 abbrev pub bodies_known : Env → Tree → Known
@@ -112,16 +102,12 @@ Answers env t (Ok core) =
     (faults env t ≡ []) × (own : List Body) × (core ≡ core_of env t core.units own) × (judged_text env t ≡ gives (means.Level core.units own))
 Answers env t (Err NoMemory) = Unit {0}
 Answers env t (Err (NoMeaning at why)) = earliest (first_fault (faults env t)) (judged_text env t) ≡ Some (at, why)
-Answers env t (Err NotBuilt) = ⊥
 
--- A text has a core, or is refused, or has what is not built yet.
+-- A text has a core, or is refused.
 pub data HasAnswer (env : Env) (t : Tree) : Type 0 where
   meaning : (c : Core) → Means env t c → HasAnswer env t
   refusal : (f : Fault) → Refused env t f → HasAnswer env t
-  not_yet : IsNotBuilt t → HasAnswer env t
 
 pub record HasOneAnswer (env : Env) (t : Tree) : Type 0 where
   pub answer : HasAnswer env t
   pub no_core_and_refusal : (c : Core) (f : Fault) → Means env t c → Refused env t f → ⊥
-  pub no_core_not_built : (c : Core) → Means env t c → IsNotBuilt t → ⊥
-  pub no_refusal_not_built : (f : Fault) → Refused env t f → IsNotBuilt t → ⊥

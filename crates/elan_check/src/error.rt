@@ -13,8 +13,6 @@ pub enum CheckError {
     /// The place of the first phrase in text order that breaks a rule though all its parts have
     /// meaning, and the rule. The text's first byte has place 1.
     NoMeaning(u32, Why),
-    /// The text has a phrase or a name that is not built yet.
-    NotBuilt,
 }
 
 impl From<NoMemory> for CheckError {

@@ -6,7 +6,7 @@ ghost use Rattle.elan_types.specs.declared.core_phrase.Core.{Core};
 ghost use Rattle.elan_tree.specs.declared.tree.Tree.{Tree};
 ghost use Rattle.elan_types.specs.Typing.{IsWellTyped};
 ghost use Rattle.elan_scope.specs.Ruled.{Fault};
-ghost use Rattle.elan_check.specs.Text.{Means, Refused, IsNotBuilt, HasOneAnswer};
+ghost use Rattle.elan_check.specs.Text.{Means, Refused, HasOneAnswer};
 ghost use Rattle.elan_check.specs.Packets.{AreCompiled};
 
 /// A text has at most one core.
@@ -24,7 +24,7 @@ pub fn meant_is_not_refused()
     ensures { (env : Env) → (t : Tree) → (c : Core) → (f : Fault) → Means env t c → Refused env t f → ⊥ }
 {}
 
-/// Behind packets each text has a core, or is refused, or has what is not built yet, and only one of these.
+/// Behind packets each text has a core or is refused, and not both.
 pub fn each_text_has_one_answer()
     ensures { (env : Env) → AreCompiled env → (t : Tree) → HasOneAnswer env t }
 {}

@@ -1,10 +1,9 @@
 //! The meaning of a text.
 
-ghost use Rattle.std.specs.Prelude.{◌≡◌, ◌↔◌, IfOk, Err};
+ghost use Rattle.std.specs.Prelude.{IfOk};
 ghost use Rattle.elan_types.specs.Typing.{IsWellTyped};
 ghost use Rattle.elan_types.specs.declared.core_phrase.Core.{Core};
 ghost use Rattle.elan_tree.specs.declared.tree.Tree.{Tree};
-ghost use Rattle.elan_check.specs.declared.error.CheckError.TheVariants as errors;
 ghost use Rattle.elan_scope.specs.Ruled.{Fault};
 ghost use Rattle.elan_check.specs.Text as text;
 
@@ -13,7 +12,6 @@ use crate::packets::Packets;
 use crate::text_core::core_of;
 use elan_tree::Tree;
 use elan_types::Core;
-use elan_unbuilt::has_unbuilt;
 use std::alloc::Global;
 
 /// The one core of a text that stands behind packets, or the first phrase in text order that breaks a rule though all its parts
@@ -25,13 +23,8 @@ pub fn check(alloc: Global, tree: &Tree, packets: &Packets) -> Result<Core, Chec
     ensures only { (core : Core) → text.Means packets.now tree.now core → text.IsCore core result }
     // The refusal is the first one.
     ensures refused { text.IsRefusal (text.Refused packets.now tree.now) result }
-    // A text with a phrase or a name that is not built has no other answer, and no other text has this one.
-    ensures not_built { (result ≡ Err errors.NotBuilt) ↔ text.IsNotBuilt tree.now }
     // A core is well typed, so code can be made of it.
     ensures typed { IfOk result (λ core. IsWellTyped core) }
 {
-    if has_unbuilt(tree) {
-        return Err(CheckError::NotBuilt);
-    }
     core_of(alloc, packets.env(), tree)
 }

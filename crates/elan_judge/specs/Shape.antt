@@ -27,7 +27,7 @@ use Rattle.elan_scope.specs.declared.delivery.Delivery.TheVariants.{Open, Nothin
 use Rattle.elan_names.specs.declared.heading.Sort.TheVariants.{Procedure, Operator}
 use Rattle.elan_scope.specs.declared.scope.Scope.{Scope}
 use Rattle.elan_scope.specs.Scope.{find, number_named}
-use Rattle.elan_unbuilt.specs.Operators.{operator_text}
+use Rattle.elan_walk.specs.Operators.{operator_text}
 use Rattle.elan_scope.specs.declared.scope.Usage.TheVariants.{Expression, Counter as Counts}
 use Rattle.elan_scope.specs.Phrase as form
 use Rattle.elan_scope.specs.Phrase.{Phrase, phrase, part, none, row, leaf, around, pair, name, place}

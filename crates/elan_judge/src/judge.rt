@@ -30,7 +30,7 @@ use elan_scope::scope::{Scope, Usage};
 use elan_scope::trouble::Trouble;
 use elan_tree::{Branch, Case, Counter, Expr, Item, Limit, Name, Unit};
 use elan_types::Way;
-use elan_unbuilt::operator_text;
+use elan_walk::operator_text;
 use eu_base::List;
 use std::alloc::Global;
 use unit_rules::list::{alone, declaration, in_order, must_deliver, without_value};

@@ -1,5 +1,5 @@
 -- A refusal is at a place of the text.
-use Rattle.std.proofs.Common.{◌≡◌, ℕ, suc, false, List, [], ◌∷◌, ◌++◌, Option, Some, None, refl, sym, ap, subst, ◌∙◌, arith, inl, inr}
+use Rattle.std.proofs.Common.{◌≡◌, ℕ, suc, List, [], ◌∷◌, ◌++◌, Option, Some, None, refl, sym, ap, subst, ◌∙◌, arith, inl, inr}
 use Rattle.std.specs.List.{Contains}
 use Rattle.elan_tree.specs.declared.tree.Tree.{Tree}
 use Rattle.elan_meant.specs.declared.meant.Meant.{Meant}
@@ -10,7 +10,6 @@ use Rattle.elan_scope.specs.Ruled.{Fault, Ruled, gives, breaks, hangs, ◌>>=◌
 use Rattle.elan_rules.specs.Rules.{ruled}
 use Rattle.elan_rules.specs.Meaning.{phrases, IsFirst, judged, judged_all}
 use Rattle.elan_rules.proofs.First as first
-use Rattle.elan_unbuilt.specs.NotBuilt.{not_built}
 use Rattle.type_names.specs.Faults.{first_fault}
 use Rattle.elan_bodies.specs.Level.{text}
 use Rattle.elan_check.specs.Text.{IsEarliest, Refused, faults, known}
@@ -92,16 +91,16 @@ module _ (env : Env) (t : Tree) where
   abbrev all : List ℕ
   all = places t ++ type_places t
 
-  type_in : not_built t ≡ false → (f : Fault) → first_fault (faults env t) ≡ Some f → In all f.0
-  type_in b f e = thr.behind (places t) (first_in (type_places t) (faults env t) f (faults_follow env t b) e)
+  type_in : (f : Fault) → first_fault (faults env t) ≡ Some f → In all f.0
+  type_in f e = thr.behind (places t) (first_in (type_places t) (faults env t) f (faults_follow env t) e)
 
-  earliest_in : not_built t ≡ false → (f : Fault) (o : Option Fault) → first_fault (faults env t) ≡ o → IsEarliest o first_phrase f → In all f.0
-  earliest_in b f None e h = thr.before (type_places t) (phrase_in f h)
-  earliest_in b f (Some g) e h =
+  earliest_in : (f : Fault) (o : Option Fault) → first_fault (faults env t) ≡ o → IsEarliest o first_phrase f → In all f.0
+  earliest_in f None e h = thr.before (type_places t) (phrase_in f h)
+  earliest_in f (Some g) e h =
       elim h [
-        | inl i ↦ type_in b f (e ∙ ap (λ (q : Fault). Some q) (sym i.0))
+        | inl i ↦ type_in f (e ∙ ap (λ (q : Fault). Some q) (sym i.0))
         | inr i ↦ thr.before (type_places t) (phrase_in f i.0)
       ]
 
   pub refused_at_place : (f : Fault) → Refused env t f → Contains (places t ++ type_places t) f.0
-  refused_at_place f h = contains f.0 (places t ++ type_places t) (earliest_in h.is_built f (first_fault (faults env t)) refl h.first)
+  refused_at_place f h = contains f.0 (places t ++ type_places t) (earliest_in f (first_fault (faults env t)) refl h.first)

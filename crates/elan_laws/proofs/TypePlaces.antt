@@ -1,8 +1,8 @@
 -- The faults of types stand in text order.
-use Rattle.std.proofs.Common.{◌≡◌, ℕ, ℤ, Bool, true, false, ◌&&◌, ◌||◌, not, if◌then◌else◌, List, [], ◌∷◌, ◌++◌, Option, Some, None, refl, sym, ap, subst, ◌∙◌}
+use Rattle.std.proofs.Common.{◌≡◌, ℕ, ℤ, Bool, true, false, ◌&&◌, not, if◌then◌else◌, List, [], ◌∷◌, ◌++◌, Option, Some, None, refl, sym, ap, subst, ◌∙◌}
 use Rattle.std.proofs.Common.{append_assoc}
 use Rattle.std.specs.Prelude.{map, flat_map}
-use Rattle.std.specs.List.{list_all, list_any}
+use Rattle.std.specs.List.{list_any}
 use Rattle.std.specs.Str.{bytes_eq}
 use Rattle.std.specs.Option.{is_some}
 use Rattle.elan_types.specs.declared.elan_type.ElanType.{ElanType}
@@ -28,9 +28,6 @@ use Rattle.elan_tree.specs.declared.tree.Tree.{Tree}
 use Rattle.elan_tree.specs.declared.tree.Tree.TheVariants as tree
 use Rattle.elan_walk.specs.Nodes as nodes
 use Rattle.elan_walk.specs.Nodes.{Node, alone, other, sign, of_type, item, let_name, abbreviation, new_type, content}
-use Rattle.elan_unbuilt.specs.Names.{is_not_built}
-use Rattle.elan_unbuilt.specs.NotBuilt as built
-use Rattle.elan_unbuilt.specs.Types.{is_type_built, is_field_built, is_size_built, are_names_built, built_step, field_built_step}
 use Rattle.elan_names.specs.declared.type_name.TypeName.{TypeName}
 use Rattle.elan_names.specs.declared.type_name.Named.{Named}
 use Rattle.elan_names.specs.declared.type_name.Named.TheVariants as named
@@ -46,28 +43,6 @@ use Rattle.elan_laws.specs.Places as at
 use Rattle.elan_laws.specs.Places.{type_places}
 use Rattle.elan_laws.specs.Order.{Follows, ends}
 use Rattle.elan_laws.proofs.Through.{behind, beside, before, later, all_of_it}
-
-neither : (a b : Bool) → (a || b) ≡ false → (a ≡ false) × (b ≡ false)
-neither true b e = absurd cc
-neither false b e = (refl, e)
-
-both_of : (a b : Bool) → (a && b) ≡ true → (a ≡ true) × (b ≡ true)
-both_of true b e = (refl, e)
-both_of false b e = absurd cc
-
-not_false : (a : Bool) → not a ≡ false → a ≡ true
-not_false true e = refl
-not_false false e = absurd cc
-
-any_split : (xs ys : List Node) → list_any built.node (xs ++ ys) ≡ false → (list_any built.node xs ≡ false) × (list_any built.node ys ≡ false)
-any_split [] ys h = (refl, h)
-any_split (x ∷ xs) ys h =
-    let n = neither (built.node x) (list_any built.node (xs ++ ys)) h in
-    let q = any_split xs ys n.1 in
-    (subst (λ (c : Bool). (c || list_any built.node xs) ≡ false) (sym n.0) q.0, q.1)
-
-any_rest : (x : Node) (xs : List Node) → list_any built.node (x ∷ xs) ≡ false → list_any built.node xs ≡ false
-any_rest x xs h = let n = neither (built.node x) (list_any built.node xs) h in n.1
 
 -- ---- the places of faults
 
@@ -107,11 +82,11 @@ types_append (x ∷ xs) ys =
 -- where these names can be seen, and these are the refinements of the level
 module _ (seen : List TypeName) (rs : List Refinement) where
   abbrev WrittenFollows : TypePhrase → Type 0
-  WrittenFollows of = is_type_built of ≡ true → (inside : Bool) → Follows (told_at (faults.judged seen rs of inside).faults) (at.type_phrase of)
+  WrittenFollows of = (inside : Bool) → Follows (told_at (faults.judged seen rs of inside).faults) (at.type_phrase of)
 
   -- the faults of the type of fields, and behind them those of their names, where these stand before
   abbrev FieldFollows : Field → Type 0
-  FieldFollows f = is_field_built f ≡ true → (earlier : List (List ℕ))
+  FieldFollows f = (earlier : List (List ℕ))
       → Follows (told_at ((faults.judged_fields seen rs f).faults ++ faults.doubled_names earlier (faults.judged_fields seen rs f).names)) (at.field f)
 
   abbrev WrittenOne : Type 0
@@ -156,61 +131,55 @@ module _ (seen : List TypeName) (rs : List Refinement) where
       two_lists (faults.doubled_name earlier n) (faults.doubled_names (earlier ++ n.text ∷ []) ns)
       (may_tell n.at (list_any (λ x. bytes_eq x n.text) earlier) (n.at, Doubled) refl) (doubled_follow (earlier ++ n.text ∷ []) ns)
 
-  fields_follow : (earlier : List (List ℕ)) (fs : List FieldOne) → list_all (λ b. b) (map is_field_built (map (λ e. e.0) fs)) ≡ true
+  fields_follow : (earlier : List (List ℕ)) (fs : List FieldOne)
       → Follows (told_at (faults.fields_faults earlier (map (faults.judged_fields seen rs) (map (λ e. e.0) fs)))) (at.all (map at.field (map (λ e. e.0) fs)))
-  fields_follow earlier [] b = ends []
-  fields_follow earlier (f ∷ fs) b =
-      let q = both_of (is_field_built f.0) (list_all (λ b. b) (map is_field_built (map (λ e. e.0) fs))) b in
+  fields_follow earlier [] = ends []
+  fields_follow earlier (f ∷ fs) =
       let j = faults.judged_fields seen rs f.0 in
       let further = earlier ++ map (λ (n : Name). n.text) j.names in
       two_lists (j.faults ++ faults.doubled_names earlier j.names) (faults.fields_faults further (map (faults.judged_fields seen rs) (map (λ e. e.0) fs)))
-      (f.1 q.0 earlier) (fields_follow further fs q.1)
+      (f.1 earlier) (fields_follow further fs)
 
-  written_here : (y : TypePhrase-F WrittenOne FieldOne)
-      → built_step (map-TypePhrase _ _ _ _ is_type_built is_field_built (map-TypePhrase _ _ _ _ (λ e. e.0) (λ e. e.0) y)) ≡ true → (inside : Bool)
+  written_here : (y : TypePhrase-F WrittenOne FieldOne) (inside : Bool)
       → Follows (told_at (faults.judged_step seen rs
       (map-TypePhrase _ _ _ _ (faults.judged seen rs) (faults.judged_fields seen rs) (map-TypePhrase _ _ _ _ (λ e. e.0) (λ e. e.0) y)) inside).faults)
       (at.written_step (map-TypePhrase _ _ _ _ at.type_phrase at.field (map-TypePhrase _ _ _ _ (λ e. e.0) (λ e. e.0) y)))
-  written_here (type.Int a) b inside = ends []
-  written_here (type.Bool a) b inside = ends []
-  written_here (type.Text a) b inside = ends []
-  written_here (type.Task a) b inside = ends []
-  written_here (type.Dataspace a) b true = all_of_it (a ∷ [])
-  written_here (type.Dataspace a) b false = ends (a ∷ [])
-  written_here (type.Named n) b inside = name_follows n (look seen n.text)
-  written_here (type.Row a size of) b inside =
-      let q = both_of (is_size_built size) (is_type_built of.0) b in
+  written_here (type.Int a) inside = ends []
+  written_here (type.Bool a) inside = ends []
+  written_here (type.Text a) inside = ends []
+  written_here (type.Task a) inside = ends []
+  written_here (type.Dataspace a) true = all_of_it (a ∷ [])
+  written_here (type.Dataspace a) false = ends (a ∷ [])
+  written_here (type.Named n) inside = name_follows n (look seen n.text)
+  written_here (type.Row a size of) inside =
       let o = size_of (look seen) size in
       let j = faults.judged seen rs of.0 true in
       two_lists (faults.row_fault a o j.of ++ faults.size_faults seen rs size) j.faults
-      (two_lists (faults.row_fault a o j.of) (faults.size_faults seen rs size) (row_fault_follows a o j.of) (size_follows size)) (of.1 q.1 true)
-  written_here (type.Struct a fields) b inside =
+      (two_lists (faults.row_fault a o j.of) (faults.size_faults seen rs size) (row_fault_follows a o j.of) (size_follows size)) (of.1 true)
+  written_here (type.Struct a fields) inside =
       let js = map (faults.judged_fields seen rs) (map (λ e. e.0) fields) in
       let fs = flat_map (λ (f : JudgedFields). f.fields) js in
-      two_lists (faults.structure_fault a fs) (faults.fields_faults [] js) (structure_follows a fs) (fields_follow [] fields b)
+      two_lists (faults.structure_fault a fs) (faults.fields_faults [] js) (structure_follows a fs) (fields_follow [] fields)
 
-  field_here : (y : Field-F WrittenOne FieldOne)
-      → field_built_step (map-Field _ _ _ _ is_type_built is_field_built (map-Field _ _ _ _ (λ e. e.0) (λ e. e.0) y)) ≡ true → (earlier : List (List ℕ))
+  field_here : (y : Field-F WrittenOne FieldOne) (earlier : List (List ℕ))
       → Follows (told_at ((faults.judged seen rs y.of.0 true).faults ++ faults.doubled_names earlier y.names)) (at.type_phrase y.of.0 ++ at.names y.names)
-  field_here y b earlier =
-      let q = both_of (is_type_built y.of.0) (are_names_built y.names) b in
-      two_lists (faults.judged seen rs y.of.0 true).faults (faults.doubled_names earlier y.names) (y.of.1 q.0 true) (doubled_follow earlier y.names)
+  field_here y earlier =
+      two_lists (faults.judged seen rs y.of.0 true).faults (faults.doubled_names earlier y.names) (y.of.1 true) (doubled_follow earlier y.names)
 
   field_follows : (y : Field-F WrittenOne FieldOne) → FieldFollows (roll-Field (map-Field _ _ _ _ (λ e. e.0) (λ e. e.0) y))
-  field_follows y b earlier =
+  field_follows y earlier =
       let z = map-Field _ _ _ _ (λ e. e.0) (λ e. e.0) y in
-      let built_so = fold-roll-Field Bool Bool built_step field_built_step z in
       let judged_so = fold-roll-Field (Bool → Judged) JudgedFields (faults.judged_step seen rs) (faults.judged_fields_step seen rs) z in
       let placed_so = fold-roll-Field (List ℕ) (List ℕ) at.written_step at.field_step z in
       let j = faults.judged_fields seen rs (roll-Field z) in
       subst (Follows (told_at (j.faults ++ faults.doubled_names earlier j.names))) (sym placed_so)
       (subst (λ (j : JudgedFields). Follows (told_at (j.faults ++ faults.doubled_names earlier j.names)) (at.type_phrase y.of.0 ++ at.names y.names))
-      (sym judged_so) (field_here y (sym built_so ∙ b) earlier))
+      (sym judged_so) (field_here y earlier))
 
   written_follows : (of : TypePhrase) → WrittenFollows of
   written_follows =
       ind-TypePhrase WrittenFollows FieldFollows
-      (λ x y is. rw (← is) (rw (fold-roll-TypePhrase Bool Bool, fold-roll-TypePhrase (Bool → Judged) JudgedFields, fold-roll-TypePhrase (List ℕ) (List ℕ)) (written_here y)))
+      (λ x y is. rw (← is) (rw (fold-roll-TypePhrase (Bool → Judged) JudgedFields, fold-roll-TypePhrase (List ℕ) (List ℕ)) (written_here y)))
       (λ x y is. rw (← is) (field_follows y))
 
 module _ (h : Here) where
@@ -223,31 +192,28 @@ module _ (h : Here) where
   or_follows a [] gs ns h k = before ns k
   or_follows a (f ∷ fs) gs ns h k = later a h
 
-  built_follows : (of : TypePhrase) (inside : Bool) → not (is_type_built of) ≡ false → Follows (told_at (faults.written_faults h of inside)) (at.type_phrase of)
-  built_follows of inside b = written_follows h.seen h.refinements of (not_false (is_type_built of) b) inside
+  type_follows : (of : TypePhrase) (inside : Bool) → Follows (told_at (faults.written_faults h of inside)) (at.type_phrase of)
+  type_follows of inside = written_follows h.seen h.refinements of inside
 
-  definition_follows : (a : ℕ) (n : Name) (of : TypePhrase) → not (is_type_built of) ≡ false
-      → Follows (told_at (faults.definition_faults h a n of)) (a ∷ at.type_phrase of)
-  definition_follows a n of b =
+  definition_follows : (a : ℕ) (n : Name) (of : TypePhrase) → Follows (told_at (faults.definition_faults h a n of)) (a ∷ at.type_phrase of)
+  definition_follows a n of =
       let o = first_from 0 h.definitions n.text in
-      or_follows a (faults.written_faults h of true) (faults.named_faults h a of o) (at.type_phrase of) (built_follows of true b) (named_follows a of o)
+      or_follows a (faults.written_faults h of true) (faults.named_faults h a of o) (at.type_phrase of) (type_follows of true) (named_follows a of o)
 
-  node_follows : (n : Node) → built.node n ≡ false → Follows (told_at (faults.node_faults h n)) (at.node_types n)
-  node_follows (of_type of) b = built_follows of false b
-  node_follows (content of) b = built_follows of true b
-  node_follows (item held of n) b = let q = neither (not (is_type_built of)) (is_not_built n.text) b in built_follows of (faults.is_inside held) q.0
-  node_follows (abbreviation n of) b = definition_follows n.at n of b
-  node_follows (new_type a n of) b = definition_follows a n of b
-  node_follows (alone n) b = ends []
-  node_follows (other n) b = ends []
-  node_follows (sign o) b = ends []
-  node_follows (let_name n c) b = ends []
+  node_follows : (n : Node) → Follows (told_at (faults.node_faults h n)) (at.node_types n)
+  node_follows (of_type of) = type_follows of false
+  node_follows (content of) = type_follows of true
+  node_follows (item held of n) = type_follows of (faults.is_inside held)
+  node_follows (abbreviation n of) = definition_follows n.at n of
+  node_follows (new_type a n of) = definition_follows a n of
+  node_follows (alone n) = ends []
+  node_follows (other n) = ends []
+  node_follows (sign o) = ends []
+  node_follows (let_name n c) = ends []
 
-  nodes_follow : (ns : List Node) → list_any built.node ns ≡ false → Follows (told_at (faults.nodes_faults h ns)) (types_in ns)
-  nodes_follow [] b = ends []
-  nodes_follow (n ∷ ns) b =
-      let q = neither (built.node n) (list_any built.node ns) b in
-      two_lists (faults.node_faults h n) (faults.nodes_faults h ns) (node_follows n q.0) (nodes_follow ns q.1)
+  nodes_follow : (ns : List Node) → Follows (told_at (faults.nodes_faults h ns)) (types_in ns)
+  nodes_follow [] = ends []
+  nodes_follow (n ∷ ns) = two_lists (faults.node_faults h n) (faults.nodes_faults h ns) (node_follows n) (nodes_follow ns)
 
 -- ---- PROCs and OPs
 
@@ -271,69 +237,51 @@ module _ (first : ℕ) (around : List TypeName) (ds : List Definition) (rs : Lis
       ap (λ (l : List ℕ). types_in (nodes.result r) ++ l)
       (types_append (given ++ units) rest ∙ ap (λ (l : List ℕ). l ++ types_in rest) (types_append given units))
 
-  routine_follows : list_any built.node (nodes.result r) ≡ false → list_any built.node (nodes.body fs b) ≡ false
-      → Follows (told_at (faults.routine_faults first around ds rs r fs b)) (types_in (nodes.result r) ++ types_in (nodes.body fs b))
-  routine_follows g h =
-      let p = any_split (given ++ units) rest h in
-      let q = any_split given units p.0 in
+  routine_follows : Follows (told_at (faults.routine_faults first around ds rs r fs b)) (types_in (nodes.result r) ++ types_in (nodes.body fs b))
+  routine_follows =
       let heading = here first around ds rs in
       let inside = here 0 (names_of first around ds ++ around) (body_definitions fs b) [] in
       subst (Follows (told_at (faults.routine_faults first around ds rs r fs b)))
       (grouped (types_in (nodes.result r)) (types_in given) (types_in units) (types_in rest) ∙ sym body_types_are)
       (two_lists (faults.nodes_faults heading (nodes.result r ++ given)) (faults.nodes_faults inside (units ++ rest))
       (subst (Follows (told_at (faults.nodes_faults heading (nodes.result r ++ given)))) (types_append (nodes.result r) given)
-      (nodes_follow heading (nodes.result r ++ given) (any_join (nodes.result r) given g q.0)))
-      (subst (Follows (told_at (faults.nodes_faults inside (units ++ rest)))) (types_append units rest)
-      (nodes_follow inside (units ++ rest) (any_join units rest q.1 p.1))))
-    where
-      any_join : (xs ys : List Node) → list_any built.node xs ≡ false → list_any built.node ys ≡ false → list_any built.node (xs ++ ys) ≡ false
-      any_join [] ys g h = h
-      any_join (x ∷ xs) ys g h =
-          let n = neither (built.node x) (list_any built.node xs) g in
-          subst (λ (c : Bool). (c || list_any built.node (xs ++ ys)) ≡ false) (sym n.0) (any_join xs ys n.1 h)
+      (nodes_follow heading (nodes.result r ++ given)))
+      (subst (Follows (told_at (faults.nodes_faults inside (units ++ rest)))) (types_append units rest) (nodes_follow inside (units ++ rest))))
 
 -- ---- the level
 
 module _ (first : ℕ) (around : List TypeName) (ds : List Definition) (rs : List Refinement) where
-  unit_follows : (u : LevelUnit) → list_any built.node (nodes.level_unit u) ≡ false
-      → Follows (told_at (faults.unit_faults first around ds rs u)) (types_in (nodes.level_unit u))
-  unit_follows (level.Plain u) h = nodes_follow (here first around ds rs) (nodes.in_unit u) h
-  unit_follows (level.NewType a n of) h = nodes_follow (here first around ds rs) (new_type a n of ∷ []) h
-  unit_follows (level.Proc a r n fs b) h =
-      let q = any_split (nodes.result r) (other n ∷ nodes.body fs b) h in
+  unit_follows : (u : LevelUnit) → Follows (told_at (faults.unit_faults first around ds rs u)) (types_in (nodes.level_unit u))
+  unit_follows (level.Plain u) = nodes_follow (here first around ds rs) (nodes.in_unit u)
+  unit_follows (level.NewType a n of) = nodes_follow (here first around ds rs) (new_type a n of ∷ [])
+  unit_follows (level.Proc a r n fs b) =
       subst (Follows (told_at (faults.routine_faults first around ds rs r fs b))) (sym (types_append (nodes.result r) (other n ∷ nodes.body fs b)))
-      (routine_follows first around ds rs r fs b q.0 (any_rest (other n) (nodes.body fs b) q.1))
-  unit_follows (level.Op a r n fs b) h =
-      let q = any_split (nodes.result r) (sign n.operator ∷ nodes.body fs b) h in
+      (routine_follows first around ds rs r fs b)
+  unit_follows (level.Op a r n fs b) =
       subst (Follows (told_at (faults.routine_faults first around ds rs r fs b))) (sym (types_append (nodes.result r) (sign n.operator ∷ nodes.body fs b)))
-      (routine_follows first around ds rs r fs b q.0 (any_rest (sign n.operator) (nodes.body fs b) q.1))
+      (routine_follows first around ds rs r fs b)
 
-  units_follow : (us : List LevelUnit) → list_any built.node (flat_map nodes.level_unit us) ≡ false
-      → Follows (told_at (flat_map (faults.unit_faults first around ds rs) us)) (types_in (flat_map nodes.level_unit us))
-  units_follow [] h = ends []
-  units_follow (u ∷ us) h =
-      let q = any_split (nodes.level_unit u) (flat_map nodes.level_unit us) h in
+  units_follow : (us : List LevelUnit) → Follows (told_at (flat_map (faults.unit_faults first around ds rs) us)) (types_in (flat_map nodes.level_unit us))
+  units_follow [] = ends []
+  units_follow (u ∷ us) =
       subst (Follows (told_at (faults.unit_faults first around ds rs u ++ flat_map (faults.unit_faults first around ds rs) us)))
       (sym (types_append (nodes.level_unit u) (flat_map nodes.level_unit us)))
-      (two_lists (faults.unit_faults first around ds rs u) (flat_map (faults.unit_faults first around ds rs) us) (unit_follows u q.0) (units_follow us q.1))
+      (two_lists (faults.unit_faults first around ds rs u) (flat_map (faults.unit_faults first around ds rs) us) (unit_follows u) (units_follow us))
 
-level_follows : (first : ℕ) (around : List TypeName) (w : Level) → list_any built.node (nodes.in_level w) ≡ false
-    → Follows (told_at (faults.level_faults first around w)) (types_in (nodes.in_level w))
-level_follows first around w h =
+level_follows : (first : ℕ) (around : List TypeName) (w : Level) → Follows (told_at (faults.level_faults first around w)) (types_in (nodes.in_level w))
+level_follows first around w =
     let ds = level_definitions w in
     let rs = w.refinements in
     let units = flat_map nodes.level_unit w.units in
     let rest = nodes.refinements rs in
-    let q = any_split units rest h in
     subst (Follows (told_at (faults.level_faults first around w))) (sym (types_append units rest))
     (two_lists (flat_map (faults.unit_faults first around ds rs) w.units) (faults.nodes_faults (here first around ds rs) rest)
-    (units_follow first around ds rs w.units q.0) (nodes_follow (here first around ds rs) rest q.1))
+    (units_follow first around ds rs w.units) (nodes_follow (here first around ds rs) rest))
 
 -- Where a packet names what it shows, no type is written.
-pub faults_follow : (env : Env) (t : Tree) → built.not_built t ≡ false → Follows (told_at (text_faults env t)) (type_places t)
-faults_follow env (tree.Program w) h = level_follows env.types (shown_types env) w h
-faults_follow env (tree.Packet a n exports w) h =
+pub faults_follow : (env : Env) (t : Tree) → Follows (told_at (text_faults env t)) (type_places t)
+faults_follow env (tree.Program w) = level_follows env.types (shown_types env) w
+faults_follow env (tree.Packet a n exports w) =
     let shown = flat_map nodes.export exports in
-    let q = any_split shown (nodes.in_level w) h in
     subst (Follows (told_at (text_faults env (tree.Packet a n exports w)))) (sym (types_append shown (nodes.in_level w)))
-    (behind (types_in shown) (level_follows env.types (shown_types env) w q.1))
+    (behind (types_in shown) (level_follows env.types (shown_types env) w))

@@ -32,7 +32,7 @@ use Rattle.elan_names.specs.declared.heading.Heading.{Heading}
 use Rattle.elan_levels.specs.Declarations.{entry, in_unit, in_units}
 use Rattle.elan_names.specs.declared.type_name.TypeName.{TypeName}
 use Rattle.type_names.specs.Types.{type_in, level_types, body_types}
-use Rattle.elan_unbuilt.specs.Operators.{operator_text}
+use Rattle.elan_walk.specs.Operators.{operator_text}
 
 -- ---- parameters
 

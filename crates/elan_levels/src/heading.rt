@@ -10,7 +10,7 @@ use elan_names::headings::Headings;
 use elan_names::type_directory::TypeDirectory;
 use elan_tree::{Formal, Level, LevelUnit, Refinement, TypePhrase};
 use elan_types::ElanType;
-use elan_unbuilt::operator_text;
+use elan_walk::operator_text;
 use eu_base::{Bytes, List, NoMemory};
 use std::alloc::Global;
 use type_names::written::type_in;

@@ -63,6 +63,7 @@ predefined =
     ∷ (Procedure, codes "end", Request request.EndOf)
     ∷ (Procedure, codes "end", Request request.End)
     ∷ (Procedure, codes "break", Request request.Break)
+    ∷ (Procedure, codes "send", Request request.Send) ∷ (Procedure, codes "wait", Request request.Wait) ∷ (Procedure, codes "call", Request request.Call)
     ∷ (Procedure, codes "type", OnSpaces space.KindOf) ∷ (Procedure, codes "type", OnSpaces space.SetKind)
     ∷ (Procedure, codes "forget", OnSpaces space.Forget) ∷ (Procedure, codes "forget", OnSpaces space.ForgetNamed)
     ∷ (Procedure, codes "new", OnSpaces space.New) ∷ (Procedure, codes "old", OnSpaces space.Old) ∷ (Procedure, codes "exists", OnSpaces space.IsNamed)

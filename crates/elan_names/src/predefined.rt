@@ -36,7 +36,7 @@ pub struct Operand {
 /// Whether it is an operator or a procedure, its name, and what it is.
 pub type Row = (Sort, &'static [u8], Predefined);
 
-const PREDEFINED: [Row; 76] = [
+const PREDEFINED: [Row; 79] = [
     (Sort::Operator, b"+", Predefined::Operation(Operation::Plus)),
     (Sort::Operator, b"+", Predefined::Operation(Operation::Add)),
     (
@@ -346,6 +346,21 @@ const PREDEFINED: [Row; 76] = [
     ),
     (
         Sort::Procedure,
+        b"send",
+        Predefined::Request(RequestName::Send),
+    ),
+    (
+        Sort::Procedure,
+        b"wait",
+        Predefined::Request(RequestName::Wait),
+    ),
+    (
+        Sort::Procedure,
+        b"call",
+        Predefined::Request(RequestName::Call),
+    ),
+    (
+        Sort::Procedure,
         b"type",
         Predefined::OnSpaces(SpaceOperation::KindOf),
     ),
@@ -439,6 +454,11 @@ const TASK_VAR: Operand = Operand {
     access: Access::Var,
 };
 
+const SPACE_VAR: Operand = Operand {
+    kind: Kind::Space,
+    access: Access::Var,
+};
+
 // The operands of an operation are values.
 fn operands(operation: Operation) -> &'static [Operand]
     ensures { map seen.operand result.now ≡ values_of (operand_kinds operation) }
@@ -486,7 +506,7 @@ fn text_operands(operation: TextOperation) -> &'static [Operand]
     }
 }
 
-// A request is given values, or the variable for what it reads.
+// A request is given values, and the variables for what it reads.
 fn request_operands(name: RequestName) -> &'static [Operand]
     ensures { map seen.operand result.now ≡ request_parameters name }
 {
@@ -498,6 +518,8 @@ fn request_operands(name: RequestName) -> &'static [Operand]
         | RequestName::Father
         | RequestName::End
         | RequestName::Break => &[],
+        RequestName::Send | RequestName::Call => &[TASK, INT, SPACE_VAR, INT_VAR],
+        RequestName::Wait => &[SPACE_VAR, INT_VAR, TASK_VAR],
         RequestName::Named => &[TEXT],
         RequestName::Begin(_) => &[TEXT, TASK_VAR],
         RequestName::FatherOf

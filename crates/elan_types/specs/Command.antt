@@ -3,7 +3,7 @@ use Rattle.std.specs.Prelude.{ℕ, Bool, ◌&&◌, List, [], ◌∷◌, ◌++◌
 use Rattle.eu_base.specs.declared.stop.Stop.{Stop}
 use Rattle.eu_base.specs.declared.stop.Stop.TheVariants.{CellRoom}
 use Rattle.eu_base.specs.declared.request.Request.{Request}
-use Rattle.eu_base.specs.declared.request.Reply.{Reply}
+use Rattle.eu_base.specs.Requests.{Answer}
 use Rattle.eu_base.specs.declared.value.Kind.{Kind}
 use Rattle.eu_base.specs.declared.value.Kind.TheVariants as kinds
 use Rattle.eu_base.specs.Values.{blank_of}
@@ -15,7 +15,7 @@ use Rattle.elan_types.specs.Typing.{all_packet_kinds}
 use Rattle.elan_types.specs.Eval as outcomes
 use Rattle.elan_types.specs.Eval.{Slot, Holds, World, Outcome, bind, branch, Reach, level, all, act, content, called, own_variables}
 
--- how a command stands with the marks and replies that it has, and the world there
+-- how a command stands with the marks and answers that it has, and the world there
 pub data Ending : Type 0 where
   Ended : World → Ending
   Stopped : Stop → World → Ending
@@ -47,7 +47,7 @@ abbrev pub start_kinds : Core → List Kind
 start_kinds core = first_kinds core.start core
 
 -- a command starts with the variables of the packets of its task and with its data spaces. Its own variables are made, those of a packet that is inserted behind them
-abbrev pub at_start : Core → List Slot → Spaces → ℕ → List Reply → World
+abbrev pub at_start : Core → List Slot → Spaces → ℕ → List Answer → World
 at_start core packets spaces marks replies = record {
   store = blanks (start_kinds core);
   packets = packets ++ blanks core.inserted;
@@ -79,6 +79,6 @@ run_from (Some p) core marks w = run_started core marks (slice_get core.bodies p
 abbrev pub evaluate_from : Core → World → Ending
 evaluate_from core w = ending (branch (start_fits core) (run_from core.start core w.marks) (outcomes.Stopped CellRoom) w)
 
--- a command with these variables of packets and these data spaces, with so many marks and with these replies
-abbrev pub evaluate : Core → List Slot → Spaces → ℕ → List Reply → Ending
+-- a command with these variables of packets and these data spaces, with so many marks and with these answers
+abbrev pub evaluate : Core → List Slot → Spaces → ℕ → List Answer → Ending
 evaluate core packets spaces marks replies = evaluate_from core (at_start core packets spaces marks replies)

@@ -29,7 +29,8 @@ use Rattle.eu_base.specs.Cells.{same_area}
 use Rattle.eu_base.specs.Shapes.{cell_kinds}
 use Rattle.eu_base.specs.Room.{values_bytes, value_blocks, values_blocks, place_bytes, cells_fit, bytes_fit, texts_fit}
 use Rattle.eu_base.specs.Operations.{Given, result_of, change_kind, changed, is_past, has_reached, next_number, in_row}
-use Rattle.eu_base.specs.Requests.{request_kinds, request_of, read_as, answer_of}
+use Rattle.eu_base.specs.Requests.{request_kinds, is_message, sends, request_of, read_as, answer_of}
+use Rattle.eu_base.specs.Requests.{Answer, reply_changes, then_asked, message_values}
 use Rattle.elan_types.specs.declared.core_phrase.Exit.{Exit}
 use Rattle.elan_types.specs.declared.core_phrase.Exit.TheVariants as exits
 use Rattle.elan_types.specs.declared.core_phrase.Scope.{Scope}
@@ -58,13 +59,13 @@ pub data Slot : Type 0 where
   Taken : Slot
 
 -- the variables of the command and of its live calls, those of the packets, the data spaces of the task, the marks that are left, and the
--- replies that are left
+-- answers that are left
 pub record World : Type 0 where
   pub store : List Slot
   pub packets : List Slot
   pub spaces : Spaces
   pub marks : ℕ
-  pub replies : List Reply
+  pub replies : List Answer
 
 -- how a phrase ends, and the world then
 pub data Outcome (A : Type 0) : Type 0 where
@@ -94,6 +95,14 @@ spend_at (suc m) w go = go (record w { marks = m })
 abbrev pub spend : {A : Type 0} → (World → Outcome A) → World → Outcome A
 spend go w = spend_at w.marks w go
 
+-- the data spaces change so
+abbrev pub changed_by : List SpaceChange → World → World
+changed_by changes w = record w { spaces = spaces_after changes w.spaces }
+
+-- after an answer to a request, with so many left
+abbrev pub after_answer : Request → Answer → List Answer → World → World
+after_answer q a left w = record (changed_by (reply_changes q a (heads_of w.spaces)) w) { replies = left }
+
 -- goes on with a reply, or stops where it says so
 abbrev pub heed : {A : Type 0} → Reply → (Reply → World → Outcome A) → World → Outcome A
 heed (replies.Stopped s) go w = Stopped s w
@@ -101,12 +110,21 @@ heed replies.Done go w = go replies.Done w
 heed (replies.Text t) go w = go (replies.Text t) w
 heed (replies.Task n) go w = go (replies.Task n) w
 heed (replies.Truth b) go w = go (replies.Truth b) w
+heed replies.Taken go w = go replies.Taken w
+heed (replies.Receipt z) go w = go (replies.Receipt z) w
+heed (replies.Message code from space) go w = go (replies.Message code from space) w
 
-abbrev pub ask_at : {A : Type 0} → List Reply → Request → World → (Reply → World → Outcome A) → Outcome A
+-- goes on with a reply, or with the request that follows it
+abbrev pub followed : {A : Type 0} → Option Request → Reply → (Request → World → Outcome A) → (Reply → World → Outcome A) → World → Outcome A
+followed (Some q) r again go w = again q w
+followed None r again go w = heed r go w
+
+-- a request takes the next answer. It changes the data spaces, and its reply is heeded; a call whose message was taken asks for the answer then
+abbrev pub ask_at : {A : Type 0} → List Answer → Request → World → (Reply → World → Outcome A) → Outcome A
 ask_at [] q w go = Asks q w
-ask_at (r ∷ rs) q w go = heed r go (record w { replies = rs })
+ask_at (a ∷ as') q w go = followed (then_asked q a.reply) a.reply (λ q w. ask_at as' q w go) go (after_answer q a as' w)
 
--- spends a mark and makes a request, which takes the next reply
+-- spends a mark and makes a request
 abbrev pub ask : {A : Type 0} → Request → (Reply → World → Outcome A) → World → Outcome A
 ask q go w = spend (λ w'. ask_at w'.replies q w' go) w
 
@@ -339,15 +357,49 @@ turn while' units until step = then_on (while_true while') (then_on (done units)
 abbrev pub go_on : Run Bool
 go_on n w = Gives true w
 
+-- the data space that a variable held is forgotten
+abbrev pub without_held : Option SpaceNo → World → World
+without_held held w = changed_by (forgetting held (heads_of w.spaces)) w
+
 -- stores the value that a reply brings in the variable of a request, where it has one. No well typed request is given another value there
 abbrev pub keep : List Passed → Value → World → Outcome (Unit {0})
 keep (AsPlace x ∷ as') v w = save x (v ∷ []) (Gives tt) w
 keep _ v w = Gives tt w
 
--- makes a request with what it is given, its variable behind its values
+-- stores what a message brings in a variable of a request; where it held a data space, that is forgotten then. No well typed request has another
+-- number of variables
+abbrev pub receive_at : {A : Type 0} → Option Passed → Value → (World → Outcome A) → World → Outcome A
+receive_at (Some (AsPlace x)) v go w = load (kind_of v) x (λ held w. go (without_held (space_of held) (assign x (v ∷ []) w))) w
+receive_at _ v go w = go w
+
+-- and all that it brings, one after another
+abbrev pub receive : List Passed → List (ℕ × Value) → World → Outcome (Unit {0})
+receive as' [] w = Gives tt w
+receive as' (e ∷ es) w = receive_at (slice_get as' e.0) e.1 (receive as' es) w
+
+-- the number that the last data space got
+abbrev pub last_made : World → SpaceNo
+last_made w = record { 0 = w.spaces.last }
+
+-- its variables get what a reply brings
+abbrev pub settle : RequestName → List Passed → Reply → World → Outcome (Unit {0})
+settle name as' r w =
+    branch (is_message name) (receive as' (message_values name r (last_made w))) (or_stop (read_as name r) (keep as')) w
+
+-- a request that sends a data space is made with the one in its first variable, which is looked at once the mark is spent. No well typed request
+-- has none
+abbrev pub with_sent : {A : Type 0} → List Value → List Passed → (List Value → World → Outcome A) → World → Outcome A
+with_sent vs (AsPlace x ∷ as') go w = load kinds.Space x (λ v. go (v ∷ vs)) w
+with_sent vs _ go w = Stopped NoSpace w
+
+abbrev pub ask_for : {A : Type 0} → RequestName → List Value → List Passed → (Reply → World → Outcome A) → World → Outcome A
+ask_for name vs as' go w =
+    branch (sends name) (spend (with_sent vs as' (λ vs w. ask_at w.replies (request_of name vs) w go))) (ask (request_of name vs) go) w
+
+-- makes a request with what it is given, its variables behind its values
 abbrev pub request : RequestName → List Passed → World → Outcome (Unit {0})
 request name as' =
-    ask (request_of name (map value_given as')) (λ r. or_stop (read_as name r) (keep (drop (length (request_kinds name)) as')))
+    ask_for name (map value_given as') (drop (length (request_kinds name)) as') (settle name (drop (length (request_kinds name)) as'))
 
 -- makes a request that delivers a value
 abbrev pub request_value : RequestName → List Passed → Run (List Value)
@@ -391,10 +443,6 @@ stored p a n w = bind (p n w) (λ x w. bind (a (holding_place n) w) (λ vs. save
 
 -- ---- data spaces
 
--- the data spaces change so
-abbrev pub changed_by : List SpaceChange → World → World
-changed_by changes w = record w { spaces = spaces_after changes w.spaces }
-
 -- goes on with what is planned, after its changes, or stops
 abbrev pub or_refused : {A B : Type 0} → Plan A → (A → World → Outcome B) → World → Outcome B
 or_refused (Ok plan) go w = go plan.0 (changed_by plan.1 w)
@@ -415,10 +463,6 @@ consult (Err s) n w = Stopped s w
 abbrev pub content_of : Option SpaceNo → Place
 content_of (Some s) = record { area = areas.Space s; variable = 0 }
 content_of None = record { area = areas.Space (record { 0 = 0 }); variable = 0 }
-
--- the data space that a variable held is forgotten
-abbrev pub without_held : Option SpaceNo → World → World
-without_held held w = changed_by (forgetting held (heads_of w.spaces)) w
 
 -- a DATASPACE variable gets a copy, and then what it held is forgotten
 abbrev pub copy_into : Place → Value → World → Outcome (Unit {0})

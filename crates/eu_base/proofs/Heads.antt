@@ -9,7 +9,7 @@ use Rattle.eu_base.specs.declared.stop.Stop.{Stop}
 use Rattle.eu_base.specs.declared.space_operation.SpaceOperation.{SpaceOperation}
 use Rattle.eu_base.specs.Values.{SpaceNo}
 use Rattle.eu_base.specs.DataSpaces.{Space, Head, Spaces, Heads, head_of, heads_in, heads_of, no_space, no_head, is_live, the_space, the_head, space_from, head_from}
-use Rattle.eu_base.specs.DataSpaces.{with_new, with_other, without_space, shaped, SpaceChange, Makes, Forgets, SetsKind, Fills, Names, Unnames}
+use Rattle.eu_base.specs.DataSpaces.{with_new, with_other, without_space, shaped, SpaceChange, Makes, Gets, Forgets, SetsKind, Fills, Names, Unnames}
 use Rattle.eu_base.specs.DataSpaces.{spaces_by, heads_by, spaces_after, heads_after}
 use Rattle.eu_base.specs.SpaceOperations.{Plan, carried_out, heads_carried, heads_left, planned, copy_plan, bind_plan, performed, copied, bound, heads_performed, heads_copied, heads_bound}
 
@@ -97,6 +97,8 @@ by_same (Makes from) spaces =
     let new = space_from from spaces in
     ap (λ (live : List (ℕ × Head)). record (with_live spaces live) { last = spaces.last + 1 }) (append_heads head_of spaces.live ((spaces.last + 1, new) ∷ []))
     ∙ ap (λ (h : Head). with_new h (heads_of spaces)) (from_same from spaces)
+by_same (Gets content) spaces =
+    ap (λ (live : List (ℕ × Head)). record (with_live spaces live) { last = spaces.last + 1 }) (append_heads head_of spaces.live ((spaces.last + 1, content) ∷ []))
 by_same (Forgets s) spaces =
     ap (λ (live : List (ℕ × Head)). record (with_live spaces live) { names = (without_space s spaces).names }) (remove_head head_of (nat_eq s.0) spaces.live)
 by_same (SetsKind s z) spaces =

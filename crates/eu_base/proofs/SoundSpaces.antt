@@ -15,7 +15,7 @@ use Rattle.eu_base.specs.declared.value.Value.TheVariants as values
 use Rattle.eu_base.specs.declared.shape.Shape.{Shape}
 use Rattle.eu_base.specs.Shapes.{cell_kinds}
 use Rattle.eu_base.specs.Values.{SpaceNo, IsOf, blank_of}
-use Rattle.eu_base.specs.DataSpaces.{Space, Spaces, no_space, last_number, the_space, space_from, shaped, SpaceChange, Makes, Forgets, SetsKind, Fills, Names, Unnames, spaces_by}
+use Rattle.eu_base.specs.DataSpaces.{Space, Spaces, no_space, last_number, the_space, space_from, shaped, SpaceChange, Makes, Gets, Forgets, SetsKind, Fills, Names, Unnames, spaces_by}
 use Rattle.eu_base.specs.DataSpaces.{Head, Heads, heads_of, most_live, is_live, the_head, under, spaces_after}
 use Rattle.eu_base.specs.declared.stop.Stop.{Stop}
 use Rattle.eu_base.specs.declared.stop.Stop.TheVariants.{NoSpace, WrongShape, ManySpaces, SpaceNumbers, NoName}
@@ -26,7 +26,8 @@ use Rattle.eu_base.specs.Values.{IsSpaceNumber}
 use Rattle.eu_base.specs.Operations.{number_at, text_at, space_at}
 use Rattle.eu_base.specs.SpaceOperations.{space_result_kind, Plan, carried_out, unless, for_one, name_refusal, room_refusal, life_refusal, forgetting}
 use Rattle.eu_base.specs.SpaceOperations.{kind_plan, planned, copy_refusal, copy_plan, fitting_plan, bind_plan, performed, copied, bound}
-use Rattle.eu_base.specs.SoundSpaces.{AreOf, none, one, IsSpace, AreSpaces, GivesOf}
+use Rattle.eu_base.specs.SoundSpaces.{AreOf, none, one, IsSpace, AreSpaces, CanCome, AllCanCome, GivesOf}
+use Rattle.eu_base.specs.Requests.{Answer}
 use Rattle.eu_base.proofs.Heads.{head_same}
 
 -- ---- a list of what is so
@@ -77,6 +78,13 @@ module _ (test : ℕ → Bool) where
 pub no_space_sound : IsSpace no_space
 no_space_sound = record { kind = grind (arith, ints); values = none }
 
+-- and it can come, as it does with a reply that is no message
+pub no_space_comes : CanCome no_space
+no_space_comes = record { space = no_space_sound; fits = omega arith }
+
+pub come_push : (answers : List Answer) (a : Answer) → AllCanCome answers → CanCome a.content → AllCanCome (answers ++ a ∷ [])
+come_push answers a all can = all_push (λ (x : Answer). CanCome x.content) answers a all can
+
 pub space_sound : (s : SpaceNo) (spaces : Spaces) → AreSpaces spaces → IsSpace (the_space s spaces)
 space_sound s spaces sound = all_at (nat_eq s.0) spaces.live sound.each no_space_sound
 
@@ -101,6 +109,7 @@ shaped_sound shape space sound = record { kind = sound.kind; values = blanks_are
 -- a change that can be made: there is a number for a space more, the type has 16 bits, and the number under a name has 32
 abbrev pub CanBe : SpaceChange → Spaces → Type 0
 CanBe (Makes from) spaces = spaces.last < last_number
+CanBe (Gets content) spaces = (spaces.last < last_number) × IsSpace content
 CanBe (Forgets s) spaces = Unit {0}
 CanBe (SetsKind s z) spaces = FitsSigned w16 z
 CanBe (Fills s shape) spaces = Unit {0}
@@ -111,6 +120,11 @@ pub change_sound : (change : SpaceChange) (spaces : Spaces) → CanBe change spa
 change_sound (Makes from) spaces can sound = record {
   each = all_push (λ (e : ℕ × Space). IsSpace e.1) spaces.live (spaces.last + 1, space_from from spaces) sound.each (from_sound from spaces sound);
   given = omega (arith, can);
+  named = sound.named;
+}
+change_sound (Gets content) spaces can sound = record {
+  each = all_push (λ (e : ℕ × Space). IsSpace e.1) spaces.live (spaces.last + 1, content) sound.each can.1;
+  given = omega (arith, can.0);
   named = sound.named;
 }
 change_sound (Forgets s) spaces can sound = record {

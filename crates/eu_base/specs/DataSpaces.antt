@@ -122,10 +122,11 @@ shaped shape space = record { kind = space.kind; shape = Some shape; values = ma
 
 -- ---- changes
 
--- a space more, an empty one or a copy of the one under a number; a space less; another type number; a shape, for a space that has none; a name
--- more, and a name less
+-- a space more, an empty one or a copy of the one under a number; one more that another task had; a space less; another type number; a shape, for
+-- a space that has none; a name more, and a name less
 pub data SpaceChange : Type 0 where
   Makes : Option SpaceNo → SpaceChange
+  Gets : Space → SpaceChange
   Forgets : SpaceNo → SpaceChange
   SetsKind : SpaceNo → ℤ → SpaceChange
   Fills : SpaceNo → Shape → SpaceChange
@@ -135,6 +136,7 @@ pub data SpaceChange : Type 0 where
 -- the spaces after a change
 abbrev pub spaces_by : SpaceChange → Spaces → Spaces
 spaces_by (Makes from) spaces = with_new (space_from from spaces) spaces
+spaces_by (Gets content) spaces = with_new content spaces
 spaces_by (Forgets s) spaces = without_space s spaces
 spaces_by (SetsKind s z) spaces = with_other s (record (the_space s spaces) { kind = z }) spaces
 spaces_by (Fills s shape) spaces = with_other s (shaped shape (the_space s spaces)) spaces
@@ -144,6 +146,7 @@ spaces_by (Unnames name) spaces = without_name name spaces
 -- and what is said of them without their values
 abbrev pub heads_by : SpaceChange → Heads → Heads
 heads_by (Makes from) heads = with_new (head_from from heads) heads
+heads_by (Gets content) heads = with_new (head_of content) heads
 heads_by (Forgets s) heads = without_space s heads
 heads_by (SetsKind s z) heads = with_other s (record (the_head s heads) { kind = z }) heads
 heads_by (Fills s shape) heads = with_other s (record (the_head s heads) { shape = Some shape }) heads

@@ -1,5 +1,5 @@
 -- Data spaces whose values are of the kinds of their cells, under numbers and with type numbers that fit.
-use Rattle.std.specs.Prelude.{◌≤◌, List, [], ◌∷◌, Option, Some, None}
+use Rattle.std.specs.Prelude.{◌≤◌, List, [], ◌∷◌, length, Option, Some, None}
 use Rattle.std.specs.List.{AllByRecursion}
 use Rattle.std.specs.Int.{w16}
 use Rattle.std.specs.Int.RustNames.{FitsSigned}
@@ -7,7 +7,9 @@ use Rattle.eu_base.specs.declared.value.Kind.{Kind}
 use Rattle.eu_base.specs.declared.value.Value.{Value}
 use Rattle.eu_base.specs.declared.shape.Shape.{Shape}
 use Rattle.eu_base.specs.Shapes.{cell_kinds}
+use Rattle.eu_base.specs.declared.address.TheConstants.{CELLS}
 use Rattle.eu_base.specs.Values.{IsOf}
+use Rattle.eu_base.specs.Requests.{Answer}
 use Rattle.eu_base.specs.DataSpaces.{Space, Spaces, last_number}
 
 abbrev pub shape_kinds : Option Shape → List Kind
@@ -29,6 +31,15 @@ pub record AreSpaces (spaces : Spaces) : Type 0 where
   pub each : AllByRecursion (λ e. IsSpace e.1) spaces.live
   pub given : spaces.last ≤ last_number
   pub named : AllByRecursion (λ e. e.1.0 ≤ last_number) spaces.names
+
+-- a data space can come from another task: it is one, and has no more cells than there can be
+pub record CanCome (content : Space) : Type 0 where
+  pub space : IsSpace content
+  pub fits : length (shape_kinds content.shape) ≤ CELLS
+
+-- so it is with what comes with answers
+abbrev pub AllCanCome : List Answer → Type 0
+AllCanCome answers = AllByRecursion (λ (a : Answer). CanCome a.content) answers
 
 -- whether a value is given, and of its kind
 abbrev pub GivesOf : Option Kind → Option Value → Type 0

@@ -3,10 +3,11 @@ use Rattle.std.specs.Prelude.{ℕ, cond, List, slice_get, Option, Some, None}
 use Rattle.eu_base.specs.declared.address.Area.{Area}
 use Rattle.eu_base.specs.declared.address.Area.TheVariants as areas
 use Rattle.eu_base.specs.declared.value.Kind.{Kind}
+use Rattle.eu_base.specs.declared.value.Value.{Value}
 use Rattle.eu_base.specs.Shapes.{cell_kinds}
 use Rattle.eu_base.specs.Values.{SpaceNo, blank_of}
 use Rattle.eu_base.specs.Cells.{Cell, Free, Cells, held_of, space_cell, same_area}
-use Rattle.eu_base.specs.DataSpaces.{Heads, IsLive, next_number, SpaceChange, Makes, Forgets, SetsKind, Fills, Names, Unnames}
+use Rattle.eu_base.specs.DataSpaces.{Space, Heads, IsLive, next_number, SpaceChange, Makes, Gets, Forgets, SetsKind, Fills, Names, Unnames}
 
 -- an area is there: those of the command and of the packets always are, and that of a data space that lives
 abbrev pub IsThere : Heads → Area → Type 0
@@ -23,6 +24,14 @@ abbrev pub cells_from : Option SpaceNo → Cells → ℕ → Cell
 cells_from None cells = λ k. Free
 cells_from (Some s) cells = λ k. cells (space_cell s k)
 
+-- the values of a space that another task had stand in its cells, and nothing is known of those behind
+abbrev pub value_cell : Option Value → Cell
+value_cell None = Free
+value_cell (Some v) = held_of v
+
+abbrev pub content_cells : Space → ℕ → Cell
+content_cells content = λ k. value_cell (slice_get content.values k)
+
 -- what a cell of a space that got these kinds holds: a value of its kind before anything was stored, and past them what it held
 abbrev pub blank_or : Option Kind → Cell → Cell
 blank_or None held = held
@@ -34,6 +43,7 @@ blank_cells s kinds cells = λ k. blank_or (slice_get kinds k) (cells (space_cel
 -- what is known after a change
 abbrev pub cells_by : SpaceChange → Heads → Cells → Cells
 cells_by (Makes from) heads cells = with_area (areas.Space (next_number heads)) (cells_from from cells) cells
+cells_by (Gets content) heads cells = with_area (areas.Space (next_number heads)) (content_cells content) cells
 cells_by (Forgets s) heads cells = with_area (areas.Space s) (λ k. Free) cells
 cells_by (SetsKind s z) heads cells = cells
 cells_by (Fills s shape) heads cells = with_area (areas.Space s) (blank_cells s (cell_kinds shape) cells) cells

@@ -9,6 +9,7 @@ use Rattle.task_numbers.specs.Numbers.{is_nil, is_task}
 use Rattle.elan_names.specs.declared.interface.Interface.{Interface}
 use Rattle.elan_scope.specs.declared.env.Env.{Env}
 use Rattle.task_tree.specs.Tree as tree
+use Rattle.message_wait.specs.Rendezvous.{Waits}
 use Rattle.task_walks.specs.Ends.{CanEnd, EndInTurn}
 use Rattle.terminals.specs.Channels.{Channel, channel, channel_of, uncoupled, unqueued}
 use Rattle.output_pieces.specs.Display.{Display}
@@ -17,7 +18,7 @@ use Rattle.source_machine.specs.Below.packet_store.specs.declared.unit.Compiled.
 use Rattle.source_machine.specs.Below.packet_store.specs.Library.{Library, env_of}
 use Rattle.source_machine.specs.Tasks.{Own}
 use Rattle.source_machine.specs.Systems.{System, Moment, own, changed, back, sharing, on_channels, on_system, write, say, uncouple, uncouple_at, supervisor_prompt}
-use Rattle.source_machine.specs.Ends.{removed, ended}
+use Rattle.source_machine.specs.Ends.{removed, freed_by, ended}
 use Rattle.source_machine.specs.Monitor.{installed, with_packet, inserted}
 use Rattle.source_machine.specs.Whole.{AreGiven, IsSystem}
 use Rattle.isolation.specs.Own.{Whole, whole, own_of}
@@ -25,7 +26,8 @@ use Rattle.isolation.proofs.Envs.{env_with}
 use Rattle.isolation.proofs.Found.{itself}
 use Rattle.isolation.proofs.Finding.{has}
 use Rattle.isolation.proofs.Steps.{quiet_changed, quiet_back, quiet_inserted, quiet_channels, free_stays, own_changed, library_changed, tree_changed, channels_changed, removed_others, removed_itself, removed_channels, removed_sound}
-use Rattle.isolation.proofs.Others.{back_same, back_channels, unqueued_stays, ended_tree}
+use Rattle.isolation.proofs.Rights.{Absent}
+use Rattle.isolation.proofs.Others.{back_same, back_channels, unqueued_stays, freed_sound, freed_own, freed_channels, freed_absent, removed_waits, left_absent, left_itself, ended_tree}
 use Rattle.isolation.proofs.Screens.{Screen, Untouched, untouched_same, untouched_then, screen_on, says, says_beside, writes}
 use Rattle.isolation.proofs.Couplings.{IsAt, is_at_channel, unqueued_at, unqueued_queue, uncoupled_at, uncoupled_beside, uncoupled_free, uncoupled_none, others_at, free_at}
 
@@ -214,15 +216,30 @@ module _ (u : TaskNo) (u_some : is_nil u ≡ false) (c : Option ℕ) (a : ℕ) w
             says_beside k a j k_some j_some apart supervisor_prompt m.display from.1,
           )
 
+  -- the task did not wait for it
+  gone_absent : (s : System) (w : TaskNo) → CanEnd w s.shared.tree → Absent u s.shared.waits → Absent u (removed w s).shared.waits
+  gone_absent s w can off =
+      subst (λ (v : Waits). Absent u v) (sym (removed_waits w s can.live)) (left_absent u w s.shared.waits off)
+
   gone_elsewhere : (m : Moment) (w : TaskNo) → IsFromAt c a u m → IsSystem m.system → CanEnd w m.system.shared.tree → is_task u w ≡ false
-      → Elsewhere u c a m (on_system (removed w) m)
-  gone_elsewhere m w from is can other =
-      elsewhere_system u c a m (removed w m.system) from (removed_sound w m.system is can) (removed_others w m.system is can.live u other)
-      (removed_channels w m.system can.live)
+      → Absent u m.system.shared.waits → Elsewhere u c a m (on_system (freed_by w) (on_system (removed w) m))
+  gone_elsewhere m w from is can other off =
+      let sound = removed_sound w m.system is can in
+      elsewhere_system u c a m (freed_by w (removed w m.system)) from (freed_sound w (removed w m.system) sound)
+      (freed_own u w (removed w m.system) sound (gone_absent m.system w can off) ∙ removed_others w m.system is can.live u other)
+      (freed_channels w (removed w m.system) ∙ removed_channels w m.system can.live)
+
+  ended_absent : (m : Moment) (w : TaskNo) → CanEnd w m.system.shared.tree → Absent u m.system.shared.waits → Absent u (ended m w).system.shared.waits
+  ended_absent m w can off = by (channel_of w m.system.shared.channels)
+    where
+      by : (o : Option ℕ) → Absent u (freed_by w (removed w (uncouple_at o m).system)).shared.waits
+      by None = freed_absent u w (removed w m.system) (gone_absent m.system w can off)
+      by (Some j) =
+          freed_absent u w (removed w (on_channels (uncoupled j) m.system)) (gone_absent (on_channels (uncoupled j) m.system) w can off)
 
   pub ended_elsewhere : (m : Moment) (w : TaskNo) → IsFromAt c a u m → IsSystem m.system → CanEnd w m.system.shared.tree → is_task w u ≡ false
-      → Elsewhere u c a m (ended m w)
-  ended_elsewhere m w from is can other = by (channel_of w m.system.shared.channels) refl
+      → Absent u m.system.shared.waits → Elsewhere u c a m (ended m w)
+  ended_elsewhere m w from is can other off = by (channel_of w m.system.shared.channels) refl
     where
       back : is_task u w ≡ false
       back = ne_eqb u.0 w.0 (λ e. false≢true (sym other ∙ eq-eqb w.0 u.0 (sym e)))
@@ -230,27 +247,28 @@ module _ (u : TaskNo) (u_some : is_nil u ≡ false) (c : Option ℕ) (a : ℕ) w
       some : is_nil w ≡ false
       some = let later = can.later in ne_eqb w.0 0 (λ e. omega (arith, e, later))
 
-      by : (o : Option ℕ) → channel_of w m.system.shared.channels ≡ o → Elsewhere u c a m (on_system (removed w) (uncouple_at o m))
-      by None at = gone_elsewhere m w from is can back
+      by : (o : Option ℕ) → channel_of w m.system.shared.channels ≡ o → Elsewhere u c a m (on_system (freed_by w) (on_system (removed w) (uncouple_at o m)))
+      by None at = gone_elsewhere m w from is can back off
       by (Some j) at =
           let first = uncoupled_elsewhere m w j from is at other back some in
-          elsewhere_then u c a m (uncouple j m) (on_system (removed w) (uncouple j m)) first
-          (gone_elsewhere (uncouple j m) w (from_on u c a m (uncouple j m) from first) first.sound can back)
+          elsewhere_then u c a m (uncouple j m) (on_system (freed_by w) (on_system (removed w) (uncouple j m))) first
+          (gone_elsewhere (uncouple j m) w (from_on u c a m (uncouple j m) from first) first.sound can back off)
 
   -- some tasks end, and then others can
   pub record Ended (left : List TaskNo) (m later : Moment) : Type 0 where
     pub elsewhere : Elsewhere u c a m later
     pub turn : EndInTurn left later.system.shared.tree
+    pub absent : Absent u later.system.shared.waits
 
   pub all_elsewhere : (ts left : List TaskNo) (m : Moment) → IsFromAt c a u m → IsSystem m.system → EndInTurn (ts ++ left) m.system.shared.tree
-      → ((w : TaskNo) → has w ts ≡ true → is_task w u ≡ false) → Ended left m (fold ended m ts)
-  all_elsewhere [] left m from is turn others = record { elsewhere = elsewhere_same u c a m from is; turn = turn }
-  all_elsewhere (w ∷ ts) left m from is turn others =
-      let first = ended_elsewhere m w from is turn.0 (others w (or_left (is_task w w) (has w ts) (itself w))) in
+      → ((w : TaskNo) → has w ts ≡ true → is_task w u ≡ false) → Absent u m.system.shared.waits → Ended left m (fold ended m ts)
+  all_elsewhere [] left m from is turn others off = record { elsewhere = elsewhere_same u c a m from is; turn = turn; absent = off }
+  all_elsewhere (w ∷ ts) left m from is turn others off =
+      let first = ended_elsewhere m w from is turn.0 (others w (or_left (is_task w w) (has w ts) (itself w))) off in
       let rest = all_elsewhere ts left (ended m w) (from_on u c a m (ended m w) from first) first.sound
-      (subst (EndInTurn (ts ++ left)) (sym (ended_tree w m turn.0.live)) turn.1)
-      (λ v one. others v (or_right (is_task w v) (has v ts) one)) in
-      record { elsewhere = elsewhere_then u c a m (ended m w) (fold ended m (w ∷ ts)) first rest.elsewhere; turn = rest.turn }
+      (subst (EndInTurn (ts ++ left)) (sym (ended_tree w m is turn.0)) turn.1)
+      (λ v one. others v (or_right (is_task w v) (has v ts) one)) (ended_absent m w turn.0 off) in
+      record { elsewhere = elsewhere_then u c a m (ended m w) (fold ended m (w ∷ ts)) first rest.elsewhere; turn = rest.turn; absent = rest.absent }
 
 -- ---- steps of the task itself
 
@@ -415,16 +433,25 @@ module _ (u : TaskNo) (c : Option ℕ) (a b : ℕ) where
       by None e = h
       by (Some j) e = both_uncouple j m n e h
 
-  -- it is gone
+  -- it is gone, and those that waited for it are told so
+  gone_own : (s : System) → IsSystem s → CanEnd u s.shared.tree → own_of u (freed_by u (removed u s)) ≡ None
+  gone_own s is can =
+      freed_own u u (removed u s) (removed_sound u s is can)
+      (subst (λ (v : Waits). Absent u v) (sym (removed_waits u s can.live)) (left_itself u s.shared.waits))
+      ∙ removed_itself u s can.live
+
+  gone_channels : (s : System) → CanEnd u s.shared.tree → (freed_by u (removed u s)).shared.channels ≡ s.shared.channels
+  gone_channels s can = freed_channels u (removed u s) ∙ removed_channels u s can.live
+
   both_go : (m n : Moment) → CanEnd u m.system.shared.tree → CanEnd u n.system.shared.tree → Alike u c a b m n
-      → Alike u c a b (on_system (removed u) m) (on_system (removed u) n)
+      → Alike u c a b (on_system (freed_by u) (on_system (removed u) m)) (on_system (freed_by u) (on_system (removed u) n))
   both_go m n can may h = record {
-    first = removed_sound u m.system h.first can;
-    second = removed_sound u n.system h.second may;
-    own = removed_itself u m.system can.live ∙ sym (removed_itself u n.system may.live);
+    first = freed_sound u (removed u m.system) (removed_sound u m.system h.first can);
+    second = freed_sound u (removed u n.system) (removed_sound u n.system h.second may);
+    own = gone_own m.system h.first can ∙ sym (gone_own n.system h.second may);
     at =
-        subst (λ (cs : List Channel). AtChannel c u cs (removed u n.system).shared.channels) (sym (removed_channels u m.system can.live))
-        (subst (λ (ds : List Channel). AtChannel c u m.system.shared.channels ds) (sym (removed_channels u n.system may.live)) h.at);
+        subst (λ (cs : List Channel). AtChannel c u cs (freed_by u (removed u n.system)).shared.channels) (sym (gone_channels m.system can))
+        (subst (λ (ds : List Channel). AtChannel c u m.system.shared.channels ds) (sym (gone_channels n.system may)) h.at);
     screen = h.screen;
   }
 

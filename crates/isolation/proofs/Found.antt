@@ -245,3 +245,12 @@ found_before t x other [] (y ∷ os) o long = absurd (omega (arith, long))
 found_before t x other (y ∷ xs) [] o long = absurd (omega (arith, long))
 found_before t x other (y ∷ xs) (p ∷ os) o long =
     ap (λ (r : Option Own). cond (has_number t y) (Some p) r) (found_before t x other xs os o (omega (arith, long)))
+
+pub found_last : (t : TaskNo) (x : Task) → has_number t x ≡ true → (xs : List Task) (os : List Own) (o : Own) → list_any (has_number t) xs ≡ false
+    → length os ≡ length xs → found t (xs ++ x ∷ []) (os ++ o ∷ []) ≡ Some o
+found_last t x is [] [] o dead long = ap (λ c. cond c (Some o) None) is
+found_last t x is [] (y ∷ os) o dead long = absurd (omega (arith, long))
+found_last t x is (y ∷ xs) [] o dead long = absurd (omega (arith, long))
+found_last t x is (y ∷ xs) (p ∷ os) o dead long =
+    let both = or_parts (has_number t y) (list_any (has_number t) xs) dead in
+    ap (λ c. cond c (Some p) (found t (xs ++ x ∷ []) (os ++ o ∷ []))) both.0 ∙ found_last t x is xs os o both.1 (omega (arith, long))

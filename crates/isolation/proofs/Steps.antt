@@ -1,5 +1,5 @@
 -- What the steps of a turn leave of what tasks have.
-use Rattle.std.proofs.Common.{◌≡◌, ℕ, zero, suc, ◌+◌, ◌-◌, ◌≤◌, ◌<◌, Bool, true, false, cond, not, ◌||◌, ◌&&◌, List, [], ◌∷◌, length, get_or, filter, All, Option, Some, None, refl, sym, ap, ◌∙◌, subst, arith}
+use Rattle.std.proofs.Common.{◌≡◌, ℕ, zero, suc, ◌+◌, ◌-◌, ◌≤◌, ◌<◌, Bool, true, false, cond, not, ◌||◌, List, [], ◌∷◌, length, get_or, fold, All, Option, Some, None, refl, sym, ap, ◌∙◌, subst, arith}
 use Rattle.std.specs.Prelude.{option_map, AllPairs}
 use Rattle.std.specs.List.{list_any, AllByRecursion}
 use Rattle.std.proofs.lemmas.Bool.{false≢true, and_parts, or_parts, or_left, not_from_false, eq-eqb, ne_eqb}
@@ -23,17 +23,20 @@ use Rattle.task_walks.specs.Ends.{CanEnd}
 use Rattle.task_walks.proofs.Ending.{ended_stays}
 use Rattle.slicer.specs.Rotation.{IsRotation}
 use Rattle.slicer.specs.Rotation as rotation
+use Rattle.message_wait.specs.Rendezvous.{Waits}
+use Rattle.message_wait.specs.Rendezvous as rendezvous
 use Rattle.terminals.specs.Channels.{Channel}
 use Rattle.terminals.specs.Channels as channels
 use Rattle.terminals.specs.Couplings.{IsOneToOne}
 use Rattle.terminals.proofs.Coupling.{coupled_one_to_one}
 use Rattle.source_machine.specs.Below.packet_store.specs.declared.unit.Compiled.{Compiled}
 use Rattle.source_machine.specs.Below.packet_store.specs.Library.{Library, env_of}
-use Rattle.source_machine.specs.Tasks.{Doing, Own, with_doing}
-use Rattle.source_machine.specs.Systems.{System, own, packets, packets_of, changed, does, sharing, on_ready, on_channels, back, can_be_ready}
+use Rattle.eu_base.specs.Requests.{Answer}
+use Rattle.source_machine.specs.Tasks.{Doing, Own, with_doing, replied}
+use Rattle.source_machine.specs.Systems.{System, own, packets, packets_of, changed, does, given, woken, sharing, on_ready, on_waits, on_channels, back, can_be_ready}
 use Rattle.source_machine.specs.Ends.{begun, removed, removed_at, has_packet, without_packets}
 use Rattle.source_machine.specs.Monitor.{installed, with_packet, inserted}
-use Rattle.source_machine.specs.Whole.{AreGiven, AreAllGiven, AreNumbered, IsSystem}
+use Rattle.source_machine.specs.Whole.{AreGiven, AreAllGiven, IsSystem}
 use Rattle.isolation.specs.Own.{Whole, whole, own_of}
 use Rattle.isolation.proofs.Found.{place_in, place_is, own_found, none_found, some_found, found_has, changed_owns, changed_is, other_found, itself_found, length_changed, without_own, rest, behind_stay, pairs_behind, found_left, found_before, another}
 use Rattle.isolation.proofs.Envs.{env_before, installed_numbered, env_without, without_numbered, without_last}
@@ -140,7 +143,7 @@ fewer_left t (x ∷ xs) live = by (has_number t x) live (fewer_left t xs)
     by false there later = let less = later there in omega (arith, less)
 
 -- another task lives on where one is gone
-lives_on : (t u : TaskNo) (xs : List Task) → is_task u t ≡ false → list_any (has_number u) xs ≡ true → list_any (has_number u) (rest t xs) ≡ true
+pub lives_on : (t u : TaskNo) (xs : List Task) → is_task u t ≡ false → list_any (has_number u) xs ≡ true → list_any (has_number u) (rest t xs) ≡ true
 lives_on t u xs other live =
     any-filter_same (has_number u) (λ (v : Task). not (has_number t v)) true (λ v same. not_from_false (has_number t v) (another t u v (turned u t other) same)) xs ∙ live
   where
@@ -153,11 +156,11 @@ all_live_on t [] xs apart live = tt
 all_live_on t (u ∷ us) xs apart live = (lives_on t u xs apart.0 live.0, all_live_on t us xs apart.1 live.1)
 
 -- no task stands twice
-abbrev Once : List TaskNo → Type 0
+abbrev pub Once : List TaskNo → Type 0
 Once [] = Unit {0}
 Once (t ∷ ts) = AllByRecursion (λ (u : TaskNo). is_task u t ≡ false) ts × Once ts
 
-once : (ready : List TaskNo) → AllPairs (λ t u. is_task t u ≡ false) ready → Once ready
+pub once : (ready : List TaskNo) → AllPairs (λ t u. is_task t u ≡ false) ready → Once ready
 once [] apart = tt
 once (t ∷ ts) apart = (
   recursion_from_All (λ (u : TaskNo). is_task u t ≡ false) ts
@@ -317,6 +320,49 @@ quiet_inserted u unit i s is =
     later : System
     later = sharing (λ h. record h { library = installed unit i h.library }) s
 
+-- ---- messages
+
+pub waits_sound : (f : Waits → Waits) (s : System) → IsSystem s → IsSystem (on_waits f s)
+waits_sound f s is = record {
+  tree = is.tree;
+  as_many = is.as_many;
+  ready = is.ready;
+  live = is.live;
+  channels = is.channels;
+  given = is.given;
+  numbered = is.numbered;
+}
+
+-- it gets an answer, and is ready
+pub quiet_given : (v : TaskNo) (a : Answer) (s : System) → IsSystem s → Quiet v s (given v a s)
+quiet_given v a s is = quiet_changed v (λ (o : Own). with_doing (replied a o.doing) o) s (λ o given. given) is
+
+pub quiet_woken : (v : TaskNo) (a : Answer) (s : System) → IsSystem s → Quiet v s (woken v a s)
+quiet_woken v a s is =
+    let first = quiet_given v a s is in
+    quiet_then v s (given v a s) (woken v a s) first (quiet_back v v (given v a s) first.sound)
+
+-- and so with others
+abbrev pub all_woken : Answer → List TaskNo → System → System
+all_woken a us s = fold (λ (s : System) (u : TaskNo). woken u a s) s us
+
+pub all_woken_sound : (a : Answer) (us : List TaskNo) (s : System) → IsSystem s → IsSystem (all_woken a us s)
+all_woken_sound a [] s is = is
+all_woken_sound a (v ∷ us) s is = all_woken_sound a us (woken v a s) (quiet_woken v a s is).sound
+
+pub all_woken_tree : (a : Answer) (us : List TaskNo) (s : System) → IsSystem s → (all_woken a us s).shared.tree ≡ s.shared.tree
+all_woken_tree a [] s is = refl
+all_woken_tree a (v ∷ us) s is = let quiet = quiet_woken v a s is in all_woken_tree a us (woken v a s) quiet.sound ∙ quiet.tree
+
+pub all_woken_others : (a : Answer) (us : List TaskNo) (s : System) → IsSystem s → (t : TaskNo) → list_any (λ v. is_task v t) us ≡ false
+    → own_of t (all_woken a us s) ≡ own_of t s
+all_woken_others a [] s is t other = refl
+all_woken_others a (v ∷ us) s is t other =
+    let both = or_parts (is_task v t) (list_any (λ v. is_task v t) us) other in
+    let quiet = quiet_woken v a s is in
+    all_woken_others a us (woken v a s) quiet.sound t both.1
+    ∙ quiet.others t (ne_eqb t.0 v.0 (λ same. false≢true (sym both.0 ∙ eq-eqb v.0 t.0 (sym same))))
+
 -- ---- a channel is free
 
 pub free_stays : (c : ℕ) (s : List Channel) → IsOneToOne s → IsOneToOne (channels.uncoupled c s)
@@ -382,11 +428,12 @@ fewer w (x ∷ xs) (o ∷ os) pairs long = by (has_number w x) refl (fewer w xs 
     by false is e = later (place_in w xs) e
 
 -- where it lives, as a walk finds it
-abbrev left : TaskNo → System → System
+abbrev pub left : TaskNo → System → System
 left w s = record {
   shared = record s.shared {
     tree = tree.ended w s.shared.tree;
     ready = rotation.without w s.shared.ready;
+    waits = rendezvous.left w s.shared.waits;
     library = without_packets (packets w s) (without_own (place_in w s.shared.tree.tasks) s.owns) s.shared.library;
   };
   owns = without_own (place_in w s.shared.tree.tasks) s.owns;
@@ -405,7 +452,7 @@ placed w (x ∷ xs) live none = at (has_number w x) live none (placed w xs)
     at true live none later = none-some 0 (sym none)
     at false live none later = later live (no (place_in w xs) none)
 
-removed_is : (w : TaskNo) (s : System) → tree.lives w s.shared.tree ≡ true → removed w s ≡ left w s
+pub removed_is : (w : TaskNo) (s : System) → tree.lives w s.shared.tree ≡ true → removed w s ≡ left w s
 removed_is w s live = ap (λ (p : Option ℕ). removed_at p w s) (place_is w s.shared.tree.tasks) ∙ by (place_in w s.shared.tree.tasks) (placed w s.shared.tree.tasks live)
   where
     by : (p : Option ℕ) → (p ≡ None → ⊥)
@@ -413,6 +460,7 @@ removed_is w s live = ap (λ (p : Option ℕ). removed_at p w s) (place_is w s.s
           shared = record s.shared {
             tree = tree.ended w s.shared.tree;
             ready = rotation.without w s.shared.ready;
+            waits = rendezvous.left w s.shared.waits;
             library = without_packets (packets w s) (without_own p s.owns) s.shared.library;
           };
           owns = without_own p s.owns;
@@ -435,7 +483,7 @@ removed_others w s is live t other =
         own_found t (left w s)
         ∙ (found_left t w other s.shared.tree.tasks s.owns is.tree.apart ∙ sym (own_found t s))
 
-dead : (w : TaskNo) (xs : List Task) → list_any (has_number w) (rest w xs) ≡ false
+pub dead : (w : TaskNo) (xs : List Task) → list_any (has_number w) (rest w xs) ≡ false
 dead w [] = refl
 dead w (x ∷ xs) = by (has_number w x) refl (dead w xs)
   where
@@ -477,6 +525,20 @@ waits_without w s is = record {
     other : (b : Bool) → not b ≡ true → b ≡ false
     other true e = absurd (false≢true e)
     other false e = refl
+
+-- one is not ready any more
+pub ready_without : (w : TaskNo) (s : System) → IsSystem s → CanWait s.shared.tree (rotation.without w s.shared.ready)
+ready_without w s is = record {
+  rotation = record {
+    few =
+        let most = count_by-le-length (λ (u : TaskNo). not (is_task u w)) s.shared.ready in
+        let kept = length-filter (λ (u : TaskNo). not (is_task u w)) s.shared.ready in
+        let few = is.ready.few in
+        omega (arith, most, kept, few);
+    apart = AllPairs-filter (λ v u. is_task v u ≡ false) (λ (u : TaskNo). not (is_task u w)) s.shared.ready is.ready.apart;
+  };
+  live = All-filter (λ (u : TaskNo). not (is_task u w)) (λ (u : TaskNo). tree.lives u s.shared.tree ≡ true) s.shared.ready is.live;
+}
 
 pub removed_sound : (w : TaskNo) (s : System) → IsSystem s → CanEnd w s.shared.tree → IsSystem (removed w s)
 removed_sound w s is can = subst IsSystem (sym (removed_is w s can.live)) (record {

@@ -1,6 +1,7 @@
 -- Two turns of a task, side by side: what the steps of a turn keep the turn keeps.
 use Rattle.std.proofs.Common.{◌≡◌, ℕ, zero, suc, ◌+◌, Bool, true, false, List, [], ◌∷◌, ◌++◌, Option, Some, None, if◌then◌else◌, refl, sym, ap, ◌∙◌, subst, arith}
 use Rattle.std.specs.Prelude.{option_map, option_and_then, length, nat_le, codes}
+use Rattle.std.specs.List.{AllByRecursion}
 use Rattle.std.proofs.lemmas.Bool.{false≢true}
 use Rattle.std.proofs.lemmas.Option.{none-some}
 use Rattle.task_numbers.specs.declared.number.TaskNo.{TaskNo}
@@ -8,7 +9,6 @@ use Rattle.eu_base.specs.declared.stop.Stop.{Stop}
 use Rattle.eu_base.specs.declared.stop.Stop.TheVariants.{ManyPackets, NoName}
 use Rattle.eu_base.specs.Stops.{stop_text}
 use Rattle.eu_base.specs.declared.request.Request.{Request}
-use Rattle.eu_base.specs.declared.request.Reply.{Reply}
 use Rattle.elan_names.specs.declared.interface.Interface.{Interface}
 use Rattle.elan_scope.specs.declared.env.Env.{Env}
 use Rattle.elan_types.specs.Eval.{World}
@@ -25,37 +25,49 @@ use Rattle.source_machine.specs.Below.packet_store.specs.Library.{Library, env_o
 use Rattle.source_texts.specs.Spaces.{Space}
 use Rattle.source_texts.specs.Sources.{source_space, source_text, most_lines}
 use Rattle.source_machine.specs.Stores.{Store, space_under, with_named, entering_refusal, tidied}
-use Rattle.source_machine.specs.Tasks.{Command, Doing, Idle, Entering, Running, Own, starting, store_in, settled, own_variables, ending, spent, replied, with_doing, is_running, command_of}
-use Rattle.source_machine.specs.Systems.{System, Moment, own, doing, runs, command, kept, kept_by, packets, packets_of, does, changed, given, on_channels, on_system, back, say, say_at, tell, prompt}
+use Rattle.source_machine.specs.Tasks.{Command, Doing, Idle, Entering, Running, Own, starting, store_in, settled, own_variables, ending, spent, with_doing, is_running, command_of}
+use Rattle.source_machine.specs.Systems.{System, Moment, own, doing, runs, command, kept, kept_by, packets, packets_of, does, given, on_channels, on_system, back, say, say_at, tell, prompt}
 use Rattle.source_machine.specs.Serving.{Served, Replies, Rests, serve}
 use Rattle.source_machine.specs.Monitor as monitor
 use Rattle.source_machine.specs.Monitor.{Reading, Compiles, Refuses, prompted, answered, started, run_read, enter_unless, names_told, directory_of, entered_line, settle, tidy, inserted, is_full, installed, words_of}
 use Rattle.source_machine.specs.Turns.{served, went, went_on, slice}
 use Rattle.isolation.specs.Own.{Whole, whole, own_of}
-use Rattle.isolation.specs.Told.{Told, Inserted, told_over, told_served, told_by, told_on, told}
-use Rattle.isolation.proofs.Steps.{own_in, library_changed, changed_lives}
+use Rattle.isolation.specs.Told.{Told, Inserted, told_over, told_served, told_by, told_on, told, asked_served, asked_by, asked_on, asked}
+use Rattle.isolation.proofs.Steps.{own_in, library_changed}
 
--- where both requests are answered alike
-abbrev pub BothServed : (Moment → Moment → Type 0) → Served → Served → Type 0
-BothServed R (Replies r m) (Replies s n) = r ≡ s → R m n
-BothServed R (Rests m) (Rests n) = R m n
-BothServed R _ _ = Unit {0}
+-- Where both requests are answered alike, the task goes on with the answer; and where both rest the turn is over.
+abbrev pub BothServed : TaskNo → (S E : Moment → Moment → Type 0) → Served → Served → Type 0
+BothServed u S E (Replies r m) (Replies s n) = r ≡ s → S (on_system (given u r) m) (on_system (given u s) n)
+BothServed u S E (Rests m) (Rests n) = E m n
+BothServed u S E _ _ = Unit {0}
 
--- The steps of the turns of a task keep what is so of two moments.
-pub record Keeps (u : TaskNo) (R : Moment → Moment → Type 0) : Type 0 where
+-- The steps of the turns of a task keep what is so of two moments: S between evaluations, R where the task does what it may besides, and E behind
+-- the turn. P holds of each request that it makes.
+pub record Keeps (u : TaskNo) (R S E : Moment → Moment → Type 0) (P : Request → Type 0) (May : Doing → Type 0) : Type 0 where
   pub own : (m n : Moment) → R m n → own_of u m.system ≡ own_of u n.system
   pub channel : (m n : Moment) → R m n → channels.channel_of u m.system.shared.channels ≡ channels.channel_of u n.system.shared.channels
   pub queue : (c : ℕ) (m n : Moment) → R m n → channels.channel_of u m.system.shared.channels ≡ Some c
       → (channels.channel c m.system.shared.channels).queue ≡ (channels.channel c n.system.shared.channels).queue
   pub backs : (m n : Moment) → R m n → R (on_system (back u) m) (on_system (back u) n)
-  pub changes : (f : Own → Own) → ((o : Own) → (f o).packets ≡ o.packets) → (m n : Moment) → R m n
-      → R (on_system (changed u f) m) (on_system (changed u f) n)
+  pub changes : (d : Doing) → May d → (m n : Moment) → R m n → R (on_system (does u d) m) (on_system (does u d) n)
   pub says : (c : ℕ) (bytes : List ℕ) (m n : Moment) → channels.channel_of u m.system.shared.channels ≡ Some c → R m n → R (say c bytes m) (say c bytes n)
   pub takes : (c : ℕ) (m n : Moment) → channels.channel_of u m.system.shared.channels ≡ Some c → R m n
       → R (on_system (on_channels (channels.unqueued c)) m) (on_system (on_channels (channels.unqueued c)) n)
   pub inserts : (unit : Compiled) (i : Interface) (m n : Moment) → m.system.shared.library.last ≡ n.system.shared.library.last → R m n
       → R (on_system (inserted u unit i) m) (on_system (inserted u unit i) n)
-  pub serves : (q : Request) (m n : Moment) → (own_of u m.system ≡ None → ⊥) → R m n → BothServed R (serve u q m) (serve u q n)
+  -- what it may do besides
+  pub idle : (store : Store) → May (Idle store)
+  pub enters : (name : List ℕ) (lines : List (List ℕ)) (store : Store) → May (Entering name lines store)
+  pub starts : (unit : Compiled) (store : Store) → May (Running (starting unit store))
+  -- an evaluation
+  pub here : (m n : Moment) → S m n → own_of u m.system ≡ own_of u n.system
+  pub marks : (c : Command) (left : ℕ) (w : World) (m n : Moment) → S m n → command u m.system ≡ Some c → ending c left ≡ OutOfMarks w
+      → May (Running (spent left w c))
+  pub leaves : (d : Doing) → May d → (m n : Moment) → S m n → R (on_system (does u d) m) (on_system (does u d) n)
+  pub serves : (c : Command) (left : ℕ) (q : Request) (w : World) (m n : Moment) → P q → command u m.system ≡ Some c → ending c left ≡ Asks q w → S m n
+      → BothServed u S E (serve u q (on_system (does u (Running (spent left w c))) m)) (serve u q (on_system (does u (Running (spent left w c))) n))
+  pub stops : (m n : Moment) → S m n → E m n
+  pub ends : (m n : Moment) → R m n → E m n
 
 -- what the packets of a task mean
 abbrev env_in : Option Whole → Env
@@ -65,11 +77,11 @@ env_in (Some w) = w.env
 abbrev env_at : TaskNo → System → Env
 env_at u s = env_of s.shared.library (packets u s)
 
-abbrev running_in : Option Doing → Bool
+abbrev pub running_in : Option Doing → Bool
 running_in None = false
 running_in (Some d) = is_running d
 
-runs_is : (u : TaskNo) (s : System) → runs u s ≡ running_in (doing u s)
+pub runs_is : (u : TaskNo) (s : System) → runs u s ≡ running_in (doing u s)
 runs_is u s = by (doing u s) refl
   where
     by : (p : Option Doing) → doing u s ≡ p → runs u s ≡ running_in p
@@ -77,7 +89,7 @@ runs_is u s = by (doing u s) refl
     by (Some d) e = rw e
 
 -- what is told where a command is over
-abbrev over_told : Option Interface → Option Stop → Library → List Told
+abbrev pub over_told : Option Interface → Option Stop → Library → List Told
 over_told None stop library = []
 over_told (Some i) None library = told_over (Some i) library
 over_told (Some i) (Some stop) library = []
@@ -91,7 +103,7 @@ stopped_told None stop library = refl
 stopped_told (Some i) stop library = refl
 
 -- one that runs a command lives
-runs_lives : (u : TaskNo) (s : System) (c : Command) → command u s ≡ Some c → own_of u s ≡ None → ⊥
+pub runs_lives : (u : TaskNo) (s : System) (c : Command) → command u s ≡ Some c → own_of u s ≡ None → ⊥
 runs_lives u s c e none = by _ s.shared.library (own u s) e none
   where
     by : (name : List ℕ) (lib : Library) (p : Option Own) → option_and_then command_of (option_map (λ (o : Own). o.doing) p) ≡ Some c
@@ -99,7 +111,7 @@ runs_lives u s c e none = by _ s.shared.library (own u s) e none
     by name lib None e none = none-some c e
     by name lib (Some o) e none = none-some (whole name lib o) (sym none)
 
-module _ (u : TaskNo) (R : Moment → Moment → Type 0) (keeps : Keeps u R) where
+module _ (u : TaskNo) (R S E : Moment → Moment → Type 0) (P : Request → Type 0) (May : Doing → Type 0) (keeps : Keeps u R S E P May) where
   -- ---- what is looked up is the same
 
   same_own : (m n : Moment) → R m n → own u m.system ≡ own u n.system
@@ -111,8 +123,9 @@ module _ (u : TaskNo) (R : Moment → Moment → Type 0) (keeps : Keeps u R) whe
   same_kept : (m n : Moment) → R m n → kept u m.system ≡ kept u n.system
   same_kept m n h = ap kept_by (same_doing m n h)
 
-  same_command : (m n : Moment) → R m n → command u m.system ≡ command u n.system
-  same_command m n h = ap (option_and_then command_of) (same_doing m n h)
+  same_command : (m n : Moment) → S m n → command u m.system ≡ command u n.system
+  same_command m n h =
+      ap (option_and_then command_of) (ap (option_map (λ (o : Own). o.doing)) (own_in u n.system m.system (keeps.here m n h)))
 
   same_env : (m n : Moment) → R m n → env_at u m.system ≡ env_at u n.system
   same_env m n h = is m.system ∙ (ap env_in (keeps.own m n h) ∙ sym (is n.system))
@@ -127,7 +140,7 @@ module _ (u : TaskNo) (R : Moment → Moment → Type 0) (keeps : Keeps u R) whe
   -- ---- steps
 
   -- a step that does the same with both
-  abbrev Steps : (Moment → Moment) → Type 0
+  abbrev pub Steps : (Moment → Moment) → Type 0
   Steps f = (m n : Moment) → R m n → R (f m) (f n)
 
   tells : (bytes : List ℕ) → Steps (tell u bytes)
@@ -144,8 +157,8 @@ module _ (u : TaskNo) (R : Moment → Moment → Type 0) (keeps : Keeps u R) whe
   answers : (bytes : List ℕ) → Steps (answered u bytes)
   answers bytes m n h = prompts (tell u bytes m) (tell u bytes n) (tells bytes m n h)
 
-  does_so : (d : Doing) → Steps (on_system (does u d))
-  does_so d m n h = keeps.changes (with_doing d) (λ o. refl) m n h
+  does_so : (d : Doing) → May d → Steps (on_system (does u d))
+  does_so d may m n h = keeps.changes d may m n h
 
   comes_back : Steps (on_system (back u))
   comes_back m n h = keeps.backs m n h
@@ -155,7 +168,7 @@ module _ (u : TaskNo) (R : Moment → Moment → Type 0) (keeps : Keeps u R) whe
       comes_back (on_system (does u (Running (starting unit (kept u m.system)))) m) (on_system (does u (Running (starting unit (kept u n.system)))) n)
       (subst
       (λ (k : Store). R (on_system (does u (Running (starting unit (kept u m.system)))) m) (on_system (does u (Running (starting unit k))) n))
-      (same_kept m n h) (does_so (Running (starting unit (kept u m.system))) m n h))
+      (same_kept m n h) (does_so (Running (starting unit (kept u m.system))) (keeps.starts unit (kept u m.system)) m n h))
 
   -- ---- a line
 
@@ -167,7 +180,7 @@ module _ (u : TaskNo) (R : Moment → Moment → Type 0) (keeps : Keeps u R) whe
   enters name (Some stop) m n h = answers (stop_text stop) m n h
   enters name None m n h =
       subst (λ (k : Store). R (on_system (does u (Entering name [] (kept u m.system))) m) (on_system (does u (Entering name [] k)) n))
-      (same_kept m n h) (does_so (Entering name [] (kept u m.system)) m n h)
+      (same_kept m n h) (does_so (Entering name [] (kept u m.system)) (keeps.enters name [] (kept u m.system)) m n h)
 
   tells_names : (names : List (List ℕ)) → Steps (names_told u names)
   tells_names [] m n h = h
@@ -176,13 +189,13 @@ module _ (u : TaskNo) (R : Moment → Moment → Type 0) (keeps : Keeps u R) whe
   enters_line : (last : Bool) (name : List ℕ) (lines : List (List ℕ)) (store : Store) (line : List ℕ) → Steps (entered_line last u name lines store line)
   enters_line true name lines store line m n h =
       prompts (on_system (does u (Idle (with_named name (source_space lines) store))) m) (on_system (does u (Idle (with_named name (source_space lines) store))) n)
-      (does_so (Idle (with_named name (source_space lines) store)) m n h)
+      (does_so (Idle (with_named name (source_space lines) store)) (keeps.idle (with_named name (source_space lines) store)) m n h)
   enters_line false name lines store line m n h = by (nat_le most_lines (length lines))
     where
       by : (b : Bool) → R (if b then tell u (codes "Zeile verworfen") m else on_system (does u (Entering name (lines ++ line ∷ []) store)) m)
           (if b then tell u (codes "Zeile verworfen") n else on_system (does u (Entering name (lines ++ line ∷ []) store)) n)
       by true = tells (codes "Zeile verworfen") m n h
-      by false = does_so (Entering name (lines ++ line ∷ []) store) m n h
+      by false = does_so (Entering name (lines ++ line ∷ []) store) (keeps.enters name (lines ++ line ∷ []) store) m n h
 
   module _ (read : Env → Bool → List ℕ → Reading) where
     runs_text : (packet : Bool) (text : List ℕ) → Steps (monitor.run_text read u packet text)
@@ -220,7 +233,7 @@ module _ (u : TaskNo) (R : Moment → Moment → Type 0) (keeps : Keeps u R) whe
     takes_words line None m n h = takes_form line forms.Program m n h
     takes_words line (Some ws) m n h = takes_form line (form_of ws) m n h
 
-    takes_line : (line : List ℕ) → Steps (monitor.taken read u line)
+    pub takes_line : (line : List ℕ) → Steps (monitor.taken read u line)
     takes_line line m n h =
         subst (λ (d : Option Doing). R (monitor.taken read u line m) (monitor.taken_by read d u line n)) (same_doing m n h) (by (doing u m.system))
       where
@@ -287,13 +300,13 @@ module _ (u : TaskNo) (R : Moment → Moment → Type 0) (keeps : Keeps u R) whe
     settles : (k : ℕ) → Steps (on_system (settle u k))
     settles k m n h =
         subst (λ (store : Store). R (on_system (settle u k) m) (on_system (does u (Idle (settled k store))) n))
-        (same_kept m n h) (does_so (Idle (settled k (kept u m.system))) m n h)
+        (same_kept m n h) (does_so (Idle (settled k (kept u m.system))) (keeps.idle (settled k (kept u m.system))) m n h)
 
     -- what nothing denotes is forgotten alike
     tidies : Steps (on_system (tidy u))
     tidies m n h =
         subst (λ (store : Store). R (on_system (tidy u) m) (on_system (does u (Idle (tidied store))) n))
-        (same_kept m n h) (does_so (Idle (tidied (kept u m.system))) m n h)
+        (same_kept m n h) (does_so (Idle (tidied (kept u m.system))) (keeps.idle (tidied (kept u m.system))) m n h)
 
     tidies_then : (stop : Option Stop) → Steps (monitor.tidied_then read stop u)
     tidies_then stop m n h = rests_with stop (on_system (tidy u) m) (on_system (tidy u) n) (tidies m n h)
@@ -309,7 +322,7 @@ module _ (u : TaskNo) (R : Moment → Moment → Type 0) (keeps : Keeps u R) whe
     ends_insertion None false c i m n last h =
         tidies_then None (on_system (inserted u c.unit i) m) (on_system (inserted u c.unit i) n) (keeps.inserts c.unit i m n (last refl refl) h)
 
-    ends_as : (shown : Option Interface) (stop : Option Stop) (c : Command) (m n : Moment)
+    pub ends_as : (shown : Option Interface) (stop : Option Stop) (c : Command) (m n : Moment)
         → over_told shown stop m.system.shared.library ≡ over_told shown stop n.system.shared.library → R m n
         → R (monitor.over_as read shown stop u c m) (monitor.over_as read shown stop u c n)
     ends_as None stop c m n same h = tidies_then stop m n h
@@ -325,63 +338,59 @@ module _ (u : TaskNo) (R : Moment → Moment → Type 0) (keeps : Keeps u R) whe
         by false false e = ends_insertion None false c i m n (λ _ _. let more : m.system.shared.library.last + 1 ≡ n.system.shared.library.last + 1 = cc in omega (arith, more)) h
 
     ends : (c : Command) (stop : Option Stop) (w : World) (m n : Moment)
-        → over_told c.unit.shown stop m.system.shared.library ≡ over_told c.unit.shown stop n.system.shared.library → R m n
+        → over_told c.unit.shown stop m.system.shared.library ≡ over_told c.unit.shown stop n.system.shared.library → S m n
         → R (monitor.over read u c stop w m) (monitor.over read u c stop w n)
     ends c stop w m n same h =
         ends_as c.unit.shown stop c (on_system (does u (Idle (store_in w))) m) (on_system (does u (Idle (store_in w))) n)
         (ap (over_told c.unit.shown stop) (library_changed u (with_doing (Idle (store_in w))) m.system)
         ∙ (same ∙ sym (ap (over_told c.unit.shown stop) (library_changed u (with_doing (Idle (store_in w))) n.system))))
-        (does_so (Idle (store_in w)) m n h)
+        (keeps.leaves (Idle (store_in w)) (keeps.idle (store_in w)) m n h)
 
     -- ---- a slice
 
-    -- a request, and what follows the reply
-    goes_on : (k left : ℕ)
-        → ((left : ℕ) (m n : Moment) → R m n → told k u left m ≡ told k u left n → R (slice read k u left m) (slice read k u left n))
-        → (a b : Served) → BothServed R a b → told_served a (told k u left) u ≡ told_served b (told k u left) u
-        → R (served a (slice read k u left) u) (served b (slice read k u left) u)
-    goes_on k left on (Replies r m) (Replies s n) h same =
+    abbrev Slices : ℕ → Type 0
+    Slices k = (left : ℕ) (m n : Moment) → S m n → told k u left m ≡ told k u left n → AllByRecursion P (asked k u left m)
+        → E (slice read k u left m) (slice read k u left n)
+
+    -- a request, and what follows the answer
+    goes_on : (k left : ℕ) → Slices k → (a b : Served) → BothServed u S E a b → told_served a (told k u left) u ≡ told_served b (told k u left) u
+        → AllByRecursion P (asked_served a (asked k u left) u) → E (served a (slice read k u left) u) (served b (slice read k u left) u)
+    goes_on k left on (Replies r m) (Replies s n) h same all =
         let e : r ≡ s = cc in
         let later : told k u left (on_system (given u r) m) ≡ told k u left (on_system (given u s) n) = cc in
-        on left (on_system (given u r) m) (on_system (given u s) n)
-        (subst (λ (x : Reply). R (on_system (given u r) m) (on_system (given u x) n)) e
-        (keeps.changes (λ o. with_doing (replied r o.doing) o) (λ o. refl) m n (h e)))
-        later
-    goes_on k left on (Replies r m) (Rests n) h same = absurd (cc)
-    goes_on k left on (Rests m) (Replies s n) h same = absurd (cc)
-    goes_on k left on (Rests m) (Rests n) h same = h
+        on left (on_system (given u r) m) (on_system (given u s) n) (h e) later all
+    goes_on k left on (Replies r m) (Rests n) h same all = absurd (cc)
+    goes_on k left on (Rests m) (Replies s n) h same all = absurd (cc)
+    goes_on k left on (Rests m) (Rests n) h same all = h
 
-    goes_by : (k left : ℕ)
-        → ((left : ℕ) (m n : Moment) → R m n → told k u left m ≡ told k u left n → R (slice read k u left m) (slice read k u left n))
-        → (e : Ending) (c : Command) (m n : Moment) → (own_of u m.system ≡ None → ⊥) → R m n
-        → told_by e left (told k u) u c m ≡ told_by e left (told k u) u c n
-        → R (went read e left (slice read k u) u c m) (went read e left (slice read k u) u c n)
-    goes_by k left on (Ended w) c m n there h same =
-        ends c None w m n
-        (as_told c.unit.shown m.system.shared.library ∙ (same ∙ sym (as_told c.unit.shown n.system.shared.library))) h
-    goes_by k left on (Stopped stop w) c m n there h same =
-        ends c (Some stop) w m n
-        (stopped_told c.unit.shown stop m.system.shared.library ∙ sym (stopped_told c.unit.shown stop n.system.shared.library)) h
-    goes_by k left on (OutOfMarks w) c m n there h same =
-        comes_back (on_system (does u (Running (spent left w c))) m) (on_system (does u (Running (spent left w c))) n)
-        (does_so (Running (spent left w c)) m n h)
-    goes_by k left on (Asks q w) c m n there h same =
+    goes_by : (k left : ℕ) → Slices k → (e : Ending) (c : Command) → ending c left ≡ e → (m n : Moment) → command u m.system ≡ Some c → S m n
+        → told_by e left (told k u) u c m ≡ told_by e left (told k u) u c n → AllByRecursion P (asked_by e left (asked k u) u c m)
+        → E (went read e left (slice read k u) u c m) (went read e left (slice read k u) u c n)
+    goes_by k left on (Ended w) c is m n at h same all =
+        keeps.ends (monitor.over read u c None w m) (monitor.over read u c None w n)
+        (ends c None w m n
+        (as_told c.unit.shown m.system.shared.library ∙ (same ∙ sym (as_told c.unit.shown n.system.shared.library))) h)
+    goes_by k left on (Stopped stop w) c is m n at h same all =
+        keeps.ends (monitor.over read u c (Some stop) w m) (monitor.over read u c (Some stop) w n)
+        (ends c (Some stop) w m n
+        (stopped_told c.unit.shown stop m.system.shared.library ∙ sym (stopped_told c.unit.shown stop n.system.shared.library)) h)
+    goes_by k left on (OutOfMarks w) c is m n at h same all =
+        keeps.ends (on_system (back u) (on_system (does u (Running (spent left w c))) m)) (on_system (back u) (on_system (does u (Running (spent left w c))) n))
+        (comes_back (on_system (does u (Running (spent left w c))) m) (on_system (does u (Running (spent left w c))) n)
+        (keeps.leaves (Running (spent left w c)) (keeps.marks c left w m n h at is) m n h))
+    goes_by k left on (Asks q w) c is m n at h same all =
         goes_on k w.marks on
         (serve u q (on_system (does u (Running (spent left w c))) m)) (serve u q (on_system (does u (Running (spent left w c))) n))
-        (keeps.serves q (on_system (does u (Running (spent left w c))) m) (on_system (does u (Running (spent left w c))) n)
-        (λ none. there (changed_lives u (with_doing (Running (spent left w c))) m.system none))
-        (does_so (Running (spent left w c)) m n h))
-        same
+        (keeps.serves c left q w m n all.0 at is h) same all.1
 
-    pub slices : (k left : ℕ) (m n : Moment) → R m n → told k u left m ≡ told k u left n → R (slice read k u left m) (slice read k u left n)
-    slices zero left m n h same = h
-    slices (suc k) left m n h same =
-        subst (λ (o : Option Command). R (slice read (suc k) u left m) (went_on read o left (slice read k u) u n)) (same_command m n h)
-        (by (command u m.system) refl (slices k) (same ∙ sym (ap (λ (o : Option Command). told_on o left (told k u) u n) (same_command m n h))))
+    pub slices : (k : ℕ) → Slices k
+    slices zero left m n h same all = keeps.stops m n h
+    slices (suc k) left m n h same all =
+        subst (λ (o : Option Command). E (slice read (suc k) u left m) (went_on read o left (slice read k u) u n)) (same_command m n h)
+        (by (command u m.system) refl (slices k) (same ∙ sym (ap (λ (o : Option Command). told_on o left (told k u) u n) (same_command m n h))) all)
       where
-        by : (o : Option Command) → command u m.system ≡ o
-            → ((left : ℕ) (m n : Moment) → R m n → told k u left m ≡ told k u left n → R (slice read k u left m) (slice read k u left n))
-            → told_on o left (told k u) u m ≡ told_on o left (told k u) u n
-            → R (went_on read o left (slice read k u) u m) (went_on read o left (slice read k u) u n)
-        by None is on same = h
-        by (Some c) is on same = goes_by k left on (ending c left) c m n (runs_lives u m.system c is) h same
+        by : (o : Option Command) → command u m.system ≡ o → Slices k → told_on o left (told k u) u m ≡ told_on o left (told k u) u n
+            → AllByRecursion P (asked_on o left (asked k u) u m)
+            → E (went_on read o left (slice read k u) u m) (went_on read o left (slice read k u) u n)
+        by None is on same all = keeps.stops m n h
+        by (Some c) is on same all = goes_by k left on (ending c left) c refl m n is h same all

@@ -1,26 +1,49 @@
 -- What a turn of a task leaves of the others.
-use Rattle.std.specs.Prelude.{◌≡◌, ◌<◌, Bool, true, false, List, [], ◌∷◌}
+use Rattle.std.specs.Prelude.{◌≡◌, ◌<◌, ◌⊎◌, ◌==◌, ℕ, Bool, true, false, List, [], ◌∷◌, Option, Some, None}
 use Rattle.std.specs.List.{list_any}
+use Rattle.eu_base.specs.declared.request.Request.{Request}
+use Rattle.eu_base.specs.declared.request.Request.TheVariants as requests
 use Rattle.task_numbers.specs.declared.number.TaskNo.{TaskNo}
 use Rattle.task_numbers.specs.Numbers.{is_task}
 use Rattle.task_tree.specs.Tree.{Tree, lives, father}
 use Rattle.task_walks.specs.Families.{family}
-use Rattle.source_machine.specs.Systems.{System}
+use Rattle.source_machine.specs.Systems.{System, requested}
 use Rattle.isolation.specs.Own.{own_of}
 
 -- t is u, or a descendant of u
 abbrev pub is_of_family : TaskNo → TaskNo → Tree → Bool
 is_of_family t u s = list_any (λ v. is_task v t) (family u s)
 
--- What becomes of another task t while u has its turn. Where t lives before and behind it, all that is its own is the same. One that lives no
--- more was ended by u, of whose family it was. One that did not live before has a number that no task had, and is a son of u.
-pub record Beside (u t : TaskNo) (before after : System) : Type 0 where
-  pub kept : lives t before.shared.tree ≡ true → lives t after.shared.tree ≡ true → own_of t after ≡ own_of t before
+-- a message is sent to this task
+abbrev pub sends_to : TaskNo → Request → Bool
+sends_to t (requests.Send to code space) = to == t.0
+sends_to t (requests.Call to code space) = to == t.0
+sends_to t _ = false
+
+-- the task that a call names: it takes the message, and answers it
+abbrev pub called : Option Request → Option ℕ
+called (Some (requests.Call to code space)) = Some to
+called (Some (requests.Answer of)) = Some of
+called _ = None
+
+-- A turn of u reaches another task t: u sends it a message; or t's call names u, or a task that ends in this turn.
+pub data Reaches (u t : TaskNo) (asked : List Request) (before after : System) : Type 0 where
+  sends : list_any (sends_to t) asked ≡ true → Reaches u t asked before after
+  called_it : called (requested t before) ≡ Some u.0 → Reaches u t asked before after
+  called_one : (v : TaskNo) → called (requested t before) ≡ Some v.0 → lives v before.shared.tree ≡ true → lives v after.shared.tree ≡ false
+      → Reaches u t asked before after
+
+-- What becomes of another task t while u has its turn, in which u asks this. Where t lives before and behind it, all that is its own is the same,
+-- unless the turn reaches it. One that lives no more was ended by u, of whose family it was. One that did not live before has a number that no task
+-- had, and is a son of u.
+pub record Beside (u t : TaskNo) (asked : List Request) (before after : System) : Type 0 where
+  pub kept : lives t before.shared.tree ≡ true → lives t after.shared.tree ≡ true
+      → (own_of t after ≡ own_of t before) ⊎ Reaches u t asked before after
   pub ended : lives t before.shared.tree ≡ true → lives t after.shared.tree ≡ false → is_of_family t u before.shared.tree ≡ true
   pub begun : lives t before.shared.tree ≡ false → lives t after.shared.tree ≡ true
       → (before.shared.tree.last < t.0) × (father t after.shared.tree ≡ u)
 
 -- the turn is that of the first ready task; where none is ready nothing changes
-abbrev pub OthersStay : List TaskNo → System → System → Type 0
-OthersStay [] before after = after ≡ before
-OthersStay (u ∷ ready) before after = (t : TaskNo) → is_task t u ≡ false → Beside u t before after
+abbrev pub OthersStay : List TaskNo → List Request → System → System → Type 0
+OthersStay [] asked before after = after ≡ before
+OthersStay (u ∷ ready) asked before after = (t : TaskNo) → is_task t u ≡ false → Beside u t asked before after

@@ -3,4 +3,4 @@
 
 mod law;
 
-pub use law::{others_stay, turns_alike};
+pub use law::{others_stay, turns_alike, turns_go_on};

@@ -1,7 +1,7 @@
 -- A run that comes to rest for want of replies goes on from there with more of them as it does from its start.
 use Rattle.std.proofs.Common.{◌≡◌, ℕ, zero, suc, List, [], ◌∷◌, ◌++◌, Some, refl, sym, ap, ◌∙◌, subst}
 use Rattle.std.specs.Prelude.{slice_get}
-use Rattle.eu_base.specs.declared.request.Reply.{Reply}
+use Rattle.eu_base.specs.Requests.{Answer}
 use Rattle.code_form.specs.declared.waits.Waits.{Waits}
 use Rattle.code_form.specs.declared.waits.Waits.TheVariants.{Nothing, Asked, Given, Refused}
 use Rattle.code_form.specs.Program.{Program, instr_of}
@@ -11,16 +11,16 @@ use Rattle.code_form.specs.Machine.{advance, carry_on, exec}
 use Rattle.code_form.specs.Runs.{IsPaused, Rests}
 
 -- with these replies besides
-abbrev pub longer : List Reply → Scene → Scene
+abbrev pub longer : List Answer → Scene → Scene
 longer more s = record s { replies = s.replies ++ more }
 
 -- what a step leads to with them
-abbrev Longer : List Reply → Stage → Control → Scene → Stage → Type 0
+abbrev Longer : List Answer → Stage → Control → Scene → Stage → Type 0
 Longer more (On c' s') c s st = st ≡ On c' (longer more s')
 Longer more (Over r) c s st = IsPaused r.how → (r.control ≡ c) × (r.scene ≡ s)
 Longer more Lost c s st = Unit {0}
 
-module _ (p : Program) (more : List Reply) where
+module _ (p : Program) (more : List Answer) where
   paid_longer : (m : ℕ) (a : After) (d : Control) (s : Scene)
       → Longer more (after_stage a d (record s { marks = m })) d s (after_stage a d (longer more (record s { marks = m })))
   paid_longer m (To c' m') d s = refl
@@ -36,7 +36,7 @@ module _ (p : Program) (more : List Reply) where
   move_longer (Goes c' m') d s = refl
   move_longer (Spends a) d s = mark_longer s.marks a d s
   move_longer (Halts stop) d s = λ paused. absurd paused
-  move_longer (Refuses stop c') d s = refl
+  move_longer (Refuses stop c' m') d s = refl
   move_longer Ends d s = λ paused. absurd paused
   move_longer Unknown d s = tt
   move_longer Stuck d s = tt
@@ -47,7 +47,7 @@ module _ (p : Program) (more : List Reply) where
   stage_longer (Given r) c s = move_longer (takes_reply (instr_of (slice_get p.lines c.pc)) r c s.mem) (given c r) s
   stage_longer (Asked q) c s = by s.replies
     where
-      by : (rs : List Reply) → Longer more (reply_stage rs q c s) (asking c q) s (reply_stage (rs ++ more) q c (longer more s))
+      by : (rs : List Answer) → Longer more (reply_stage rs q c s) (asking c q) s (reply_stage (rs ++ more) q c (longer more s))
       by [] = λ paused. (refl, refl)
       by (r ∷ rs) = refl
   stage_longer (Refused stop) c s = λ paused. absurd paused

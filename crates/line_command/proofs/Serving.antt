@@ -4,14 +4,15 @@ use Rattle.std.proofs.Common.{subst, append_assoc, append-nil, length, length-ap
 use Rattle.eu_base.specs.declared.stop.Stop.{Stop}
 use Rattle.eu_base.specs.declared.stop.Stop.TheVariants.{CellRoom, LineMarks}
 use Rattle.eu_base.specs.declared.request.Request.{Request}
-use Rattle.eu_base.specs.declared.request.Reply.{Reply}
-use Rattle.eu_base.specs.declared.request.Reply.TheVariants as replies
+use Rattle.eu_base.specs.declared.request.Request.TheVariants.{Out}
+use Rattle.eu_base.specs.Requests.{Answer, reply_changes}
 use Rattle.eu_base.specs.Cells.{Cells}
-use Rattle.eu_base.specs.DataSpaces.{Heads, no_spaces}
+use Rattle.eu_base.specs.DataSpaces.{Heads, no_spaces, SpaceChange}
+use Rattle.eu_base.proofs.SoundSpaces.{no_space_comes, come_push}
 use Rattle.code_form.specs.declared.halt.Halt.{Halt}
 use Rattle.code_form.specs.declared.halt.Halt.TheVariants as halts
 use Rattle.code_form.specs.Program.{Program}
-use Rattle.code_form.specs.Machine.{Mem, Position, Control, asking, Rest, have_room, start, answered}
+use Rattle.code_form.specs.Machine.{Mem, Position, Control, asking, Rest, have_room, start, answered, mem_after, after_reply}
 use Rattle.code_form.specs.declared.waits.Waits.{Waits}
 use Rattle.code_form.specs.declared.waits.Waits.TheVariants.{Nothing, Asked, Refused}
 use Rattle.code_form.specs.Runs.{Rests, IsPaused, asked}
@@ -26,7 +27,7 @@ use Rattle.elan_types.specs.Command.{Ending, Ended, Stopped, OutOfMarks, Asks, e
 use Rattle.line_command.specs.Screen as screen
 use Rattle.line_command.specs.Screen.{Screen, Written, written_by, blank, put, final}
 use Rattle.line_command.specs.Program as text
-use Rattle.line_command.specs.Program.{line_marks, Output, ends, reply_to, output_at, output_in, output_of}
+use Rattle.line_command.specs.Program.{line_marks, Output, ends, reply_to, answer_to, output_at, output_in, output_of}
 use Rattle.line_command.proofs.Passed.{longer, passed}
 use Rattle.line_command.proofs.Served.{behind, IsServed}
 
@@ -69,18 +70,24 @@ start_free p = by (have_room p)
     by false = refl
 
 -- nor does one that was answered
-pub answered_free : (q : Request) (r : Reply) (c : Position) → asked (answered q r c).waits ≡ None
-answered_free q replies.Done c = refl
-answered_free q (replies.Text t) c = refl
-answered_free q (replies.Task n) c = refl
-answered_free q (replies.Truth b) c = refl
-answered_free q (replies.Stopped stop) c = refl
+pub answered_free : (q : Request) (c : Position) → asked (answered q (reply_to q) c).waits ≡ None
+answered_free (Out bytes ends) c = refl
+answered_free _ c = refl
+
+-- to data spaces nothing is done
+nothing_done : (q : Request) (heads : Heads) → reply_changes q (answer_to q) heads ≡ []
+nothing_done (Out bytes ends) heads = refl
+nothing_done _ heads = refl
+
+same_after : (q : Request) (mem : Mem) → after_reply q (answer_to q) mem ≡ mem
+same_after q mem = ap (λ (cs : List SpaceChange). mem_after cs mem) (nothing_done q mem.heads)
 
 -- at the start nothing was answered
 pub served_first : (core : Core) (p : Program) (first : Mem) (control : Control) → control ≡ start p
     → IsServed core p first control first line_marks blank
 served_first core p first control is = record {
   replies = [];
+  contents = tt;
   written = [];
   on = λ more last h. subst (λ (c : Control). Rests p c (record { mem = first; marks = line_marks; replies = more }) last) (sym is) h;
   shown = refl;
@@ -88,15 +95,16 @@ served_first core p first control is = record {
   so_far = refl;
 }
 
--- the reply that is given is taken
-took : (p : Program) (w : Waits) (c : Position) (q : Request) (r : Reply) (mem : Mem) (marks : ℕ) (more : List Reply) (last : Rest) → w ≡ Asked q
-    → Rests p (record { position = c; waits = w }) (record { mem = mem; marks = marks; replies = r ∷ more }) last
-    → Rests p (answered q r c) (record { mem = mem; marks = marks; replies = more }) last
-took p w c q r mem marks more last is h =
-    by (subst (λ (w : Waits). Rests p (record { position = c; waits = w }) (record { mem = mem; marks = marks; replies = r ∷ more }) last) is h)
+-- the answer that is given is taken
+took : (p : Program) (w : Waits) (c : Position) (q : Request) (mem : Mem) (marks : ℕ) (more : List Answer) (last : Rest) → w ≡ Asked q
+    → Rests p (record { position = c; waits = w }) (record { mem = mem; marks = marks; replies = answer_to q ∷ more }) last
+    → Rests p (answered q (reply_to q) c) (record { mem = mem; marks = marks; replies = more }) last
+took p w c q mem marks more last is h =
+    subst (λ (m : Mem). Rests p (answered q (reply_to q) c) (record { mem = m; marks = marks; replies = more }) last) (same_after q mem)
+    (by (subst (λ (w : Waits). Rests p (record { position = c; waits = w }) (record { mem = mem; marks = marks; replies = answer_to q ∷ more }) last) is h))
   where
-    by : Rests p (asking c q) (record { mem = mem; marks = marks; replies = r ∷ more }) last
-        → Rests p (answered q r c) (record { mem = mem; marks = marks; replies = more }) last
+    by : Rests p (asking c q) (record { mem = mem; marks = marks; replies = answer_to q ∷ more }) last
+        → Rests p (answered q (reply_to q) c) (record { mem = after_reply q (answer_to q) mem; marks = marks; replies = more }) last
     by (zero, e) = absurd (cc e)
     by (suc n, e) = (n, e)
 
@@ -105,7 +113,7 @@ module _ (core : Core) (p : Program) (first : Mem) (control : Control) (now : Me
     (has : HasSlots p (blanks (start_kinds core)) (blanks core.inserted) no_spaces first) where
   -- the evaluation with the replies so far, and the rest to which the run comes next
   pub comes : Comes p (start p) (place.scene_of (at_start core [] no_spaces line_marks served.replies) first) (evaluate core [] no_spaces line_marks served.replies)
-  comes = b.ends (at_start core [] no_spaces line_marks served.replies) first has
+  comes = b.ends (at_start core [] no_spaces line_marks served.replies) first (has, served.contents)
 
   abbrev pub next : Rest
   next = comes.rest
@@ -122,13 +130,13 @@ module _ (core : Core) (p : Program) (first : Mem) (control : Control) (now : Me
 
     -- what is left to write where the evaluation stands so; an evaluation is always left
     whole_output : (e : Ending) (stop : Option Stop) → evaluate core [] no_spaces line_marks served.replies ≡ e
-        → ((more : Reply → Output) → output_at e more ≡ ends stop) → output_of core ≡ record { written = served.written; stop = stop }
+        → ((more : Answer → Output) → output_at e more ≡ ends stop) → output_of core ≡ record { written = served.written; stop = stop }
     whole_output e stop is ended = by (line_marks + 1 - length served.replies) refl
       where
         by : (n : ℕ) → line_marks + 1 - length served.replies ≡ n → output_of core ≡ record { written = served.written; stop = stop }
         by zero all = absurd (omega (arith, all, served.paid))
         by (suc n) all =
-            let more : Reply → Output = λ r. output_in n core line_marks (served.replies ++ r ∷ []) in
+            let more : Answer → Output = λ r. output_in n core line_marks (served.replies ++ r ∷ []) in
             let left : output_at (evaluate core [] no_spaces line_marks served.replies) more ≡ ends stop = ap (λ x. output_at x more) is ∙ ended more in
             served.so_far ∙ ap (λ k. behind served.written (output_in k core line_marks served.replies)) all
             ∙ ap (behind served.written) left
@@ -136,7 +144,7 @@ module _ (core : Core) (p : Program) (first : Mem) (control : Control) (now : Me
 
     -- a rest that ends the program
     whole : (e : Ending) (stop : Option Stop) (out : List ℕ) → evaluate core [] no_spaces line_marks served.replies ≡ e
-        → ((more : Reply → Output) → output_at e more ≡ ends stop) → out ≡ final s stop → text.Shows core out
+        → ((more : Answer → Output) → output_at e more ≡ ends stop) → out ≡ final s stop → text.Shows core out
     whole e stop out is ended out_is =
         out_is ∙ ap (λ x. final x stop) served.shown
         ∙ ap (λ (o : Output). final (screen.put_all blank o.written) o.stop) (sym (whole_output e stop is ended))
@@ -163,6 +171,7 @@ module _ (core : Core) (p : Program) (first : Mem) (control : Control) (now : Me
         let longer_by : length (served.replies ++ reply ∷ []) ≡ length served.replies + 1 = length-append served.replies (reply ∷ []) in
         record {
           replies = served.replies ++ reply ∷ [];
+          contents = come_push served.replies reply served.contents no_space_comes;
           written = served.written ++ written_by q;
           on = λ more last h.
               let whole : Rests p (start p) (record { mem = first; marks = line_marks; replies = served.replies ++ reply ∷ more }) last =
@@ -171,22 +180,22 @@ module _ (core : Core) (p : Program) (first : Mem) (control : Control) (now : Me
               let there : Rests p next.control (longer (reply ∷ more) next.scene) last =
               passed p (reply ∷ more) rests.0 control (scene_of now marks) next last paused rests.1 (served.on (reply ∷ more) last whole) in
               subst (λ (c : Control). Rests p c (record { mem = mem_of heads next.scene.mem.cells; marks = marks'; replies = more }) last) (sym answer)
-              (took p control'.waits control'.position q reply (mem_of heads next.scene.mem.cells) marks' more last waits
+              (took p control'.waits control'.position q (mem_of heads next.scene.mem.cells) marks' more last waits
               (subst (λ (r : Rest). Rests p r.control (longer (reply ∷ more) r.scene) last) so.1 there));
           shown = put_is ∙ (ap (λ x. screen.put_all x (written_by q)) served.shown ∙ sym (put_all-append blank served.written (written_by q)));
           paid = omega (arith, longer_by, served.paid, less);
           so_far =
               let e = shows_asks p q (evaluate core [] no_spaces line_marks served.replies) next comes.shows (how ∙ is) in
               let n : ℕ = line_marks + 1 - length (served.replies ++ reply ∷ []) in
-              let more : Reply → Output = λ r. output_in n core line_marks (served.replies ++ r ∷ []) in
+              let more : Answer → Output = λ r. output_in n core line_marks (served.replies ++ r ∷ []) in
               let one_more : line_marks + 1 - length served.replies ≡ suc n = omega (arith, longer_by, served.paid, less) in
               served.so_far ∙ ap (λ k. behind served.written (output_in k core line_marks served.replies)) one_more
               ∙ ap (λ x. behind served.written (output_at x more)) e.1
               ∙ ap (λ ws. record { written = ws; stop = (more reply).stop }) (sym (append_assoc served.written (written_by q) (more reply).written));
         }
       where
-        reply : Reply
-        reply = reply_to q
+        reply : Answer
+        reply = answer_to q
 
         paused : IsPaused next.how
         paused = subst (λ h. IsPaused h) (sym (how ∙ is)) tt

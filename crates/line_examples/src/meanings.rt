@@ -2,7 +2,7 @@
 
 /// Texts, and behind each what it writes, or at which place and for which reason it is refused: names, operators and assignments;
 /// values of lists of units, IF and SELECT; loops, scopes, CAND and COR, brackets and calls; PROCs, OPs, refinements and LEAVE;
-/// the identifier after FOR, and bodies that have to deliver a type; what is not built yet; own operators. A text that has a
+/// the identifier after FOR, and bodies that have to deliver a type; own operators. A text that has a
 /// meaning and puts nothing writes nothing. One text, since the check goes over each item of an array.
 pub const MEANINGS: &str = "\
 > put (1)

@@ -317,7 +317,6 @@ fn put_refusal(alloc: Global, out: &mut Bytes, cause: CompileError) {
         CompileError::Refused(Refusal::NoToken(place)) => put_at(alloc, out, "NoToken", place),
         CompileError::Refused(Refusal::TooMany) => put(out, b"TooMany\n"),
         CompileError::Refused(Refusal::NotElan(place)) => put_at(alloc, out, "NotElan", place),
-        CompileError::Refused(Refusal::NotBuilt) => put(out, b"NotBuilt\n"),
         CompileError::Refused(Refusal::NoMeaning(place, why)) => {
             put_at(alloc, out, word(why), place);
         }

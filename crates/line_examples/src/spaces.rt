@@ -2,7 +2,7 @@
 
 /// Texts with data spaces, and behind each what it writes, or at which place and for which reason it is refused: DATASPACE and BOUND
 /// variables, the calls on data spaces and their names, where DATASPACE may stand, what is bound and what is stored, own operators beside
-/// it, and what is not built yet. A text that has a meaning and puts nothing writes nothing.
+/// it, and the operands of messages. A text that has a meaning and puts nothing writes nothing.
 pub const SPACES: &str = "\
 > DATASPACE VAR d; put (type (d))
 FEHLER : Datenraum existiert nicht
@@ -91,9 +91,55 @@ FEHLER : falscher Typ (Zeile 1, Stelle 1)
 > rename (\"a\")
 FEHLER : unbekannt (Zeile 1, Stelle 1)
 > send (niltask, 1, d, i)
-FEHLER : kein ELAN-Text
+FEHLER : unbekannt (Zeile 1, Stelle 19)
 > INT VAR send
-FEHLER : kein ELAN-Text
+> INT VAR send :: 3, wait; put (send + wait)
+3 
+> LET call = 3; put (call)
+3 
+> PROC wait: put (1) END PROC wait; wait
+1 
+> DATASPACE VAR d; INT VAR i; put (1); send (niltask, 1, d, i); put (2)
+1 
+FEHLER : nur in einer Sitzung
+> DATASPACE VAR d; INT VAR i; call (niltask, 1, d, i)
+FEHLER : nur in einer Sitzung
+> DATASPACE VAR d; INT VAR i; TASK VAR t; wait (d, i, t)
+FEHLER : nur in einer Sitzung
+> DATASPACE VAR d; INT VAR i; send (niltask, 1, nilspace, i)
+FEHLER : keine Variable (Zeile 1, Stelle 47)
+> DATASPACE CONST d :: nilspace; INT VAR i; send (niltask, 1, d, i)
+FEHLER : keine Variable (Zeile 1, Stelle 61)
+> DATASPACE VAR d; send (niltask, 1, d, 3)
+FEHLER : keine Variable (Zeile 1, Stelle 39)
+> DATASPACE VAR d; INT CONST i :: 1; call (niltask, 1, d, i)
+FEHLER : keine Variable (Zeile 1, Stelle 57)
+> DATASPACE VAR d; INT VAR i; wait (d, i, niltask)
+FEHLER : keine Variable (Zeile 1, Stelle 41)
+> DATASPACE VAR d; INT VAR i; TASK VAR t; wait (d, t, i)
+FEHLER : falscher Typ (Zeile 1, Stelle 41)
+> DATASPACE VAR d; INT VAR i; send (1, niltask, d, i)
+FEHLER : falscher Typ (Zeile 1, Stelle 29)
+> DATASPACE VAR d; INT VAR i; send (niltask, 1, d)
+FEHLER : unbekannt (Zeile 1, Stelle 29)
+> DATASPACE VAR d; INT VAR i; put (send (niltask, 1, d, i))
+FEHLER : falscher Typ (Zeile 1, Stelle 29)
+> DATASPACE VAR d; INT VAR i; send (niltask, PROC p, d, i). p: put (1).
+FEHLER : falsche Stelle (Zeile 1, Stelle 44)
+> BOUND INT VAR b; INT VAR i; send (niltask, 1, b, i)
+FEHLER : falscher Typ (Zeile 1, Stelle 29)
+> BOUND INT VAR b :: nilspace; DATASPACE VAR d; send (niltask, 1, d, b)
+FEHLER : Datenraum existiert nicht
+> BOUND INT VAR b :: new (\"b\"); DATASPACE VAR d; send (niltask, 1, d, b)
+FEHLER : nur in einer Sitzung
+> ROW 2 INT VAR r; DATASPACE VAR d; INT PROC f: put (1); 3 END PROC f; send (niltask, f, d, r [3])
+1 
+FEHLER : Index ausserhalb
+> PROC send (INT CONST a): put (a) END PROC send; send (2); DATASPACE VAR d; INT VAR i; send (niltask, 1, d, i)
+2 
+FEHLER : nur in einer Sitzung
+> PROC send (TASK CONST t, INT CONST a, DATASPACE VAR d, INT VAR r): r := a END PROC send; DATASPACE VAR d; INT VAR i; send (niltask, 5, d, i); put (i)
+5 
 > BOUND TEXT VAR t :: new (\"t\"); t := \"abc\"; t CAT \"d\"; put (t); put (LENGTH t)
 abcd 4 
 > PACKET p DEFINES b: BOUND INT VAR b END PACKET p

@@ -111,6 +111,13 @@ FEHLER : falsche Stelle (Zeile 1, Stelle 53)
 FEHLER : unbekannt (Zeile 1, Stelle 30)
 > begin (1, 2, 3)
 FEHLER : falscher Typ (Zeile 1, Stelle 1)
+> DATASPACE VAR d :: nilspace; INT VAR r; put (1); send (niltask, 5, d, r); put (r)
+1 
+FEHLER : nur in einer Sitzung
+> DATASPACE VAR d; INT VAR r; call (niltask, 5, nilspace, r)
+FEHLER : keine Variable (Zeile 1, Stelle 47)
+> DATASPACE VAR d; INT VAR c; TASK VAR t; wait (d, t, c)
+FEHLER : falscher Typ (Zeile 1, Stelle 41)
 > TASK VAR t; IF t = niltask THEN put (1) FI; TASK VAR u :: niltask; IF t <> u THEN put (2) ELSE put (3) FI
 1 3 
 > ROW 3 TASK VAR a; a [2] := niltask; IF a [1] = a [2] THEN put (1) FI
@@ -325,8 +332,6 @@ FEHLER : kein ELAN-Text (Zeile 1, Stelle 11)
 FEHLER : kein ELAN-Text (Zeile 1, Stelle 22)
 > ROW INT VAR a
 FEHLER : kein ELAN-Text (Zeile 1, Stelle 5)
-> INT VAR send
-FEHLER : kein ELAN-Text
 > put 1
 FEHLER : unbekannt (Zeile 1, Stelle 1)
 > FOR i UPTO 3 REP put (i) PER

@@ -1,5 +1,5 @@
 //! The live packets, which can be asked whether there is room for one more.
-ghost use Rattle.std.specs.Prelude.{◌≡◌, ◌+◌, ◌<◌, ◌^◌, List, true, is_some, length, IfOk, IfErr, IfSome, OnOk};
+ghost use Rattle.std.specs.Prelude.{◌≡◌, ◌+◌, ◌<◌, ◌≤◌, ◌^◌, List, true, is_some, length, IfOk, IfErr, IfSome, IfNone, OnOk};
 ghost use Rattle.std.specs.List.{list_any};
 ghost use Rattle.live_tasks.specs.Below.elan_check.specs.Packets.{AreCompiled};
 ghost use Rattle.live_tasks.specs.Below.packet_store.specs.Library as libraries;
@@ -73,7 +73,8 @@ impl Packets {
 
     /// The number that comes next.
     pub fn next(&self) -> Option<u32>
-        ensures { IfSome result (λ number. number ≡ self.now.last + 1) }
+        ensures some { IfSome result (λ number. number ≡ self.now.last + 1) }
+        ensures none { IfNone result (2 ^ 32 ≤ self.now.last + 1) }
     {
         self.last.checked_add(1)
     }

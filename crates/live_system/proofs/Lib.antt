@@ -8,3 +8,4 @@ pub mod Opening
 pub mod Reading
 pub mod Told
 pub mod Whats
+pub mod Waiting

@@ -1,5 +1,5 @@
 -- How a task goes on in a slice, and how a son begins that runs a start procedure.
-use Rattle.std.specs.Prelude.{◌≡◌, ℕ, List, Option, Some, None}
+use Rattle.std.specs.Prelude.{◌≡◌, ℕ, List, fold, Option, Some, None}
 use Rattle.task_numbers.specs.declared.number.TaskNo.{TaskNo}
 use Rattle.eu_base.specs.declared.stop.Stop.{Stop}
 use Rattle.eu_base.specs.declared.stop.Stop.TheVariants.{Halted}
@@ -7,8 +7,8 @@ use Rattle.elan_types.specs.Eval.{World}
 use Rattle.elan_types.specs.Command.{Ending, Ended, Stopped, OutOfMarks, Asks}
 use Rattle.live_packets.specs.Below.packet_store.specs.declared.unit.Compiled.{Compiled}
 use Rattle.live_packets.specs.Below.source_machine.specs.Tasks.{Command, Running, ending, world_of, spent}
-use Rattle.live_packets.specs.Below.source_machine.specs.Systems.{Moment, does, on_system}
-use Rattle.live_packets.specs.Below.source_machine.specs.Ends.{next}
+use Rattle.live_packets.specs.Below.source_machine.specs.Systems.{Moment, does, on_system, woken}
+use Rattle.live_packets.specs.Below.source_machine.specs.Ends.{next, no_task}
 use Rattle.live_packets.specs.Below.source_machine.specs.Serving.{son_begins}
 use Rattle.live_packets.specs.Below.live_task.specs.declared.task.Went.{Went as Task}
 use Rattle.live_packets.specs.Below.live_task.specs.declared.task.Went.TheVariants as task
@@ -71,3 +71,7 @@ HaltedAs (Some c) new how t m = HaltedOver new how t c m
 abbrev pub BeginsRunning : Option Compiled → Machine → List ℕ → TaskNo → Moment → Option TaskNo → Type 0
 BeginsRunning None new name t m began = (began ≡ None) × StandsAt new m
 BeginsRunning (Some unit) new name t m began = (began ≡ Some (next m.system)) × StandsAt new (on_system (son_begins name t unit) m)
+
+-- tasks that wait are told one after another that no task answers
+abbrev pub woken_each : List TaskNo → Moment → Moment
+woken_each ts m = fold (λ (m : Moment) (t : TaskNo). on_system (woken t no_task) m) m ts

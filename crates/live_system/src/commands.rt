@@ -2,15 +2,16 @@
 ghost use Rattle.std.specs.Prelude.{◌≡◌, ◌≤◌, ◌<◌, ◌^◌, ℕ, List, Bool, length, is_none, true, None, Some, OnOk, IfOk};
 ghost use Rattle.task_numbers.specs.Numbers.{niltask};
 ghost use Rattle.task_tree.specs.Tree as tree;
+ghost use Rattle.terminals.specs.Channels.{channel_of};
 ghost use Rattle.elan_scope.specs.declared.env.Env.{Env};
 ghost use Rattle.elan_types.specs.Eval.{World};
 ghost use Rattle.live_packets.specs.Below.packet_store.specs.Library.{env_of, started_at};
 ghost use Rattle.live_packets.specs.Below.source_machine.specs.Stores.{Store, heir};
 ghost use Rattle.live_packets.specs.Below.source_machine.specs.Tasks.{Command, Idle};
-ghost use Rattle.live_packets.specs.Below.source_machine.specs.Systems.{Moment, on_system, doing, kept, packets, command};
+ghost use Rattle.live_packets.specs.Below.source_machine.specs.Systems.{Moment, on_system, doing, kept, packets, command, uncouple_at};
 ghost use Rattle.live_packets.specs.Below.source_machine.specs.Monitor.{Reading};
 ghost use Rattle.live_packets.specs.Below.source_machine.specs.Readings.{IsReading};
-ghost use Rattle.live_packets.specs.Below.source_machine.specs.Ends.{next, begun, ended};
+ghost use Rattle.live_packets.specs.Below.source_machine.specs.Ends.{next, begun, ended, removed};
 ghost use Rattle.live_packets.specs.Below.live_task.specs.Stands.{IsWhole};
 ghost use Rattle.live_system.specs.Finishing as spec;
 ghost use Rattle.live_system.specs.Texts.{RunsText};
@@ -167,10 +168,20 @@ impl System {
         }
     }
 
-    /// A task that has no sons, and is not one of the first two, ends.
+    /// A task that has no sons, and is not one of the first two, ends. Those that wait for it are told so, and are ready.
     pub fn end(&mut self, task: TaskNo) -> Result<(), NoMemory>
         ensures { OnOk result ((m : Moment) → tree.lives task m.system.shared.tree ≡ true → tree.son task m.system.shared.tree ≡ niltask → 2 < task.0 → StandsAt self.old m
             → StandsAt self.new (ended m task)) }
+    {
+        self.take_out(task)?;
+        self.free(task)?;
+        Ok(())
+    }
+
+    // Its channel is free, and all that it had is gone.
+    fn take_out(&mut self, task: TaskNo) -> Result<(), NoMemory>
+        ensures { OnOk result ((m : Moment) → tree.lives task m.system.shared.tree ≡ true → tree.son task m.system.shared.tree ≡ niltask → 2 < task.0 → StandsAt self.old m
+            → StandsAt self.new (on_system (removed task) (uncouple_at (channel_of task m.system.shared.channels) m))) }
     {
         if !can_end(&self.desk, task) {
             return Ok(());

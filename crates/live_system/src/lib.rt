@@ -3,12 +3,14 @@
 
 mod commands;
 mod looks;
+mod messages;
 mod runs;
 mod steps;
 mod system;
 mod texts;
 mod what;
 
+pub use message_wait::Offer;
 pub use runs::{Finished, Went};
 pub use system::System;
 pub use what::{SourceText, What};

@@ -246,7 +246,7 @@ fn what_at(tasks: &Tasks, place: usize) -> What
 }
 
 // The request for which a task waits, lent.
-fn asked<'a>(desk: &TaskDesk, tasks: &'a Tasks, task: TaskNo) -> Option<&'a Request>
+pub(crate) fn asked<'a>(desk: &TaskDesk, tasks: &'a Tasks, task: TaskNo) -> Option<&'a Request>
     ensures { length tasks.now.tasks ≡ length desk.now.tree.tasks → (kinds_of : Lists ℕ → Lists Kind) (library : Library) (owns : Lists Own)
         → Stand kinds_of tasks.now owns → option_copied result ≡ requested task (system desk.now library owns) }
 {

@@ -1,5 +1,6 @@
 //! What changes of what all tasks have together, and replies.
-ghost use Rattle.std.specs.Prelude.{◌≡◌, ◌≤◌, drop, slice_get, OnOk, IfSome, length};
+ghost use Rattle.std.specs.Prelude.{◌≡◌, ◌≤◌, true, drop, slice_get, OnOk, IfSome, length};
+ghost use Rattle.eu_base.specs.Requests.{plain, is_plain};
 ghost use Rattle.output_pieces.specs.Display.{close_all as closed};
 ghost use Rattle.slicer.specs.Rotation as rotation;
 ghost use Rattle.terminals.specs.Channels as channels;
@@ -123,9 +124,10 @@ impl System {
         self.desk.close_all()
     }
 
-    /// A task gets a reply, where it makes a request.
+    /// A task gets a reply that is no message, where it makes a request.
     pub fn reply(&mut self, task: TaskNo, reply: Reply) -> Result<(), NoMemory>
-        ensures { OnOk result ((m : Moment) → StandsAt self.old m → StandsAt self.new (on_system (given task reply) m)) }
+        requires plain { is_plain reply ≡ true }
+        ensures { OnOk result ((m : Moment) → StandsAt self.old m → StandsAt self.new (on_system (given task (plain reply)) m)) }
     {
         match place_of(&self.desk, &self.tasks, task) {
             None => Ok(()),

@@ -26,7 +26,7 @@ use Rattle.live_task.specs.Stands.{DoesAs, StandsFor, StandsOver}
 use Rattle.task_job.specs.declared.job.Job.{Job}
 use Rattle.live_task.specs.declared.task.Task.{Task}
 
-each_kept : (old new : Pages) (names : Names)
+pub each_kept : (old new : Pages) (names : Names)
     → ((root : Option ℕ) → ForSome root (λ r. 1 ≤ occ r names) → IsKept (content_at old root) (content_at new root))
     → AllByRecursion (λ root. IsKept (content_at old root) (content_at new root)) names
 each_kept old new [] kept = tt
@@ -41,7 +41,7 @@ module _ (old new : Pages) (m : MemoryData) (bytes : KeepsBytes old new (roots m
       kept_held (Space s) (content_at old (the_space s.0 m.spaces).root) (content_at new (the_space s.0 m.spaces).root) cells
       (root_among (λ root. IsKept (content_at old root) (content_at new root)) s.0 m.spaces is bytes.each.1.1) (h.there (Space s) is)
 
-  cells_carried : HoldsAll new m cells
+  pub cells_carried : HoldsAll new m cells
   cells_carried = record { there = area_carried; gone = h.gone }
 
 module _ (old new : Pages) (m : MemoryData) (bytes : KeepsBytes old new (roots m)) where

@@ -5,7 +5,7 @@ use Rattle.eu_base.specs.declared.value.Kind.{Kind}
 use Rattle.eu_base.specs.declared.stop.Stop.{Stop}
 use Rattle.eu_base.specs.declared.stop.Stop.TheVariants.{Halted}
 use Rattle.eu_base.specs.declared.request.Request.{Request}
-use Rattle.eu_base.specs.declared.request.Reply.{Reply}
+use Rattle.eu_base.specs.Requests.{Answer}
 use Rattle.page_pool.specs.Pool.{Pages}
 use Rattle.cell_kinds.specs.Kinds.{packet_kinds}
 use Rattle.eu_base.specs.declared.address.Area.TheVariants.{Run, Packets}
@@ -80,6 +80,15 @@ module _ (kinds : List Kind) (pages : Pages) (task : Task) (own : Own) (h : Stan
       let r = runs_for job is in
       ap request_of r.1 ∙ sym (asks_now kinds pages task.memory job r.0 r.2)
 
+  -- where its job asks nothing, it does not
+  pub asks_nothing : ((job : Job) → task.doing ≡ does.Running job → asked job.run.waits ≡ None) → request_of own.doing ≡ None
+  asks_nothing none = by own.doing h.does
+    where
+      by : (d : Doing) → DoesAs kinds pages task d → request_of d ≡ None
+      by (Idle store) k = refl
+      by (Entering name lines store) k = refl
+      by (Running c) k = sym (asks_now kinds pages task.memory k.0 c k.2) ∙ none k.0 k.1
+
   -- it went on with no command
   pub went_not : (left : ℕ) → ((job : Job) → task.doing ≡ does.Running job → ⊥) → WentOn kinds pages task left left went.NotRunning own own.doing
   went_not left not = by own.doing h.does
@@ -97,10 +106,10 @@ module _ (kinds : List Kind) (pages : Pages) (task : Task) (own : Own) (h : Stan
       by (Entering name lines store) k = (refl, h)
       by (Running c) k = absurd (not k.0 k.1)
 
-  -- a reply to a task that asks nothing
-  pub unasked : (reply : Reply) → request_of own.doing ≡ None → StandsFor kinds pages task (with_doing (replied reply own.doing) own)
-  unasked reply nothing =
-      subst (λ q. StandsFor kinds pages task (with_doing (with_reply_to q reply own.doing) own)) (sym nothing) h
+  -- an answer to a task that asks nothing
+  pub unasked : (a : Answer) → request_of own.doing ≡ None → StandsFor kinds pages task (with_doing (replied a own.doing) own)
+  unasked a nothing =
+      subst (λ q. StandsFor kinds pages task (with_doing (with_reply_to q a own.doing) own)) (sym nothing) h
 
 -- a command is over
 module _ (kinds : List Kind) (middle new : Pages) (was now : Task) (own : Own) (c : Command) (w : World) (stop : Option Stop) (how : Went) (job : Job)
@@ -197,16 +206,16 @@ halted kinds old new task now own how job h is ends =
       stands_over kinds old new task now own r.0 (world_of (ending r.0 0)) (Some Halted) how job r.2.reaches.unit h.packets (many_own kinds old task.memory job r.0 r.2) r.2.reaches.kinds_are ends left,
     )
 
--- a task that gets a reply
-pub answered : (kinds : List Kind) (old new : Pages) (task : Task) (memory : MemoryData) (own : Own) (job job' : Job) (q : Request) (reply : Reply)
+-- a task that gets an answer
+pub answered : (kinds : List Kind) (old new : Pages) (task : Task) (memory : MemoryData) (own : Own) (job job' : Job) (q : Request) (a : Answer)
     → StandsFor kinds old task own → task.doing ≡ does.Running job → asked job.run.waits ≡ Some q
-    → ((kinds : List Kind) (c : Command) → RunsFor kinds old task.memory job c → RunsFor kinds new memory job' (with_reply reply c))
-    → StandsFor kinds new (running task memory job') (with_doing (replied reply own.doing) own)
-answered kinds old new task memory own job job' q reply h is asks takes =
+    → ((kinds : List Kind) (c : Command) → RunsFor kinds old task.memory job c → RunsFor kinds new memory job' (with_reply a c))
+    → StandsFor kinds new (running task memory job') (with_doing (replied a own.doing) own)
+answered kinds old new task memory own job job' q a h is asks takes =
     let r = runs_for kinds old task own h job is in
     let some : request_of own.doing ≡ Some q = asks_it kinds old task own h job is ∙ asks in
-    let same : replied reply own.doing ≡ Running (with_reply reply r.0) =
-    ap (λ (o : Option Request). with_reply_to o reply own.doing) some ∙ ap (λ (d : Doing). with_reply_to (Some q) reply d) r.1 in
+    let same : replied a own.doing ≡ Running (with_reply a r.0) =
+    ap (λ (o : Option Request). with_reply_to o a own.doing) some ∙ ap (λ (d : Doing). with_reply_to (Some q) a d) r.1 in
     subst (λ (d : Doing). StandsFor kinds new (running task memory job') (with_doing d own)) (sym same)
     (record { packets = h.packets; does = (job', refl, takes kinds r.0 r.2) })
 

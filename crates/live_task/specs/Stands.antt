@@ -2,6 +2,8 @@
 use Rattle.std.specs.Prelude.{◌≡◌, ℕ, ◌<◌, ◌≤◌, List, length, Option, Some, None}
 use Rattle.std.specs.List.{All}
 use Rattle.eu_base.specs.declared.value.Kind.{Kind}
+use Rattle.eu_base.specs.declared.request.Request.{Request}
+use Rattle.eu_base.specs.Requests.{Answer}
 use Rattle.eu_base.specs.declared.stop.Stop.{Stop}
 use Rattle.eu_base.specs.declared.stop.Stop.TheVariants.{Halted}
 use Rattle.cell_kinds.specs.Kinds.{packet_kinds}
@@ -15,8 +17,8 @@ use Rattle.task_job.specs.Below.packet_store.specs.Units.{IsUnit}
 use Rattle.source_texts.specs.declared.shape.TheConstants.{LONGEST_LINE}
 use Rattle.source_texts.specs.Sources.{most_lines}
 use Rattle.task_job.specs.Below.source_machine.specs.Stores.{Store, most_live, last_number}
-use Rattle.task_job.specs.Below.source_machine.specs.Tasks.{Command, Doing, Idle, Entering, Running, Own, ending, world_of, store_in, own_variables, spent, with_doing}
-use Rattle.task_job.specs.Standing.{Keeps, Left, Leaves, RunsFor, IsSoundJob}
+use Rattle.task_job.specs.Below.source_machine.specs.Tasks.{Command, Doing, Idle, Entering, Running, Own, ending, world_of, store_in, own_variables, spent, request_of, with_doing}
+use Rattle.task_job.specs.Standing.{Keeps, Left, Leaves, RunsFor, Receives, IsSoundJob}
 use Rattle.task_job.specs.declared.job.Job.{Job}
 use Rattle.live_task.specs.declared.task.Task.{Task}
 use Rattle.live_task.specs.declared.task.Doing.{Doing as Does}
@@ -43,6 +45,18 @@ pub record StandsOver (kinds : List Kind) (pages : Pages) (task : Task) (own : O
   pub own_are : own_variables c ≡ length kinds
   pub kinds_are : packet_kinds c.unit.core.packets ≡ kinds
   pub leaves : Leaves kinds c.unit.core.inserted pages task.memory (store_in w)
+
+-- what an answer does to the data spaces of a task is done; to those of one that asks nothing nothing is
+abbrev pub Received : Option Request → Answer → Pages → Pages → MemoryData → MemoryData → Type 0
+Received None a old new m n = (old ≡ new) × (m ≡ n)
+Received (Some q) a old new m n = Receives q a old new m n
+
+-- A task stood for this, and what an answer does to its data spaces was done since: with the answer it stands for what the other is with it.
+pub record Due (kinds : List Kind) (pages : Pages) (task : Task) (own : Own) (a : Answer) : Type 0 where
+  pub old : Pages
+  pub before : MemoryData
+  pub stood : StandsFor kinds old (record task { memory = before }) own
+  pub received : Received (request_of own.doing) a old pages before task.memory
 
 -- ---- a task is sound
 

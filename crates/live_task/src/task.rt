@@ -1,6 +1,7 @@
 //! A task.
 ghost use Rattle.std.specs.Prelude.{◌≡◌, ◌≤◌, [], ◌∷◌, ◌++◌, List, length, IfOk, OnOk, OnErr, option_copied};
 ghost use Rattle.eu_base.specs.declared.value.Kind.{Kind};
+ghost use Rattle.eu_base.specs.Requests.{Answer};
 ghost use Rattle.cell_kinds.specs.Kinds.{packet_kinds};
 ghost use Rattle.page_pool.specs.Pool.{Pages};
 ghost use Rattle.page_table.specs.Frames.{Frames, Stands};
@@ -14,7 +15,7 @@ ghost use Rattle.task_job.specs.Below.source_machine.specs.Monitor.{with_packet}
 ghost use Rattle.elan_types.specs.Eval.{World};
 ghost use Rattle.live_task.specs.declared.task.Doing.TheVariants.{Idle, Running};
 ghost use Rattle.task_job.specs.declared.job.Job.{Job};
-ghost use Rattle.live_task.specs.Stands.{StandsFor, StandsOver, IsSound, IsWhole, EndsAs, WentOn, HaltedAs};
+ghost use Rattle.live_task.specs.Stands.{StandsFor, StandsOver, Due, IsSound, IsWhole, EndsAs, WentOn, HaltedAs};
 
 use code_form::{Code, Halt};
 use eu_base::{Bytes, List, NoMemory, Reply, Request, Stop};
@@ -173,12 +174,13 @@ impl Task {
         }
     }
 
-    /// Gets a reply, where it asks something, and goes on to right before its next mark. Where it asks nothing, nothing changes.
+    /// Gets the reply of an answer that is due, where it asks something, and goes on to right before its next mark. Where it asks nothing, nothing
+    /// changes.
     pub fn answer(&mut self, pool: &mut Pool, reply: Reply) -> Result<(), NoMemory>
         requires sound { IsSound self.old }
         requires agree { StandsWhole pool.old (roots self.old.memory) }
-        ensures answered { OnOk result ((kinds : List Kind) (own : Own) → StandsFor kinds pool.old self.old own →
-            StandsFor kinds pool.new self.new (with_doing (replied reply own.doing) own)) }
+        ensures answered { OnOk result ((kinds : List Kind) (own : Own) (a : Answer) → a.reply ≡ reply → Due kinds pool.old self.old own a →
+            StandsFor kinds pool.new self.new (with_doing (replied a own.doing) own)) }
         ensures sound { IsSound self.new }
         ensures few { length (roots self.new.memory) ≤ most_roots }
         ensures frames { MemoryFrames pool.old pool.new (roots self.old.memory) (roots self.new.memory) }

@@ -2,9 +2,11 @@ pub mod Closing
 pub mod Counting
 pub mod Fresh
 pub mod Going
+pub mod Handing
 pub mod Opening
 pub mod Over
 pub mod Owning
 pub mod Programs
+pub mod Rooms
 pub mod Standing
 pub mod Zips

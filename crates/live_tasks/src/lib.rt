@@ -2,6 +2,7 @@
 #![tactic(auto)]
 
 mod looks;
+mod messages;
 mod tasks;
 mod texts;
 

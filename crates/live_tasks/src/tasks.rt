@@ -1,7 +1,8 @@
 //! The tasks and their pool.
-ghost use Rattle.std.specs.Prelude.{◌≡◌, ◌==◌, ◌<◌, ◌≤◌, ℕ, List, [], ◌∷◌, ◌++◌, length, remove, Some, None, IfOk, OnOk, option_copied, slice_get};
+ghost use Rattle.std.specs.Prelude.{◌≡◌, ◌==◌, ◌<◌, ◌≤◌, ℕ, List, [], ◌∷◌, ◌++◌, length, remove, true, Some, None, IfOk, OnOk, option_copied, slice_get};
 ghost use Rattle.std.specs.List.{list_any};
 ghost use Rattle.eu_base.specs.declared.value.Kind.{Kind};
+ghost use Rattle.eu_base.specs.Requests.{plain, is_plain};
 ghost use Rattle.cell_kinds.specs.Kinds.{packet_kinds};
 ghost use Rattle.code_gen.specs.Correct.{Behaves};
 ghost use Rattle.elan_types.specs.Eval.{World};
@@ -130,11 +131,13 @@ impl Tasks {
         task.go_on(&mut self.pool, marks)
     }
 
-    /// A task gets a reply, where it asks something, and goes on to right before its next mark. Where it asks nothing, nothing changes.
+    /// A task gets a reply that is no message, where it asks something, and goes on to right before its next mark. Where it asks nothing, nothing
+    /// changes.
     pub fn answer(&mut self, k: usize, reply: Reply) -> Result<(), NoMemory>
         requires task { k < length self.old.tasks }
+        requires plain { is_plain reply ≡ true }
         ensures { OnOk result ((kinds_of : List ℕ → List Kind) (owns : List Own) → Stand kinds_of self.old owns →
-            Stand kinds_of self.new (with_own k (λ o. with_doing (replied reply o.doing) o) owns)) }
+            Stand kinds_of self.new (with_own k (λ o. with_doing (replied (plain reply) o.doing) o) owns)) }
     {
         let task = &mut self.tasks[k];
         task.answer(&mut self.pool, reply)

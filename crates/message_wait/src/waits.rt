@@ -1,6 +1,7 @@
 //! Tasks that wait for each other.
 ghost use Rattle.std.specs.Prelude.{◌≡◌, ◌+◌, ◌<◌, ◌≤◌, false, None, Some, length, option_map, position, IfOk, IfSome, OnErr, OnOk};
-ghost use Rattle.std.specs.List.{position_or_len};
+ghost use Rattle.std.specs.List.{list_any, position_or_len};
+ghost use Rattle.task_numbers.specs.Numbers.{is_task};
 ghost use Rattle.message_wait.specs.Rendezvous as spec;
 
 use containers::{List, NoMemory};
@@ -143,6 +144,25 @@ impl Waits {
         ensures { spec.AreByNumber self.now.receivers }
     {
         let _receivers = &self.receivers;
+    }
+
+    /// Whether a task waits: for a message, or with its own.
+    pub fn is_waiting(&self, task: TaskNo) -> bool
+        ensures { result ≡ spec.is_waiting task self.now }
+    {
+        self.is_calling(task) || self.is_receiving(task)
+    }
+
+    fn is_calling(&self, task: TaskNo) -> bool
+        ensures { result ≡ list_any (λ c. is_task c.from task) self.now.callers }
+    {
+        self.callers.iter().any(|caller| caller.from.is(task))
+    }
+
+    fn is_receiving(&self, task: TaskNo) -> bool
+        ensures { result ≡ list_any (λ r. is_task r.task task) self.now.receivers }
+    {
+        self.receivers.iter().any(|receiver| receiver.task.is(task))
     }
 
     fn first_call(&self, task: TaskNo) -> Option<usize>

@@ -17,7 +17,7 @@ use Rattle.elan_check.specs.declared.error.CheckError.TheVariants as semantic
 use Rattle.elan_check.specs.Text as tree
 use Rattle.packet_store.specs.declared.error.CompileError.{CompileError}
 use Rattle.packet_store.specs.declared.error.Refusal.TheVariants.{NotElan}
-use Rattle.packet_store.specs.Meaning.{HasTokens, no_token, too_many, no_tree, not_built, no_meaning, of_lexer, of_parser, of_check, IsCause, IsRefused}
+use Rattle.packet_store.specs.Meaning.{HasTokens, no_token, too_many, no_tree, no_meaning, of_lexer, of_parser, of_check, IsCause, IsRefused}
 
 module _ (env : Env) (packet : Bool) (text : List ℕ) where
   -- what `?` hands on is the cause
@@ -41,8 +41,6 @@ module _ (env : Env) (packet : Bool) (text : List ℕ) where
       subst (λ (z : ℕ). IsRefused env packet text (NotElan z)) (sym p.2) (no_tree {n = p.0} has (none at refl) p.1)
 
   pub check_refuses : (ts : List Token) (t : Tree) (q : CheckError) → HasTokens text ts → Reads packet ts t
-      → tree.IsRefusal (tree.Refused env t) (Err q) → (◌≡◌ {A = Result Core CheckError} (Err q) (Err semantic.NotBuilt) → tree.IsNotBuilt t)
-      → IsCause env packet text (of_check q)
-  check_refuses ts t semantic.NoMemory has reads first unbuilt = tt
-  check_refuses ts t (semantic.NoMeaning place why) has reads first unbuilt = no_meaning t has reads first
-  check_refuses ts t semantic.NotBuilt has reads first unbuilt = not_built t has reads (unbuilt refl)
+      → tree.IsRefusal (tree.Refused env t) (Err q) → IsCause env packet text (of_check q)
+  check_refuses ts t semantic.NoMemory has reads first = tt
+  check_refuses ts t (semantic.NoMeaning place why) has reads first = no_meaning t has reads first

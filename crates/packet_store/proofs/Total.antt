@@ -13,7 +13,7 @@ use Rattle.elan_grammar.proofs.GrammarLaws.{is_read, refused_run, some_left}
 use Rattle.elan_grammar.proofs.PlaceLaws.{some_place}
 use Rattle.elan_scope.specs.declared.env.Env.{Env}
 use Rattle.elan_check.specs.Text as tree
-use Rattle.packet_store.specs.Meaning.{HasTokens, means, no_token, too_many, no_tree, not_built, no_meaning, HasOutcome, meaning, refusal}
+use Rattle.packet_store.specs.Meaning.{HasTokens, means, no_token, too_many, no_tree, no_meaning, HasOutcome, meaning, refusal}
 
 -- tokens have a tree or none
 has_tree : (packet : Bool) (ts : List Token) → ((t : Tree) × Reads packet ts t) ⊎ ((t : Tree) → Reads packet ts t → ⊥)
@@ -37,7 +37,6 @@ module _ (env : Env) (answers : (t : Tree) → tree.HasAnswer env t) (packet : B
       by : tree.HasAnswer env r.0 → HasOutcome env packet text
       by (tree.meaning c m) = meaning c (means r.0 has r.1 m)
       by (tree.refusal f k) = refusal _ (no_meaning r.0 has r.1 k)
-      by (tree.not_yet n) = refusal _ (not_built r.0 has r.1 n)
 
   pub has_outcome : (text : List ℕ) → HasOutcome env packet text
   has_outcome text = by (tokens_of text) refl

@@ -16,7 +16,7 @@ use Rattle.elan_check.specs.declared.error.CheckError.{CheckError}
 use Rattle.elan_check.specs.declared.error.CheckError.TheVariants as semantic
 use Rattle.elan_check.specs.Text as tree
 use Rattle.packet_store.specs.declared.error.Refusal.{Refusal}
-use Rattle.packet_store.specs.declared.error.Refusal.TheVariants.{NoToken, TooMany, NotElan, NotBuilt, NoMeaning}
+use Rattle.packet_store.specs.declared.error.Refusal.TheVariants.{NoToken, TooMany, NotElan, NoMeaning}
 use Rattle.packet_store.specs.declared.error.CompileError.{CompileError}
 use Rattle.packet_store.specs.declared.error.CompileError.TheVariants.{NoMemory, Refused}
 
@@ -35,7 +35,6 @@ pub data IsRefused (env : Env) (packet : Bool) (text : List ℕ) : Refusal → T
   too_many : limited (tokens_of text) ≡ Err lex.TooMany → IsRefused env packet text TooMany
   no_tree : {ts : List Token} {n : ℕ} → HasTokens text ts → ((t : Tree) → Reads packet ts t → ⊥) → IsPlace packet ts n
       → IsRefused env packet text (NotElan (place_of ts n))
-  not_built : {ts : List Token} (t : Tree) → HasTokens text ts → Reads packet ts t → tree.IsNotBuilt t → IsRefused env packet text NotBuilt
   no_meaning : {ts : List Token} {place : ℕ} {why : Why} (t : Tree) → HasTokens text ts → Reads packet ts t → tree.Refused env t (place, why)
       → IsRefused env packet text (NoMeaning place why)
 
@@ -62,4 +61,3 @@ of_parser (syntactic.NotElan place) = Refused (NotElan place)
 abbrev pub of_check : CheckError → CompileError
 of_check semantic.NoMemory = NoMemory
 of_check (semantic.NoMeaning place why) = Refused (NoMeaning place why)
-of_check semantic.NotBuilt = Refused NotBuilt

@@ -19,8 +19,6 @@ pub enum Refusal {
     TooMany,
     /// It is no text of ELAN from this place on.
     NotElan(u32),
-    /// It has what is not built yet.
-    NotBuilt,
     /// The place of the first phrase that breaks a rule, and the rule.
     NoMeaning(u32, Why),
 }
@@ -94,7 +92,6 @@ impl From<CheckError> for CompileError {
             CheckError::NoMeaning(place, why) => {
                 CompileError::Refused(Refusal::NoMeaning(place, why))
             }
-            CheckError::NotBuilt => CompileError::Refused(Refusal::NotBuilt),
         }
     }
 }

@@ -14,13 +14,13 @@ ghost use Rattle.packet_store.specs.Units.{BodiesKeepTheirNumbers, HasPacket, Is
 use elan_check::{each_text_has_one_answer, meant_is_not_refused, one_core, one_refusal};
 use elan_parser::one_tree;
 
-/// Behind packets each text has a meaning or is refused, and only one of these.
+/// Behind packets each text has a meaning or is refused; no text has both, nor two meanings or two refusals.
 pub fn one_meaning()
     ensures some { (env : Env) → AreCompiled env → (packet : Bool) → (text : List ℕ) → HasOutcome env packet text }
     ensures one { (env : Env) → (packet : Bool) → (text : List ℕ) → (c : Core) → (d : Core) → Means env packet text c → Means env packet text d → c ≡ d }
-    ensures not_both { (env : Env) → AreCompiled env → (packet : Bool) → (text : List ℕ) → (c : Core) → (r : Refusal)
+    ensures not_both { (env : Env) → (packet : Bool) → (text : List ℕ) → (c : Core) → (r : Refusal)
         → Means env packet text c → IsRefused env packet text r → ⊥ }
-    ensures one_refusal { (env : Env) → AreCompiled env → (packet : Bool) → (text : List ℕ) → (q : Refusal) → (r : Refusal)
+    ensures one_refusal { (env : Env) → (packet : Bool) → (text : List ℕ) → (q : Refusal) → (r : Refusal)
         → IsRefused env packet text q → IsRefused env packet text r → q ≡ r }
 {
     one_tree();
@@ -39,7 +39,6 @@ pub fn one_unit()
     one_core();
     one_refusal();
     meant_is_not_refused();
-    each_text_has_one_answer();
 }
 
 /// What is inserted under a number is what was compiled: the meaning of each text behind a packet has the packet's bodies unchanged, and

@@ -2,18 +2,24 @@
 use Rattle.std.proofs.Common.{◌≡◌, ℕ, zero, suc, ◌+◌, ◌<◌, ◌≤◌, List, [], ◌∷◌, ◌++◌, map, length, Option, Some, None, Bool, true, false, cond, refl, sym, ap, ◌∙◌}
 use Rattle.std.proofs.Common.{◌&&◌, ⊎_elim, subst, arith, append_assoc, length-append}
 use Rattle.std.specs.Prelude.{slice_get, Ok, Err}
-use Rattle.eu_base.specs.Values.{kind_of}
+use Rattle.eu_base.specs.Values.{kind_of, space_in}
 use Rattle.eu_base.specs.SpacePlaces.{is_in}
 use Rattle.eu_base.proofs.Results.{kind_is}
 use Rattle.eu_base.specs.declared.address.TheConstants.{CELLS}
 use Rattle.eu_base.specs.declared.value.Kind.{Kind}
+use Rattle.eu_base.specs.declared.value.Kind.TheVariants as kinds
+use Rattle.eu_base.specs.declared.value.Value.TheVariants as item
+use Rattle.eu_base.specs.declared.request.RequestName.{RequestName}
 use Rattle.eu_base.specs.declared.value.Value.{Value}
 use Rattle.eu_base.specs.declared.stop.Stop.{Stop}
 use Rattle.eu_base.specs.declared.stop.Stop.TheVariants.{Index, OperandRoom, TextRoom, NoSpace}
 use Rattle.eu_base.specs.declared.request.Request.{Request}
 use Rattle.eu_base.specs.declared.request.Reply.{Reply}
 use Rattle.eu_base.specs.declared.request.Reply.TheVariants as replies
+use Rattle.eu_base.specs.Requests.{Answer, then_asked, request_of}
+use Rattle.eu_base.specs.Cells.{Cell as Known, Free, Word, Letters}
 use Rattle.eu_base.specs.Values.{IsOf}
+use Rattle.eu_base.specs.SoundSpaces.{AllCanCome}
 use Rattle.eu_base.specs.Operations.{Given}
 use Rattle.eu_base.specs.declared.shape.Shape.{Shape}
 use Rattle.eu_base.specs.declared.shape.Shape.TheVariants.{Cell}
@@ -37,7 +43,7 @@ use Rattle.code_form.specs.declared.code.Spot.{Spot}
 use Rattle.code_form.specs.declared.code.Entry.{Entry}
 use Rattle.code_form.specs.declared.code.Layout.TheVariants as layouts
 use Rattle.code_form.specs.Program.{Program, kinds_in_packets, line_of, instr_of, owner}
-use Rattle.code_form.specs.Machine.{Frame, Position, Control, free, asking, given, refused, answered, After as AfterMark, To, Asks as AsksFor, Move}
+use Rattle.code_form.specs.Machine.{Frame, Position, Control, free, asking, given, refused, answered, answered_by, after_reply, After as AfterMark, To, Asks as AsksFor, Stops, after_word, asks_with, on_word, Move}
 use Rattle.code_form.specs.Machine.{Goes, Spends, Halts, Refuses, Ends as EndsHere, Unknown, takes, takes_all, written_all, at, operand_of, operand_bytes, bytes_on, bytes_of}
 use Rattle.code_form.specs.Machine.{Mem, with_cells, if_there as looks, base_of, back_to, out_to}
 use Rattle.code_form.specs.Machine.{instruction, step, takes_reply, Scene, Rest, rest_at, Stage, On, after_stage, mark_stage, reply_stage, move_stage}
@@ -46,18 +52,19 @@ use Rattle.code_form.specs.Valid.{IsRefinement}
 use Rattle.elan_types.specs.declared.core_phrase.Exit.{Exit}
 use Rattle.elan_types.specs.declared.core_phrase.Exit.TheVariants as exits
 use Rattle.elan_types.specs.Eval.{Place, World, Outcome, Gives, Left, Stopped, OutOfMarks, Asks, bind, spend_at, spend}
-use Rattle.elan_types.specs.Eval.{heed, ask_at, ask, branch, or_stop, or_outside, the, slots_in, assign, save, store_blocks, turns, Calls, Reach, holding}
-use Rattle.elan_types.specs.Eval.{Slot, Taken, is_there, if_there, Passed, AsValue, AsPlace, all_slots}
+use Rattle.elan_types.specs.Eval.{heed, followed, after_answer, ask_at, ask, branch, or_stop, or_outside, the, slots_in, assign, save, store_blocks, turns, Calls, Reach, holding}
+use Rattle.elan_types.specs.Eval.{Slot, Taken, is_there, if_there, fetch, load, Passed, AsValue, AsPlace, all_slots}
 use Rattle.elan_types.specs.Command as endings
 use Rattle.elan_types.specs.Command.{Ending}
-use Rattle.place_gen.specs.Stretch.{Stretch, join}
+use Rattle.code_draft.specs.Stretch.{Stretch, join}
 use Rattle.place_gen.specs.Correct.{addr_of, StandsFor, Image, RestsAs, Shows, Comes, scene_of}
 use Rattle.place_gen.proofs.Lines.{HasAt, has_front, has_rest}
 use Rattle.elan_types.proofs.Shapes.{cell_is}
 use Rattle.place_gen.proofs.Homes.{LeftBy, frame_uses}
 use Rattle.place_gen.proofs.Cells.{Use, OfValue, Uses, AtPlace, AreCounts, counts_append, get_back, get_right, Keeps, image, all_variables, has_spaces}
-use Rattle.place_gen.proofs.Spans.{AreOf, IsFound, found, takes_values}
+use Rattle.place_gen.proofs.Spans.{AreOf, IsFound, found, reads_one, takes_values}
 use Rattle.place_gen.proofs.Spaces.{writes_all}
+use Rattle.place_gen.proofs.Coming.{answer_keeps}
 use Rattle.place_gen.proofs.Blocks.{held_blocks, same_blocks}
 
 -- what an outcome goes on to, after a result and by an exit
@@ -263,14 +270,32 @@ module _ (p : Program) where
   stop_ends L c w s h = λ memory keeps. stop_comes L (free c) w s memory keeps (does c (scene_of w memory) (Halts s) (h memory))
 
   -- what is refused stops in the next step
-  pub refuse_ends : (L : Uses) (c c' : Position) (w : World) (s : Stop) → ((memory : Mem) → step p c memory ≡ Refuses s c')
-      → Ends L c w (endings.Stopped s w)
-  refuse_ends L c c' w s h = λ memory keeps. on_move c (scene_of w memory) (Refuses s c') (endings.Stopped s w) (h memory) (record {
+  pub refuse_comes : (L : Uses) (d : Control) (c' : Position) (w now : World) (s : Stop) (memory after : Mem) → now.marks ≡ w.marks → now.replies ≡ w.replies
+      → Keeps P L now after → Does d (scene_of w memory) (Refuses s c' after) → Comes p d (scene_of w memory) (endings.Stopped s now)
+  refuse_comes L d c' w now s memory after marks replies keeps h = on_does d (scene_of w memory) (Refuses s c' after) (endings.Stopped s now) h (record {
     steps = 1;
-    rest = rest_at (halts.Stopped s) (refused c' s) (scene_of w memory);
+    rest = rest_at (halts.Stopped s) (refused c' s) (scene_of w after);
     comes = refl;
-    shows = resting (halts.Stopped s) (refused c' s) w memory keeps;
+    shows = rested_as;
   })
+    where
+      there : RestsAs p (halts.Stopped s) now (rest_at (halts.Stopped s) (refused c' s) (scene_of now after))
+      there = resting (halts.Stopped s) (refused c' s) now after keeps
+
+      rested_as : RestsAs p (halts.Stopped s) now (rest_at (halts.Stopped s) (refused c' s) (scene_of w after))
+      rested_as = record {
+        how = refl;
+        marks = sym marks;
+        replies = sym replies;
+        command = there.command;
+        packets = there.packets;
+        spaces = there.spaces;
+      }
+
+  pub refuse_ends : (L : Uses) (c c' : Position) (w : World) (s : Stop) → ((memory : Mem) → step p c memory ≡ Refuses s c' memory)
+      → Ends L c w (endings.Stopped s w)
+  refuse_ends L c c' w s h = λ memory keeps.
+      refuse_comes L (free c) c' w w s memory memory refl refl keeps (does c (scene_of w memory) (Refuses s c' memory) (h memory))
 
   pub end_ends : (L : Uses) (c : Position) (w : World) → ((memory : Mem) → step p c memory ≡ EndsHere) → Ends L c w (endings.Ended w)
   end_ends L c w h = λ memory keeps. on_move c (scene_of w memory) EndsHere (endings.Ended w) (h memory) (record {
@@ -421,34 +446,57 @@ module _ (p : Program) where
   no_turns (suc m) a c w memory le h = absurd (omega arith)
 
   -- a reply is heeded: it stops, or its instruction goes on with it
-  heeded : {L : Uses} {A : Type 0} {Good : Uses → A → Type 0} (b : ℕ) (r : Reply) (q : Request) (c : Position) (run : Reply → World → Outcome A)
+  heeded : {L : Uses} {A : Type 0} {Good : Uses → A → Type 0} (b : ℕ) (r : Reply) (c : Position) (run : Reply → World → Outcome A)
       (to : A → Position) → ((r : Reply) → Answers L Good b c r (run r) to) → (k : A → World → Ending) (l : Exit → Option (List Value) → World → Ending)
       → ((a : A) (w : World) → Good L a → w.marks ≤ b → Ends L (to a) w (k a w)) → (w : World) → w.marks ≤ b → (memory : Mem) → Keeps P L w memory
-      → Comes p (answered q r c) (scene_of w memory) (finish (heed r run w) k l)
-  heeded b replies.Done q c run to h k l hk w le memory keeps = (h replies.Done).by k l hk w le memory keeps
-  heeded b (replies.Text t) q c run to h k l hk w le memory keeps = (h (replies.Text t)).by k l hk w le memory keeps
-  heeded b (replies.Task n) q c run to h k l hk w le memory keeps = (h (replies.Task n)).by k l hk w le memory keeps
-  heeded b (replies.Truth t) q c run to h k l hk w le memory keeps = (h (replies.Truth t)).by k l hk w le memory keeps
-  heeded {L} b (replies.Stopped s) q c run to h k l hk w le memory keeps = record {
+      → Comes p (answered_by None r c) (scene_of w memory) (finish (heed r run w) k l)
+  heeded b replies.Done c run to h k l hk w le memory keeps = (h replies.Done).by k l hk w le memory keeps
+  heeded b (replies.Text t) c run to h k l hk w le memory keeps = (h (replies.Text t)).by k l hk w le memory keeps
+  heeded b (replies.Task n) c run to h k l hk w le memory keeps = (h (replies.Task n)).by k l hk w le memory keeps
+  heeded b (replies.Truth t) c run to h k l hk w le memory keeps = (h (replies.Truth t)).by k l hk w le memory keeps
+  heeded b replies.Taken c run to h k l hk w le memory keeps = (h replies.Taken).by k l hk w le memory keeps
+  heeded b (replies.Receipt z) c run to h k l hk w le memory keeps = (h (replies.Receipt z)).by k l hk w le memory keeps
+  heeded b (replies.Message code from space) c run to h k l hk w le memory keeps = (h (replies.Message code from space)).by k l hk w le memory keeps
+  heeded {L} b (replies.Stopped s) c run to h k l hk w le memory keeps = record {
     steps = 1;
     rest = rest_at (halts.Stopped s) (refused c s) (scene_of w memory);
     comes = refl;
     shows = resting (halts.Stopped s) (refused c s) w memory keeps;
   }
 
-  replied : {L : Uses} {A : Type 0} {Good : Uses → A → Type 0} (b : ℕ) (rs : List Reply) (q : Request) (c : Position) (run : Reply → World → Outcome A)
+  -- a request takes the next answer
+  replied : {L : Uses} {A : Type 0} {Good : Uses → A → Type 0} (b : ℕ) (as' : List Answer) (q : Request) (c : Position) (run : Reply → World → Outcome A)
       (to : A → Position) → ((r : Reply) → Answers L Good b c r (run r) to) → (k : A → World → Ending) (l : Exit → Option (List Value) → World → Ending)
-      → ((a : A) (w : World) → Good L a → w.marks ≤ b → Ends L (to a) w (k a w)) → (w : World) → w.marks ≤ b → (memory : Mem) → Keeps P L w memory
-      → After (reply_stage rs q c (scene_of w memory)) (finish (ask_at rs q w run) k l)
-  replied {L} b [] q c run to h k l hk w le memory keeps = record {
+      → ((a : A) (w : World) → Good L a → w.marks ≤ b → Ends L (to a) w (k a w)) → (w : World) → w.marks ≤ b → as' ≡ w.replies → (memory : Mem)
+      → Keeps P L w memory → After (reply_stage as' q c (scene_of w memory)) (finish (ask_at as' q w run) k l)
+  replied {L} b [] q c run to h k l hk w le is memory keeps = record {
     steps = 0;
     rest = rest_at (halts.Asks q) (asking c q) (scene_of w memory);
     comes = refl;
     shows = resting (halts.Asks q) (asking c q) w memory keeps;
   }
-  replied b (r ∷ rs) q c run to h k l hk w le memory keeps =
-      let next : World = record w { replies = rs } in
-      going (answered q r c) (scene_of next memory) _ (heeded b r q c run to h k l hk next le memory keeps)
+  replied {L} b (a ∷ as') q c run to h k l hk w le is memory keeps =
+      going (answered q a.reply c) (scene_of next after) _
+      (by (λ again kept. replied b as' again c run to h k l hk next le refl after kept) (then_asked q a.reply))
+    where
+      next : World
+      next = after_answer q a as' w
+
+      after : Mem
+      after = after_reply q a memory
+
+      come : AllCanCome (a ∷ as')
+      come = subst AllCanCome (sym is) keeps.answers
+
+      kept : Keeps P L next after
+      kept = answer_keeps P L q a as' w memory come.0 come.1 keeps
+
+      by : ((again : Request) → Keeps P L next after → After (reply_stage as' again c (scene_of next after)) (finish (ask_at as' again next run) k l))
+          → (o : Option Request) → Comes p (answered_by o a.reply c) (scene_of next after) (finish (followed o a.reply (λ q w. ask_at as' q w run) run next) k l)
+      by more None = heeded b a.reply c run to h k l hk next le after kept
+      by more (Some again) =
+          let x = more again kept in
+          record { steps = suc x.steps; rest = x.rest; comes = x.comes; shows = x.shows }
 
   module _ {L : Uses} {body : Option ℕ} {fs : List Frame} where
     -- what follows a phrase
@@ -538,9 +586,55 @@ module _ (p : Program) where
         → Carries L body fs Good b c (ask q run) to
     ask_carries b q c run to e r = spend_carries b c (λ memory. AsksFor c q memory) (λ w. ask_at w.replies q w run) to e (λ b' lt. record {
       by = λ k l hk hl w le memory h.
-          let a = replied b' w.replies q c run to (r b') k l hk w le memory h in
+          let a = replied b' w.replies q c run to (r b') k l hk w le refl memory h in
           record { steps = suc a.steps; rest = a.rest; comes = a.comes; shows = a.shows };
     })
+
+    -- one that sends a data space, which stands in a variable and is looked at once the mark is spent
+    pub send_carries : {A : Type 0} {Good : Uses → A → Type 0} (b : ℕ) (name : RequestName) (vs : List Value) (x : Place) (os : List Operand) (c : Position)
+        (run : Reply → World → Outcome A) (to : A → Position) → AtPlace P (kinds.Space ∷ []) L x
+        → ((memory : Mem) → step p c memory ≡ Spends (asks_with name vs (At (addr_of x) ∷ os) c memory))
+        → ((b' : ℕ) (r : Reply) → Answers L Good b' c r (run r) to)
+        → Carries L body fs Good b c (spend (load kinds.Space x (λ v w. ask_at w.replies (request_of name (v ∷ vs)) w run))) to
+    send_carries {A} {Good} b name vs x os c run to at_x e r =
+        spend_carries b c (λ memory. asks_with name vs (At (addr_of x) ∷ os) c memory)
+        (load kinds.Space x (λ v w. ask_at w.replies (request_of name (v ∷ vs)) w run)) to e (λ b' lt. record {
+          by = λ k l hk hl w le memory h.
+              subst (λ (t : Bool). After (after_stage (cond t (looked memory) (Stops NoSpace)) (free c) (scene_of w memory))
+              (finish (load kinds.Space x (λ v w. ask_at w.replies (request_of name (v ∷ vs)) w run) w) k l))
+              (sym (ap (is_in (kinds.Space ∷ []) x.area x.variable) h.spaces.heads))
+              (by b' k l hk w le memory h (is_there (kinds.Space ∷ []) x w) refl);
+        })
+      where
+        looked : Mem → AfterMark
+        looked memory = after_word (memory.cells (addr_of x)) (λ n. AsksFor c (request_of name (item.Space (space_in n) ∷ vs)) memory)
+
+        -- a cell that is read holds a number
+        word_there : (cell : Known) (f : ℕ → AfterMark) (a : AfterMark) → on_word cell (λ n. Spends (f n)) ≡ Spends a → after_word cell f ≡ a
+        word_there Free f a e = absurd (cc e)
+        word_there (Word n) f a e = cc e
+        word_there (Letters t) f a e = absurd (cc e)
+
+        by : (b' : ℕ) (k : A → World → Ending) (l : Exit → Option (List Value) → World → Ending)
+            → ((a : A) (w : World) → Good L a → w.marks ≤ b' → Ends L (to a) w (k a w)) → (w : World) → w.marks ≤ b' → (memory : Mem) → Keeps P L w memory
+            → (t : Bool) → is_there (kinds.Space ∷ []) x w ≡ t
+            → After (after_stage (cond t (looked memory) (Stops NoSpace)) (free c) (scene_of w memory))
+            (finish (branch t (λ w. ask_at w.replies (request_of name (fetch x w ∷ vs)) w run) (Stopped NoSpace) w) k l)
+        by b' k l hk w le memory h false there = record {
+          steps = 0;
+          rest = rest_at (halts.Stopped NoSpace) (free c) (scene_of w memory);
+          comes = refl;
+          shows = resting (halts.Stopped NoSpace) (free c) w memory h;
+        }
+        by b' k l hk w le memory h true there =
+            let q = request_of name (fetch x w ∷ vs) in
+            let f = λ (n : ℕ). AsksFor c (request_of name (item.Space (space_in n) ∷ vs)) memory in
+            let got =
+            reads_one P L w memory x kinds.Space (λ v. Spends (AsksFor c (request_of name (v ∷ vs)) memory)) h (found P (kinds.Space ∷ []) L w x at_x there) in
+            let a = replied b' w.replies q c run to (r b') k l hk w le refl memory h in
+            subst (λ (after : AfterMark). After (after_stage after (free c) (scene_of w memory)) (finish (ask_at w.replies q w run) k l))
+            (sym (word_there (memory.cells (addr_of x)) f (AsksFor c q memory) got.1))
+            (record { steps = suc a.steps; rest = a.rest; comes = a.comes; shows = a.shows })
 
     -- no marks, and so no turns and no calls
     pub out_carries : {A : Type 0} {Good : Uses → A → Type 0} (b : ℕ) (c : Position) (a : Mem → AfterMark) (to : A → Position) → b ≤ 0

@@ -25,7 +25,8 @@ use Rattle.eu_base.specs.DataSpaces.{Head, Heads, Spaces, heads_of, no_head}
 use Rattle.std.specs.List.{AllByRecursion}
 use Rattle.std.specs.Map.{lookup}
 use Rattle.std.specs.Option.{unwrap_or}
-use Rattle.eu_base.specs.SoundSpaces.{AreSpaces}
+use Rattle.eu_base.specs.SoundSpaces.{AreSpaces, AllCanCome}
+use Rattle.eu_base.specs.Requests.{Answer}
 use Rattle.eu_base.specs.SpacePlaces.{kinds_of, values_of, shaped_kinds}
 use Rattle.eu_base.specs.Cells.{Cell, Free, Word, Cells, held_of, IsArea, IsCell, area_cell, run_cell, packet_cell, space_cell, written, forgotten, is_between}
 use Rattle.eu_base.specs.Cells.{place_number, place_in}
@@ -196,13 +197,15 @@ pub record KeepsSpaces (P : List Kind) (spaces : Spaces) (m : Mem) : Type 0 wher
   pub each : (s : SpaceNo) → KeepsIn (areas.Space s) P (map OfValue (kinds_of s (heads_of spaces))) (map Holds (values_of s spaces)) m.cells
 
 -- and in all areas
-pub record KeepsAll (P : List Kind) (L : Uses) (store others : List Slot) (all : Spaces) (m : Mem) : Type 0 where
+pub record KeepsAll (P : List Kind) (L : Uses) (store others : List Slot) (all : Spaces) (left : List Answer) (m : Mem) : Type 0 where
   pub command : KeepsIn Run P L store m.cells
   pub packets : KeepsIn Packets P (map OfValue P) others m.cells
   pub spaces : KeepsSpaces P all m
+  -- what comes with the answers that are left can come
+  pub answers : AllCanCome left
 
 abbrev pub Keeps : List Kind → Uses → World → Mem → Type 0
-Keeps P L w m = KeepsAll P L w.store w.packets w.spaces m
+Keeps P L w m = KeepsAll P L w.store w.packets w.spaces w.replies m
 
 pub kept_in : (area : Area) (P : List Kind) (L : Uses) (w : World) (m : Mem) → Keeps P L w m
     → KeepsIn area P (uses_in P L (heads_of w.spaces) area) (slots_in area w) m.cells
@@ -450,6 +453,7 @@ cuts gone P L M w m n from used is from_is used_is lost h = record {
   command = cuts_command gone P L M w.store m.cells n from used is from_is used_is lost h.command;
   packets = packets_stay P (map OfValue P) w.packets m.cells (emptied gone from used m.cells) (λ x. refl) h.packets;
   spaces = spaces_stay P w.spaces m (emptied gone from used m.cells) (λ s x. refl) h.spaces;
+  answers = h.answers;
 }
 
 -- a limit is a number, which can be forgotten
@@ -558,6 +562,7 @@ extends_one P L w m k s n h g =
       command = extends_command P L w.store m.cells k s n h.command g;
       packets = packets_stay P (map OfValue P) w.packets m.cells now (λ x. refl) h.packets;
       spaces = spaces_stay P w.spaces m now (λ s x. refl) h.spaces;
+      answers = h.answers;
     }
 
 pub extends : (P : List Kind) (M : Uses) (L : Uses) (w : World) (more : List Slot) (m : Mem) (numbers : List Cell) → Keeps P L w m
@@ -568,4 +573,5 @@ extends P M L w more m numbers h g =
       command = extends_all P M L w.store more m.cells numbers h.command g;
       packets = packets_stay P (map OfValue P) w.packets m.cells now (λ x. beside_frame numbers (length L) x m.cells) h.packets;
       spaces = spaces_stay P w.spaces m now (λ s x. beside_spaces numbers (length L) s x m.cells) h.spaces;
+      answers = h.answers;
     }

@@ -23,8 +23,10 @@ use Rattle.eu_base.specs.Shapes.{cell_kinds}
 use Rattle.eu_base.specs.Values.{SpaceNo, IsOf, blank_of}
 use Rattle.eu_base.specs.Cells.{Cell, Free, Cells, held_of, area_cell, run_cell, packet_cell, space_cell, same_area}
 use Rattle.eu_base.specs.DataSpaces.{Space, Spaces, Head, Heads, heads_of, heads_in, head_of, no_space, no_head, the_space, the_head, space_from, head_from, is_live, living, under}
-use Rattle.eu_base.specs.DataSpaces.{next_number, shaped, SpaceChange, Makes, Forgets, SetsKind, Fills, Names, Unnames, spaces_by, heads_by, spaces_after}
-use Rattle.eu_base.specs.SpaceCells.{cells_by, cells_from, blank_or}
+use Rattle.eu_base.specs.DataSpaces.{next_number, shaped, SpaceChange, Makes, Gets, Forgets, SetsKind, Fills, Names, Unnames, spaces_by, heads_by, spaces_after}
+use Rattle.eu_base.specs.SpaceCells.{cells_by, cells_from, value_cell, content_cells, blank_or}
+use Rattle.eu_base.specs.SoundSpaces as sound
+use Rattle.eu_base.specs.SoundSpaces.{shape_kinds, IsSpace}
 use Rattle.eu_base.specs.SpacePlaces.{kinds_of, values_of, shaped_kinds}
 use Rattle.eu_base.specs.SpaceOperations.{Plan, space_result_kind, unless, for_one, name_refusal, room_refusal, life_refusal, planned, kind_plan, copy_plan, copy_refusal, bind_plan, fitting_plan, forgetting}
 use Rattle.eu_base.specs.Operations.{text_at, number_at, space_at}
@@ -170,6 +172,52 @@ keeps_copy P s t space cells now same h = record {
   beyond = λ x past. same x ∙ h.beyond x past;
 }
 
+-- a space that another task had
+kinds_are : (o : Option Shape) → shape_kinds o ≡ shaped_kinds o
+kinds_are None = refl
+kinds_are (Some shape) = refl
+
+as_many_of : (ks : List Kind) (vs : List Value) → sound.AreOf ks vs → length vs ≡ length ks
+as_many_of [] [] sound.none = refl
+as_many_of [] (v ∷ vs) is = elim is [ ]
+as_many_of (k ∷ ks) [] is = elim is [ ]
+as_many_of (k ∷ ks) (v ∷ vs) (sound.one is more) = ap suc (as_many_of ks vs more)
+
+come_each : (ks : List Kind) (vs : List Value) → sound.AreOf ks vs → (x : ℕ) (k : Kind) → slice_get ks x ≡ Some k
+    → (v : Value) × (slot_at (map Holds vs) x ≡ Holds v) × IsOf k v × (value_cell (slice_get vs x) ≡ held_of v)
+come_each [] [] sound.none x k e = let f : ⊥ = cc in absurd f
+come_each [] (v ∷ vs) is x k e = elim is [ ]
+come_each (j ∷ ks) [] is x k e = elim is [ ]
+come_each (j ∷ ks) (v ∷ vs) (sound.one is more) zero k e = let same : j ≡ k = cc in (v, refl, subst (λ (k : Kind). IsOf k v) same is, refl)
+come_each (j ∷ ks) (v ∷ vs) (sound.one is more) (suc x) k e = come_each ks vs more x k e
+
+none_past : (vs : List Value) (x : ℕ) → length vs ≤ x → value_cell (slice_get vs x) ≡ Free
+none_past [] x le = refl
+none_past (v ∷ vs) zero le = absurd (omega (arith, le))
+none_past (v ∷ vs) (suc x) le = none_past vs x (omega (arith, le))
+
+keeps_content : (P : List Kind) (t : SpaceNo) (content : Space) (now : Cells) → IsSpace content → ((x : ℕ) → now (space_cell t x) ≡ content_cells content x)
+    → KeepsSpace P t content now
+keeps_content P t content now is same =
+    let typed = subst (λ (ks : List Kind). sound.AreOf ks content.values) (kinds_are content.shape) is.values in
+    let ks = shaped_kinds content.shape in
+    record {
+      as_many =
+          length-map content.values Holds ∙ as_many_of ks content.values typed ∙ sym (length-map ks OfValue);
+      each = λ x u e. of typed x u (slice_get ks x) refl (sym (slice_get-map OfValue ks x) ∙ e);
+      beyond = λ x past. same x ∙ none_past content.values x (omega (arith, past, as_many_of ks content.values typed, length-map ks OfValue));
+    }
+  where
+    of : sound.AreOf (shaped_kinds content.shape) content.values → (x : ℕ) (u : Use) (o : Option Kind) → slice_get (shaped_kinds content.shape) x ≡ o
+        → option_map OfValue o ≡ Some u
+        → Kept P (map OfValue (shaped_kinds content.shape)) x u (slot_at (map Holds content.values) x) (now (space_cell t x))
+    of typed x u None e f = absurd (cc f)
+    of typed x u (Some k) e f =
+        let same_use : OfValue k ≡ u = cc in
+        let g = come_each (shaped_kinds content.shape) content.values typed x k e in
+        subst (λ (u : Use). Kept P (map OfValue (shaped_kinds content.shape)) x u (slot_at (map Holds content.values) x) (now (space_cell t x))) same_use
+        (g.0, g.1, g.2, same x ∙ g.3)
+
 -- first values
 blank_is : (k : Kind) → IsOf k (blank_of k)
 blank_is kinds.Int = fits_in_range _ refl
@@ -185,8 +233,9 @@ blank_there (j ∷ ks) (suc x) k e = blank_there ks x k e
 
 -- ---- one change
 
--- a shape is given only to a space in which nothing stands, and has no more cells than a space can have
+-- a shape is given only to a space in which nothing stands, and has no more cells than a space can have; and one that comes has no more either
 abbrev pub CanFill : SpaceChange → Spaces → Type 0
+CanFill (Gets content) spaces = length (shape_kinds content.shape) ≤ CELLS
 CanFill (Fills s shape) spaces = ((the_space s spaces).shape ≡ None) × (is_live s spaces ≡ true) × (length (cell_kinds shape) ≤ CELLS)
 CanFill _ spaces = Unit {0}
 
@@ -235,6 +284,27 @@ module _ (P : List Kind) (spaces : Spaces) (m : Mem) (h : KeepsSpaces P spaces m
           subst (λ (space : Space). KeepsSpace P t space (cells_by (Makes from) m.heads m.cells))
           (sym (ap (λ (o : Option Space). unwrap_or o no_space) (pushed_here (nat_eq t.0) spaces.live (spaces.last + 1) (space_from from spaces) this_one none)))
           (copied t from (cells_by (Makes from) m.heads m.cells) (λ x. within t (next_number m.heads) (cells_from from m.cells) x is))
+
+  came : (content : Space) → IsSpace content → (t : SpaceNo)
+      → KeepsSpace P t (the_space t (spaces_by (Gets content) spaces)) (cells_by (Gets content) m.heads m.cells)
+  came content sound_one t = by (t.0 == (next_number m.heads).0) refl (ap (λ (heads : Heads). heads.last + 1) h.heads)
+    where
+      by : (b : Bool) → (t.0 == (next_number m.heads).0) ≡ b → (next_number m.heads).0 ≡ spaces.last + 1
+          → KeepsSpace P t (the_space t (spaces_by (Gets content) spaces)) (cells_by (Gets content) m.heads m.cells)
+      by false apart last =
+          let other_one : nat_eq t.0 (spaces.last + 1) ≡ false = ap (nat_eq t.0) (sym last) ∙ apart in
+          unchanged t (spaces_by (Gets content) spaces) (cells_by (Gets content) m.heads m.cells)
+          (ap (λ (o : Option Space). unwrap_or o no_space) (pushed_other (nat_eq t.0) spaces.live (spaces.last + 1) content other_one))
+          (λ x. beside t (next_number m.heads) (content_cells content) x apart)
+      by true is last =
+          let number : t.0 ≡ spaces.last + 1 = eqb-true t.0 _ is ∙ last in
+          let this_one : nat_eq t.0 (spaces.last + 1) ≡ true = ap (nat_eq t.0) (sym last) ∙ is in
+          let none =
+          none_of (nat_eq t.0) spaces.live
+          (none_above t.0 0 (heads_of spaces).live spaces.last h.given.rise (omega (arith, number))) in
+          subst (λ (space : Space). KeepsSpace P t space (cells_by (Gets content) m.heads m.cells))
+          (sym (ap (λ (o : Option Space). unwrap_or o no_space) (pushed_here (nat_eq t.0) spaces.live (spaces.last + 1) content this_one none)))
+          (keeps_content P t content (cells_by (Gets content) m.heads m.cells) sound_one (λ x. within t (next_number m.heads) (content_cells content) x is))
 
   gone : (s t : SpaceNo) → KeepsSpace P t (the_space t (spaces_by (Forgets s) spaces)) (cells_by (Forgets s) m.heads m.cells)
   gone s t = by (t.0 == s.0) refl
@@ -346,6 +416,7 @@ module _ (P : List Kind) (spaces : Spaces) (m : Mem) (h : KeepsSpaces P spaces m
     where
       rise : (change : SpaceChange) → Rises 0 (heads_by change (heads_of spaces)).live (heads_by change (heads_of spaces)).last
       rise (Makes from) = rises_push 0 (heads_of spaces).live spaces.last _ h.given.rise
+      rise (Gets content) = rises_push 0 (heads_of spaces).live spaces.last _ h.given.rise
       rise (Forgets s) = rises_gone (nat_eq s.0) 0 (heads_of spaces).live spaces.last h.given.rise
       rise (SetsKind s z) = rises_put (nat_eq s.0) 0 (heads_of spaces).live spaces.last _ h.given.rise
       rise (Fills s shape) = rises_put (nat_eq s.0) 0 (heads_of spaces).live spaces.last _ h.given.rise
@@ -358,6 +429,8 @@ module _ (P : List Kind) (spaces : Spaces) (m : Mem) (h : KeepsSpaces P spaces m
 
       fit : (change : SpaceChange) → CanFill change spaces → AllByRecursion (λ e. length (shaped_kinds e.1.shape) ≤ CELLS) (heads_by change (heads_of spaces)).live
       fit (Makes from) can = fit_push (heads_of spaces).live (spaces.last + 1) (head_from from (heads_of spaces)) h.given.fit (from_fits from)
+      fit (Gets content) can =
+          fit_push (heads_of spaces).live (spaces.last + 1) (head_of content) h.given.fit (subst (λ (ks : List Kind). length ks ≤ CELLS) (kinds_are content.shape) can)
       fit (Forgets s) can = fit_gone (nat_eq s.0) (heads_of spaces).live h.given.fit
       fit (SetsKind s z) can = fit_put (nat_eq s.0) (heads_of spaces).live _ h.given.fit (fit_at s (heads_of spaces) h.given)
       fit (Fills s shape) can = fit_put (nat_eq s.0) (heads_of spaces).live _ h.given.fit can.2
@@ -370,17 +443,18 @@ module _ (P : List Kind) (spaces : Spaces) (m : Mem) (h : KeepsSpaces P spaces m
     heads = ap (heads_by change) h.heads ∙ sym (by_same change spaces);
     sound = change_sound change spaces can h.sound;
     given = subst AreGiven (sym (by_same change spaces)) (given_then change fill);
-    each = λ t. of_space P t (spaces_by change spaces) (cells_by change m.heads m.cells) (each change t fill);
+    each = λ t. of_space P t (spaces_by change spaces) (cells_by change m.heads m.cells) (each change t can fill);
   }
     where
-      each : (change : SpaceChange) (t : SpaceNo) → CanFill change spaces
+      each : (change : SpaceChange) (t : SpaceNo) → CanBe change spaces → CanFill change spaces
           → KeepsSpace P t (the_space t (spaces_by change spaces)) (cells_by change m.heads m.cells)
-      each (Makes from) t fill = made from t
-      each (Forgets s) t fill = gone s t
-      each (SetsKind s z) t fill = typed s z t
-      each (Fills s shape) t fill = filled s shape t fill
-      each (Names name s) t fill = kept t
-      each (Unnames name) t fill = kept t
+      each (Makes from) t can fill = made from t
+      each (Gets content) t can fill = came content can.1 t
+      each (Forgets s) t can fill = gone s t
+      each (SetsKind s z) t can fill = typed s z t
+      each (Fills s shape) t can fill = filled s shape t fill
+      each (Names name s) t can fill = kept t
+      each (Unnames name) t can fill = kept t
 
 -- ---- one change behind the other
 
@@ -401,6 +475,7 @@ run_stays (change ∷ changes) m x = run_stays changes (mem_by change m) x ∙ b
   where
     by : (change : SpaceChange) → cells_by change m.heads m.cells (run_cell x) ≡ m.cells (run_cell x)
     by (Makes from) = refl
+    by (Gets content) = refl
     by (Forgets s) = refl
     by (SetsKind s z) = refl
     by (Fills s shape) = refl
@@ -413,6 +488,7 @@ packets_are (change ∷ changes) m x = packets_are changes (mem_by change m) x �
   where
     by : (change : SpaceChange) → cells_by change m.heads m.cells (packet_cell x) ≡ m.cells (packet_cell x)
     by (Makes from) = refl
+    by (Gets content) = refl
     by (Forgets s) = refl
     by (SetsKind s z) = refl
     by (Fills s shape) = refl
@@ -425,11 +501,13 @@ changes_keep P L changes w m can fill h = record {
   command = command_stays P L w.store m.cells (mem_after changes m).cells (run_stays changes m) h.command;
   packets = packets_stay P (map OfValue P) w.packets m.cells (mem_after changes m).cells (packets_are changes m) h.packets;
   spaces = spaces_keep P changes w.spaces m can fill h.spaces;
+  answers = h.answers;
 }
 
 -- ---- plans that give no shape
 
 abbrev pub FillsNot : SpaceChange → Type 0
+FillsNot (Gets content) = ⊥
 FillsNot (Fills s shape) = ⊥
 FillsNot _ = Unit {0}
 
@@ -443,6 +521,7 @@ can_fill (change ∷ changes) spaces not_one = (by change not_one.0, can_fill ch
   where
     by : (change : SpaceChange) → FillsNot change → CanFill change spaces
     by (Makes from) f = tt
+    by (Gets content) f = absurd f
     by (Forgets s) f = tt
     by (SetsKind s z) f = tt
     by (Fills s shape) f = absurd f
@@ -566,6 +645,7 @@ still_there P spaces m (Fills s shape) h fill grows t n u e = by (t.0 == s.0) re
         let number : t ≡ s = ap (λ (n : ℕ). record { 0 = n }) (eqb-true t.0 s.0 is) in
         let none = ap (λ (t : SpaceNo). kinds_of t (heads_of spaces)) number ∙ kinds_same s spaces ∙ ap shaped_kinds fill.0 in
         absurd (no_kinds (kinds_of t (heads_of spaces)) n u none e)
+still_there P spaces m (Gets content) h fill grows t n u e = absurd grows
 still_there P spaces m (Forgets s) h fill grows t n u e = absurd grows
 still_there P spaces m (SetsKind s z) h fill grows t n u e = absurd grows
 still_there P spaces m (Names name s) h fill grows t n u e = absurd grows

@@ -2,15 +2,13 @@ pub mod Lines
 pub mod Tables
 pub mod LoopTables
 pub mod TableTree
-pub mod Adds
-pub mod Makes
-pub mod Select
 pub mod Cells
 pub mod Homes
 pub mod PlaceKinds
 pub mod Spans
 pub mod Spaces
 pub mod Changes
+pub mod Coming
 pub mod Blocks
 pub mod Carry
 pub mod Forms

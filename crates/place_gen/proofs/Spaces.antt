@@ -268,16 +268,19 @@ writes_all P ks vs L w m x few room h at ok = by x.area x.variable at
           command = writes_there areas.Run P ks vs L w.store m.cells n room h.command at_n ok;
           packets = packets_stay P (map OfValue P) w.packets m.cells now (λ y. beside_area areas.Run areas.Packets vs n y m.cells refl) h.packets;
           spaces = spaces_stay P w.spaces m now (λ s y. beside_area areas.Run (areas.Space s) vs n y m.cells refl) h.spaces;
+          answers = h.answers;
         }
     by areas.Packets n at_n =
         let now = written_all m.cells (area_cell areas.Packets n) vs in record {
           command = command_stays P L w.store m.cells now (λ y. beside_area areas.Packets areas.Run vs n y m.cells refl) h.command;
           packets = writes_there areas.Packets P ks vs (map OfValue P) w.packets m.cells n (room_in areas.Packets P L w m few room h) h.packets at_n ok;
           spaces = spaces_stay P w.spaces m now (λ s y. beside_area areas.Packets (areas.Space s) vs n y m.cells refl) h.spaces;
+          answers = h.answers;
         }
     by (areas.Space s) n at_n =
         let now = written_all m.cells (space_cell s n) vs in record {
           command = command_stays P L w.store m.cells now (λ y. beside_area (areas.Space s) areas.Run vs n y m.cells refl) h.command;
           packets = packets_stay P (map OfValue P) w.packets m.cells now (λ y. beside_area (areas.Space s) areas.Packets vs n y m.cells refl) h.packets;
           spaces = space_written P ks vs s n w.spaces m h.spaces at_n ok;
+          answers = h.answers;
         }

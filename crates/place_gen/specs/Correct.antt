@@ -5,7 +5,7 @@ use Rattle.eu_base.specs.Values.{SpaceNo, IsOf}
 use Rattle.eu_base.specs.declared.value.Value.{Value}
 use Rattle.eu_base.specs.Room.{cells_fit}
 use Rattle.eu_base.specs.DataSpaces.{Head, Heads, Spaces, heads_of}
-use Rattle.eu_base.specs.SoundSpaces.{AreSpaces}
+use Rattle.eu_base.specs.SoundSpaces.{AreSpaces, AllCanCome}
 use Rattle.eu_base.specs.declared.address.TheConstants.{CELLS}
 use Rattle.eu_base.specs.SpacePlaces.{kinds_of, values_of, shaped_kinds}
 use Rattle.std.specs.List.{AllByRecursion}
@@ -66,10 +66,11 @@ pub record HasSlots (p : Program) (store others : List Slot) (all : Spaces) (m :
   pub packets : HasVariables Packets (kinds_in_packets p) others m.cells
   pub spaces : HasSpaces all m
 
+-- and what comes with answers can come
 abbrev pub HasAll : Program → World → Mem → Type 0
-HasAll p w m = HasSlots p w.store w.packets w.spaces m
+HasAll p w m = HasSlots p w.store w.packets w.spaces m × AllCanCome w.replies
 
--- a run rests so, with the same marks and replies left, and with all variables in the cells and all data spaces, those of packets each with a
+-- a run rests so, with the same marks and answers left, and with all variables in the cells and all data spaces, those of packets each with a
 -- value of its kind
 pub record RestsAs (p : Program) (h : Halt) (w : World) (r : Rest) : Type 0 where
   pub how : r.how ≡ h

@@ -1,7 +1,2 @@
-pub mod Counted
-pub mod Stretch
 pub mod Layouts
 pub mod Correct
-pub mod Adds
-pub mod Makes
-pub mod Steps

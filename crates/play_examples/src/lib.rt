@@ -4,6 +4,8 @@
 #[cfg(test)]
 mod endings;
 #[cfg(test)]
+mod messages;
+#[cfg(test)]
 mod run;
 #[cfg(test)]
 mod sessions;

@@ -285,12 +285,16 @@ pub const ROWS: &str = "\
 # 64 0 0 play
 > 1>begin (\"a\")
 > 1>enter (\"p\")
-> 1>PACKET p DEFINES send: PROC send: END PROC send END PACKET p
+> 1>PACKET p DEFINES send: PROC send: put (3) END PROC send END PACKET p
 > 1>.
 > 1>insert (\"p\")
+> *1
+> 1>send
+> *1
 1:gib kommando :
 1:gib kommando :
-1:FEHLER : kein ELAN-Text
+1:gib kommando :
+1,3 
 1:gib kommando :
 # 64 0 0 play
 > 1>begin (\"ben\")

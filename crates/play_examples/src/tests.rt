@@ -1,7 +1,7 @@
 //! The first table that is not right.
 
 use crate::run::is_right;
-use crate::{endings, sessions};
+use crate::{endings, messages, sessions};
 use std::alloc::Global;
 
 fn wrong_table(alloc: Global) -> &'static str {
@@ -11,6 +11,8 @@ fn wrong_table(alloc: Global) -> &'static str {
         "supervisor"
     } else if !is_right(alloc, sessions::QUEUES) {
         "queues"
+    } else if !is_right(alloc, messages::MESSAGES) {
+        "messages"
     } else if !is_right(alloc, endings::ENDS) {
         "ends"
     } else if !is_right(alloc, endings::STOPS) {

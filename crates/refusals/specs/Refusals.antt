@@ -2,7 +2,7 @@
 use Rattle.std.specs.Prelude.{ℕ, ◌+◌, ◌-◌, List, [], ◌∷◌, ◌++◌, take, codes, ◌==◌, if◌then◌else◌}
 use Rattle.std.specs.Fmt.{decimal}
 use Rattle.packet_store.specs.declared.error.Refusal.{Refusal}
-use Rattle.packet_store.specs.declared.error.Refusal.TheVariants.{NoToken, TooMany, NotElan, NotBuilt, NoMeaning}
+use Rattle.packet_store.specs.declared.error.Refusal.TheVariants.{NoToken, TooMany, NotElan, NoMeaning}
 use Rattle.elan_types.specs.declared.why.Why.{Why}
 use Rattle.elan_types.specs.declared.why.Why.TheVariants.{Unknown, Doubled, WrongType, NoVariable, WrongPlace, TooLarge}
 
@@ -43,5 +43,4 @@ abbrev pub refusal_text : Refusal → List ℕ → List ℕ
 refusal_text (NoToken place) text = refusal_at (codes "kein Symbol") text place
 refusal_text TooMany text = codes "FEHLER : zu viele Symbole"
 refusal_text (NotElan place) text = refusal_at (codes "kein ELAN-Text") text place
-refusal_text NotBuilt text = codes "FEHLER : kein ELAN-Text"
 refusal_text (NoMeaning place why) text = refusal_at (why_text why) text place

@@ -17,7 +17,6 @@ pub fn refusal_text(alloc: Global, refusal: Refusal, text: &[u8]) -> Result<Byte
         Refusal::NoToken(place) => refusal_at(alloc, b"kein Symbol", text, place),
         Refusal::TooMany => Bytes::from(alloc, b"FEHLER : zu viele Symbole"),
         Refusal::NotElan(place) => refusal_at(alloc, b"kein ELAN-Text", text, place),
-        Refusal::NotBuilt => Bytes::from(alloc, b"FEHLER : kein ELAN-Text"),
         Refusal::NoMeaning(place, why) => refusal_at(alloc, why_text(why), text, place),
     }
 }

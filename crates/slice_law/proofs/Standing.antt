@@ -1,21 +1,20 @@
 -- A run stands for the command of each task of a system that a machine stands for.
-use Rattle.std.proofs.Common.{◌≡◌, ℕ, Option, Some, None, ap, ◌∙◌, subst}
+use Rattle.std.proofs.Common.{◌≡◌, ℕ, Option, Some, None, inl, ap, ◌∙◌, subst}
 use Rattle.std.specs.Option.{option_and_then}
 use Rattle.std.specs.Prelude.{slice_get}
 use Rattle.std.proofs.lemmas.Option.{none-some}
 use Rattle.task_numbers.specs.declared.number.TaskNo.{TaskNo}
-use Rattle.slice_law.specs.Below.source_machine.specs.Tasks.{Command, Doing, Own}
+use Rattle.slice_law.specs.Below.source_machine.specs.Tasks.{Command, Doing, Running, Own}
 use Rattle.slice_law.specs.Below.source_machine.specs.Systems.{System, Moment, place, own, command}
-use Rattle.slice_law.specs.Below.source_machine.specs.Whole.{IsSystem}
 use Rattle.slice_law.specs.Below.live_task.specs.Stands.{DoesAs}
 use Rattle.slice_law.specs.Below.live_tasks.proofs.Standing.{as_long, stands_at}
 use Rattle.slice_law.specs.Below.live_tasks.proofs.Zips.{found_other}
 use Rattle.slice_law.specs.Below.live_packets.specs.Packets.{kinds_in}
 use Rattle.slice_law.specs.Below.task_desk.specs.Desks.{system}
 use Rattle.live_system.specs.Machines.{Machine, StandsAt}
-use Rattle.slice_law.proofs.Numbered.{tree_numbered}
-use Rattle.slice_law.proofs.Commands.{IsRun, owes_once}
-use Rattle.slice_law.proofs.Slicing.{Goes, has_own}
+use Rattle.slice_law.proofs.Commands.{IsRun, owes_once, costs}
+use Rattle.slice_law.proofs.Slicing.{Pays, own_doing}
+use Rattle.isolation.proofs.Beside.{runs_it}
 
 own_place : (t : TaskNo) (s : System) (o : Own) → own t s ≡ Some o → (k : ℕ) × (slice_get s.owns k ≡ Some o)
 own_place t s o has = by (place t s) has
@@ -28,7 +27,7 @@ module _ (now : Machine) (m : Moment) (h : StandsAt now m) (t : TaskNo) where
   runs : (c : Command) → command t m.system ≡ Some c → IsRun 1 c
   runs c is =
       let s = system now.desk now.library h.owns in
-      let o = has_own (own t s) c (ap (λ (n : Moment). command t n.system) h.is ∙ is) in
+      let o = own_doing t s (Running c) (runs_it t s c (ap (λ (n : Moment). command t n.system) h.is ∙ is)) in
       let at = own_place t s o.0 o.1 in
       let task = found_other now.live.tasks h.owns at.0 o.0 (as_long (kinds_in now.library) now.live.pages now.live.tasks h.owns h.stand) at.1 in
       let stands = stands_at (kinds_in now.library) now.live.pages now.live.tasks h.owns at.0 task.0 o.0 h.stand task.1 at.1 in
@@ -36,5 +35,5 @@ module _ (now : Machine) (m : Moment) (h : StandsAt now m) (t : TaskNo) where
       owes_once c does.0.code does.0.run _ does.2.reaches.reaches
 
   -- it owes a mark at most: one that waits has paid for its first request before
-  pub goes : IsSystem m.system → Goes t 1 m
-  goes whole = record { numbers = tree_numbered m.system.shared.tree whole.tree; runs = runs }
+  pub pays : (c : Command) → command t m.system ≡ Some c → Pays 1 c
+  pays c is left q w e = inl (costs c left 1 (runs c is) q w e)

@@ -28,7 +28,6 @@ use Rattle.elan_rules.specs.Rules.{ruled}
 use Rattle.elan_rules.specs.Meaning.{judged, judged_all}
 use Rattle.elan_rules.proofs.First.{bind_gives, gives_is}
 use Rattle.elan_bodies.specs.Level.{text_parts}
-use Rattle.elan_unbuilt.specs.NotBuilt as unbuilt
 use Rattle.type_names.specs.Faults.{first_fault}
 use Rattle.refusals.specs.Below.elan_check.specs.declared.error.CheckError.TheVariants as check
 use Rattle.refusals.specs.Below.elan_check.specs.Packets.{AreCompiled}
@@ -36,9 +35,9 @@ use Rattle.refusals.specs.Below.elan_check.specs.Text.{Answers, bodies_known, ju
 use Rattle.refusals.specs.Below.elan_check.proofs.Inserted.{is_sound}
 use Rattle.refusals.specs.Below.elan_check.proofs.Spots.{never_hangs}
 use Rattle.refusals.specs.Below.elan_check.proofs.Checked.{text_checked}
-use Rattle.refusals.specs.Below.packet_store.specs.declared.error.Refusal.TheVariants.{NoToken, TooMany, NotElan, NotBuilt, NoMeaning}
+use Rattle.refusals.specs.Below.packet_store.specs.declared.error.Refusal.TheVariants.{NoToken, TooMany, NotElan, NoMeaning}
 use Rattle.refusals.specs.Below.packet_store.specs.declared.unit.Source.TheVariants.{Text}
-use Rattle.refusals.specs.Below.packet_store.specs.Meaning.{HasTokens, means, no_token, too_many, no_tree, not_built, no_meaning}
+use Rattle.refusals.specs.Below.packet_store.specs.Meaning.{HasTokens, means, no_token, too_many, no_tree, no_meaning}
 use Rattle.refusals.specs.Below.packet_store.specs.Units.{shown_by}
 use Rattle.refusals.specs.Below.packet_store.proofs.ReadAs.{kind_read, shown_is}
 use Rattle.source_machine.specs.Monitor.{Reading, Compiles, Refuses}
@@ -55,15 +54,14 @@ level_gives k ps m e =
     let q = bind_gives (judged_all k (all_of ps)) (ruled k 0 (plain form.level)) m e in
     (actions_of q.0, bodies_of q.0, sym (gives_is (Level (actions_of q.0) (bodies_of q.0)) m q.2))
 
--- ---- a tree that is built
+-- ---- a tree
 
-module _ (env : Env) (packet : Bool) (text : List ℕ) (ts : List Token) (t : Tree) (has : HasTokens text ts) (reads : Reads packet ts t)
-    (built : unbuilt.not_built t ≡ false) where
+module _ (env : Env) (packet : Bool) (text : List ℕ) (ts : List Token) (t : Tree) (has : HasTokens text ts) (reads : Reads packet ts t) where
   meant : (core : Core) → Answers env t (Ok core) → Found env packet text
   meant core a = (
     Compiles (record { source = Text text; packets = env; core = core; shown = shown_by env t }),
     λ compiled.
-        let c = text_checked env compiled t (Ok core) built a in
+        let c = text_checked env compiled t (Ok core) a in
         record {
           source_is = refl;
           packets_are = refl;
@@ -76,7 +74,7 @@ module _ (env : Env) (packet : Bool) (text : List ℕ) (ts : List Token) (t : Tr
   )
 
   faulty : (f : Fault) → earliest (first_fault (faults env t)) (judged_text env t) ≡ Some f → Found env packet text
-  faulty f a = (Refuses (NoMeaning f.0 f.1), λ compiled. no_meaning t has reads (text_checked env compiled t (Err (check.NoMeaning f.0 f.1)) built a).refused)
+  faulty f a = (Refuses (NoMeaning f.0 f.1), λ compiled. no_meaning t has reads (text_checked env compiled t (Err (check.NoMeaning f.0 f.1)) a).refused)
 
   -- where no type is faulty
   by_phrases : faults env t ≡ [] → (q : Ruled Meant) → judged_text env t ≡ q → Found env packet text
@@ -86,7 +84,7 @@ module _ (env : Env) (packet : Bool) (text : List ℕ) (ts : List Token) (t : Tr
   by_phrases n (breaks f) e = faulty f (ap (λ (fs : List Fault). earliest (first_fault fs) (judged_text env t)) n ∙ ap (earliest None) e)
   -- behind packets this never comes, so it does not matter what is answered
   by_phrases n hangs e = (
-    Refuses NotBuilt,
+    Refuses TooMany,
     λ compiled.
         let s = is_sound env compiled in
         absurd (never_hangs env t s.closed s.means n e),
@@ -124,12 +122,8 @@ has_tree packet (x ∷ ts) = by ((grammar.text packet).run (x ∷ ts)) refl
     by (Err q) e = inr (refused_run packet (x ∷ ts) q e)
 
 module _ (env : Env) (packet : Bool) (text : List ℕ) where
-  by_built : (ts : List Token) (t : Tree) → HasTokens text ts → Reads packet ts t → (b : Bool) → unbuilt.not_built t ≡ b → Found env packet text
-  by_built ts t has reads true e = (Refuses NotBuilt, λ compiled. not_built t has reads e)
-  by_built ts t has reads false e = by_faults env packet text ts t has reads e (faults env t) refl
-
   by_tree : (ts : List Token) → HasTokens text ts → ((t : Tree) × Reads packet ts t) ⊎ ((t : Tree) → Reads packet ts t → ⊥) → Found env packet text
-  by_tree ts has (inl r) = by_built ts r.0 has r.1 (unbuilt.not_built r.0) refl
+  by_tree ts has (inl r) = by_faults env packet text ts r.0 has r.1 (faults env r.0) refl
   by_tree ts has (inr none) =
       let p = some_place packet ts in
       (Refuses (NotElan (place_of ts p.0)), λ compiled. no_tree {n = p.0} has none p.1)

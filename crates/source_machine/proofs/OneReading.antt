@@ -3,7 +3,6 @@ use Rattle.std.proofs.Common.{◌≡◌, ℕ, Bool, List, Option, sym, ap, ◌�
 use Rattle.elan_scope.specs.declared.env.Env.{Env}
 use Rattle.elan_names.specs.declared.interface.Interface.{Interface}
 use Rattle.elan_types.specs.declared.core_phrase.Core.{Core}
-use Rattle.refusals.specs.Below.elan_check.specs.Packets.{AreCompiled}
 use Rattle.refusals.specs.Below.packet_store.specs.declared.error.Refusal.{Refusal}
 use Rattle.refusals.specs.Below.packet_store.specs.declared.unit.Source.{Source}
 use Rattle.refusals.specs.Below.packet_store.specs.declared.unit.Source.TheVariants.{Text}
@@ -15,8 +14,8 @@ use Rattle.source_machine.specs.Readings.{ReadsSo}
 
 -- what holds of a text behind packets
 pub record Laws : Type 0 where
-  pub not_both : (env : Env) → AreCompiled env → (packet : Bool) (text : List ℕ) (c : Core) (r : Refusal) → Means env packet text c → IsRefused env packet text r → ⊥
-  pub one_refusal : (env : Env) → AreCompiled env → (packet : Bool) (text : List ℕ) (q r : Refusal) → IsRefused env packet text q → IsRefused env packet text r → q ≡ r
+  pub not_both : (env : Env) (packet : Bool) (text : List ℕ) (c : Core) (r : Refusal) → Means env packet text c → IsRefused env packet text r → ⊥
+  pub one_refusal : (env : Env) (packet : Bool) (text : List ℕ) (q r : Refusal) → IsRefused env packet text q → IsRefused env packet text r → q ≡ r
   pub one_unit : (env : Env) (packet : Bool) (text : List ℕ) (u v : Compiled) → IsUnitOf env packet text u → IsUnitOf env packet text v
       → (u.core ≡ v.core) × (u.shown ≡ v.shown)
 
@@ -37,11 +36,11 @@ same_unit env packet text u v f g c s =
     ∙ ap (λ (shown : Option Interface). unit_of text env v.core shown) s
     ∙ sym (unit_is text env v g.source_is g.packets_are)
 
-module _ (laws : Laws) (env : Env) (compiled : AreCompiled env) (packet : Bool) (text : List ℕ) where
+module _ (laws : Laws) (env : Env) (packet : Bool) (text : List ℕ) where
   pub one_reading : (a b : Reading) → ReadsSo env packet text a → ReadsSo env packet text b → a ≡ b
   one_reading (Compiles u) (Compiles v) f g =
       let e = laws.one_unit env packet text u v f g in
       ap (λ (w : Compiled). Compiles w) (same_unit env packet text u v f g e.0 e.1)
-  one_reading (Compiles u) (Refuses r) f g = absurd (laws.not_both env compiled packet text u.core r f.means g)
-  one_reading (Refuses r) (Compiles v) f g = absurd (laws.not_both env compiled packet text v.core r g.means f)
-  one_reading (Refuses q) (Refuses r) f g = ap (λ (s : Refusal). Refuses s) (laws.one_refusal env compiled packet text q r f g)
+  one_reading (Compiles u) (Refuses r) f g = absurd (laws.not_both env packet text u.core r f.means g)
+  one_reading (Refuses r) (Compiles v) f g = absurd (laws.not_both env packet text v.core r g.means f)
+  one_reading (Refuses q) (Refuses r) f g = ap (λ (s : Refusal). Refuses s) (laws.one_refusal env packet text q r f g)

@@ -1,9 +1,12 @@
 -- Tasks begin and end.
-use Rattle.std.specs.Prelude.{ℕ, Bool, List, [], ◌∷◌, ◌++◌, fold, remove, ◌==◌, Option, Some, None, if◌then◌else◌}
+use Rattle.std.specs.Prelude.{ℕ, Bool, List, [], ◌∷◌, ◌++◌, fold, remove, ◌==◌, negsuc, Option, Some, None, if◌then◌else◌}
 use Rattle.std.specs.List.{list_any}
 use Rattle.task_numbers.specs.declared.number.TaskNo.{TaskNo}
 use Rattle.eu_base.specs.declared.stop.Stop.{Stop}
 use Rattle.eu_base.specs.declared.stop.Stop.TheVariants.{TaskThere, ManyTasks, TaskNumbers}
+use Rattle.eu_base.specs.declared.request.Reply.TheVariants.{Receipt}
+use Rattle.eu_base.specs.Requests.{Answer, plain}
+use Rattle.message_wait.specs.Rendezvous as waits
 use Rattle.task_tree.specs.Tree as tree
 use Rattle.task_tree.specs.declared.refusal.BeginError.{BeginError}
 use Rattle.task_tree.specs.declared.refusal.BeginError.TheVariants.{NameTaken, TreeFull, NumbersSpent}
@@ -12,7 +15,7 @@ use Rattle.slicer.specs.Rotation as rotation
 use Rattle.terminals.specs.Channels as channels
 use Rattle.refusals.specs.Below.packet_store.specs.Library.{Library, released}
 use Rattle.source_machine.specs.Tasks.{Doing, Own}
-use Rattle.source_machine.specs.Systems.{System, Moment, place, packets, on_system, uncouple_at}
+use Rattle.source_machine.specs.Systems.{System, Moment, place, packets, woken, on_waits, on_system, uncouple_at}
 
 -- why no task begins, as a stop
 abbrev pub as_stop : BeginError → Stop
@@ -53,6 +56,7 @@ removed_at (Some k) t s = record {
   shared = record s.shared {
     tree = tree.ended t s.shared.tree;
     ready = rotation.without t s.shared.ready;
+    waits = waits.left t s.shared.waits;
     library = without_packets (packets t s) (remove s.owns k) s.shared.library;
   };
   owns = remove s.owns k;
@@ -61,9 +65,17 @@ removed_at (Some k) t s = record {
 abbrev pub removed : TaskNo → System → System
 removed t s = removed_at (place t s) t s
 
--- its channel is free then
+-- the receipt of a call: no task answers that lives
+abbrev pub no_task : Answer
+no_task = plain (Receipt (negsuc 0))
+
+-- those that waited for a task get it, first those whose message it had taken, by number, and then its callers in order of arrival
+abbrev pub freed_by : TaskNo → System → System
+freed_by t s = fold (λ (s : System) (u : TaskNo). woken u no_task s) (on_waits (waits.released t) s) (waits.waiting_for t s.shared.waits)
+
+-- its channel is free then, and nobody waits for it any more
 abbrev pub ended : Moment → TaskNo → Moment
-ended m t = on_system (removed t) (uncouple_at (channels.channel_of t m.system.shared.channels) m)
+ended m t = on_system (freed_by t) (on_system (removed t) (uncouple_at (channels.channel_of t m.system.shared.channels) m))
 
 -- a task ends, and before it its descendants
 abbrev pub ended_with_descendants : TaskNo → Moment → Moment

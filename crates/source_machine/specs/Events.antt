@@ -18,7 +18,7 @@ use Rattle.source_machine.specs.Supervisor.{worded, called}
 
 -- a line comes that a task waits for
 abbrev pub answered : Served → TaskNo → Moment
-answered (Replies r m) t = on_system (woken t r) m
+answered (Replies a m) t = on_system (woken t a) m
 answered (Rests m) t = m
 
 abbrev pub awaited : Option Request → ℕ → TaskNo → Moment → Moment

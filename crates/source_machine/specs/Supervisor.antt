@@ -9,6 +9,8 @@ use Rattle.eu_base.specs.declared.stop.Stop.TheVariants.{Halted, BadName}
 use Rattle.eu_base.specs.declared.request.Request.{Request}
 use Rattle.eu_base.specs.declared.request.Request.TheVariants.{Out}
 use Rattle.eu_base.specs.declared.request.Reply.TheVariants.{Done}
+use Rattle.eu_base.specs.Requests.{plain}
+use Rattle.message_wait.specs.Rendezvous as waits
 use Rattle.eu_base.specs.Stops.{stop_text}
 use Rattle.elan_tree.specs.declared.token.Word.{Word}
 use Rattle.elan_scope.specs.declared.env.Env.{Env}
@@ -22,7 +24,7 @@ use Rattle.monitor.specs.declared.commands.Command.{Command}
 use Rattle.monitor.specs.declared.commands.Command.TheVariants.{Blank, Begin, Continue, Halt, TaskInfo, StorageInfo, Unknown}
 use Rattle.source_machine.specs.Stores.{is_name, heir}
 use Rattle.source_machine.specs.Tasks.{Doing, Idle, Entering, Running, Own, ending, now, world_of, request_of}
-use Rattle.source_machine.specs.Systems.{System, Moment, doing, requested, kept, does, woken, couple, on_system, on_ready, on_channels, write, say, uncouple, prompt, supervisor_prompt}
+use Rattle.source_machine.specs.Systems.{System, Moment, doing, requested, kept, does, woken, couple, on_system, on_ready, on_waits, on_channels, write, say, uncouple, prompt, supervisor_prompt}
 use Rattle.source_machine.specs.Ends.{number_refusal, next, begun}
 use Rattle.source_machine.specs.Monitor.{Reading, over}
 
@@ -58,7 +60,7 @@ begin_under c name father m = begin_unless (begin_refusal name father m.system) 
 -- what waited to be written is written, and an idle task prompts
 abbrev pub resumed : Option Doing → Option Request → ℕ → TaskNo → Moment → Moment
 resumed (Some (Idle store)) q c t m = say c prompt m
-resumed _ (Some (Out bytes ends)) c t m = on_system (woken t Done) (write c bytes ends m)
+resumed _ (Some (Out bytes ends)) c t m = on_system (woken t (plain Done)) (write c bytes ends m)
 resumed _ _ c t m = m
 
 abbrev pub continued : ℕ → TaskNo → Moment → Moment
@@ -119,13 +121,13 @@ storage_info s =
     ++ (codes " Pakete " ++ decimal (length s.shared.library.live)))))
 
 module _ (read : Env → Bool → List ℕ → Reading) where
-  -- a command that runs stops, a text that is entered is dropped
+  -- a command that runs stops, and waits for no message any more; a text that is entered is dropped
   abbrev pub halted_by : Option Doing → ℕ → TaskNo → Moment → Moment
   halted_by None c t m = m
   halted_by (Some (Idle store)) c t m = say c prompt m
   halted_by (Some (Entering name lines store)) c t m = say c prompt (on_system (does t (Idle store)) m)
   halted_by (Some (Running command)) c t m =
-      over read t command (Some Halted) (world_of (ending command 0)) (on_system (on_ready (rotation.without t)) m)
+      over read t command (Some Halted) (world_of (ending command 0)) (on_system (on_waits (waits.left t)) (on_system (on_ready (rotation.without t)) m))
 
   abbrev pub halted : ℕ → TaskNo → Moment → Moment
   halted c t m = halted_by (doing t m.system) c t (on_system (couple c t) m)

@@ -4,10 +4,11 @@ use Rattle.std.specs.Prelude.{slice_get, codes}
 use Rattle.task_numbers.specs.declared.number.TaskNo.{TaskNo}
 use Rattle.task_numbers.specs.Numbers.{is_nil}
 use Rattle.eu_base.specs.declared.request.Request.{Request}
-use Rattle.eu_base.specs.declared.request.Reply.{Reply}
+use Rattle.eu_base.specs.Requests.{Answer}
 use Rattle.task_tree.specs.Tree.{Tree, has_number}
 use Rattle.task_tree.specs.Tree as tree
 use Rattle.slicer.specs.Rotation as rotation
+use Rattle.message_wait.specs.Rendezvous.{Waits, nobody}
 use Rattle.terminals.specs.Channels.{Channel}
 use Rattle.terminals.specs.Channels as channels
 use Rattle.output_pieces.specs.Display.{Display, blank}
@@ -16,10 +17,11 @@ use Rattle.refusals.specs.Below.packet_store.specs.Library.{Library, none_live}
 use Rattle.source_machine.specs.Stores.{Store, new_store}
 use Rattle.source_machine.specs.Tasks.{Command, Doing, Idle, Own, now, request_of, replied, is_running, command_of, with_doing}
 
--- the tree of the live tasks, the ready tasks, the four channels, and the live packets
+-- the tree of the live tasks, the ready tasks, those that wait for messages, the four channels, and the live packets
 pub record Shared : Type 0 where
   pub tree : Tree
   pub ready : List TaskNo
+  pub waits : Waits
   pub channels : List Channel
   pub library : Library
 
@@ -34,7 +36,7 @@ new_own = record { packets = []; doing = Idle new_store }
 
 abbrev pub opening : System
 opening = record {
-  shared = record { tree = tree.opening; ready = []; channels = channels.opening; library = none_live };
+  shared = record { tree = tree.opening; ready = []; waits = nobody; channels = channels.opening; library = none_live };
   owns = new_own ∷ (new_own ∷ []);
 }
 
@@ -96,9 +98,9 @@ packets t s = packets_of (own t s)
 abbrev pub does : TaskNo → Doing → System → System
 does t d s = changed t (with_doing d) s
 
--- it gets a reply, where it makes a request
-abbrev pub given : TaskNo → Reply → System → System
-given t r s = changed t (λ o. with_doing (replied r o.doing) o) s
+-- it gets an answer, where it makes a request
+abbrev pub given : TaskNo → Answer → System → System
+given t a s = changed t (λ o. with_doing (replied a o.doing) o) s
 
 -- ---- what all tasks have together changes
 
@@ -107,6 +109,9 @@ sharing f s = record s { shared = f s.shared }
 
 abbrev pub on_ready : (List TaskNo → List TaskNo) → System → System
 on_ready f s = sharing (λ h. record h { ready = f h.ready }) s
+
+abbrev pub on_waits : (Waits → Waits) → System → System
+on_waits f s = sharing (λ h. record h { waits = f h.waits }) s
 
 abbrev pub on_channels : (List Channel → List Channel) → System → System
 on_channels f s = sharing (λ h. record h { channels = f h.channels }) s
@@ -125,9 +130,9 @@ can_couple c t s = is_nil (channels.channel c s.shared.channels).task && is_none
 abbrev pub couple : ℕ → TaskNo → System → System
 couple c t s = if can_couple c t s then on_channels (channels.coupled c t) s else s
 
--- a task that waits gets its reply, and is ready
-abbrev pub woken : TaskNo → Reply → System → System
-woken t r s = back t (given t r s)
+-- a task that waits gets its answer, and is ready
+abbrev pub woken : TaskNo → Answer → System → System
+woken t a s = back t (given t a s)
 
 -- ---- in the course of an event
 

@@ -1,18 +1,18 @@
 -- What a task does.
 use Rattle.std.specs.Prelude.{ℕ, ◌+◌, ◌-◌, Bool, true, false, List, [], ◌∷◌, ◌++◌, length, take, Option, Some, None}
 use Rattle.eu_base.specs.declared.request.Request.{Request}
-use Rattle.eu_base.specs.declared.request.Reply.{Reply}
+use Rattle.eu_base.specs.Requests.{Answer}
 use Rattle.elan_types.specs.Eval.{World}
 use Rattle.elan_types.specs.Command.{Ending, Ended, Stopped, OutOfMarks, Asks, evaluate}
 use Rattle.refusals.specs.Below.packet_store.specs.declared.unit.Compiled.{Compiled}
 use Rattle.source_machine.specs.Stores.{Store}
 
 -- A command: the text or the start procedure, with the packets of the task and what it means; what the task kept when the command started;
--- the replies that it got; and the marks that it spent.
+-- the answers that it got; and the marks that it spent.
 pub record Command : Type 0 where
   pub unit : Compiled
   pub before : Store
-  pub replies : List Reply
+  pub replies : List Answer
   pub marks : ℕ
 
 -- a task is idle, or a text is entered line by line under a name, or it runs a command
@@ -29,8 +29,8 @@ pub record Own : Type 0 where
 abbrev pub starting : Compiled → Store → Command
 starting unit store = record { unit = unit; before = store; replies = []; marks = 0 }
 
-abbrev pub with_reply : Reply → Command → Command
-with_reply r c = record c { replies = c.replies ++ r ∷ [] }
+abbrev pub with_reply : Answer → Command → Command
+with_reply a c = record c { replies = c.replies ++ a ∷ [] }
 
 -- ---- evaluation
 
@@ -77,13 +77,13 @@ request_of (Idle s) = None
 request_of (Entering name lines s) = None
 request_of (Running c) = request_in (ending c 0)
 
--- a reply is given to the request that is made, and else to none
-abbrev pub with_reply_to : Option Request → Reply → Doing → Doing
-with_reply_to (Some q) r (Running c) = Running (with_reply r c)
-with_reply_to _ r d = d
+-- an answer is given to the request that is made, and else to none
+abbrev pub with_reply_to : Option Request → Answer → Doing → Doing
+with_reply_to (Some q) a (Running c) = Running (with_reply a c)
+with_reply_to _ a d = d
 
-abbrev pub replied : Reply → Doing → Doing
-replied r d = with_reply_to (request_of d) r d
+abbrev pub replied : Answer → Doing → Doing
+replied a d = with_reply_to (request_of d) a d
 
 -- ---- questions
 

@@ -13,13 +13,14 @@ use Rattle.source_machine.specs.Monitor.{Reading, over}
 unfoldable pub turn_marks : ℕ
 turn_marks = 100
 
--- a request costs a mark, so there is one evaluation more than marks; one more yet where a request that was paid before is waited for
+-- a request costs a mark, so there is one evaluation more than marks; one more where a request that was paid before is waited for; and one more yet
+-- where a call's message was taken, since it costs no mark to ask for the answer, for which the task waits then
 unfoldable pub most_evaluations : ℕ
-most_evaluations = 102
+most_evaluations = 103
 
 -- where a request is answered, the task goes on with the reply
 abbrev pub served : Served → (Moment → Moment) → TaskNo → Moment
-served (Replies r m) more t = more (on_system (given t r) m)
+served (Replies a m) more t = more (on_system (given t a) m)
 served (Rests m) more t = m
 
 module _ (read : Env → Bool → List ℕ → Reading) where

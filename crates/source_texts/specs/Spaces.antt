@@ -1,8 +1,9 @@
 -- How data spaces lie in pages.
-use Rattle.std.specs.Prelude.{◌≡◌, List, Option, Some, None, slice_get}
+use Rattle.std.specs.Prelude.{◌≡◌, List, Option, slice_get}
 use Rattle.eu_base.specs.declared.address.Area.TheVariants.{Run}
 use Rattle.eu_base.specs.declared.value.Value.{Value}
-use Rattle.eu_base.specs.Cells.{Cell, Free, Cells, held_of}
+use Rattle.eu_base.specs.Cells.{Cell, Cells}
+use Rattle.eu_base.specs.SpaceCells.{value_cell}
 pub use Rattle.eu_base.specs.DataSpaces.{Space}
 pub use Rattle.eu_base.specs.SoundSpaces.{shape_kinds, AreOf, none, one}
 use Rattle.page_pool.specs.Pool.{Pages}
@@ -12,8 +13,7 @@ use Rattle.data_space.specs.Data.{SpaceData}
 
 -- the values stand in the cells from 0 on, and nothing is known of the cells behind
 abbrev pub held : Option Value → Cell
-held None = Free
-held (Some v) = held_of v
+held o = value_cell o
 
 abbrev pub cells_of : List Value → Cells
 cells_of values = λ at. held (slice_get values at.cell)

@@ -39,8 +39,8 @@ pub fn assign_copy<M: Memory>(
     Ok(None)
 }
 
-// The data space that a variable held is forgotten, where it lives.
-fn forget_held<M: Memory>(m: &mut M, held: Option<SpaceNo>)
+/// The data space that a variable held is forgotten, where it lives.
+pub fn forget_held<M: Memory>(m: &mut M, held: Option<SpaceNo>)
     ensures heads { M.heads m.new ≡ heads_after (forgetting held (M.heads m.old)) (M.heads m.old) }
     ensures kept { (cells : Cells) → M.holds m.old cells → M.holds m.new (cells_after (forgetting held (M.heads m.old)) (M.heads m.old) cells) }
     ensures faults { M.faults m.new ≡ M.faults m.old }

@@ -6,4 +6,4 @@ mod copies;
 mod shapes;
 
 pub use bound::assign_bound;
-pub use copies::assign_copy;
+pub use copies::{assign_copy, forget_held};

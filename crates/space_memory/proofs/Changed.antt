@@ -79,19 +79,19 @@ filled_heads s shape old new m n is filled =
 -- ---- what is known of the cells
 
 -- the cells of an area that were put by others, and those of another area
-own_there : (area : Area) (own : ℕ → Cell) (cells : Cells) (c : ℕ) → with_area area own cells (area_cell area c) ≡ own c
+pub own_there : (area : Area) (own : ℕ → Cell) (cells : Cells) (c : ℕ) → with_area area own cells (area_cell area c) ≡ own c
 own_there area own cells c = ap (λ (b : Bool). cond b (own c) (cells (area_cell area c))) (same_area_self area)
 
-other_there : (area b : Area) (own : ℕ → Cell) (cells : Cells) (c : ℕ) → same_area b area ≡ false
+pub other_there : (area b : Area) (own : ℕ → Cell) (cells : Cells) (c : ℕ) → same_area b area ≡ false
     → with_area area own cells (area_cell b c) ≡ cells (area_cell b c)
 other_there area b own cells c apart = ap (λ (t : Bool). cond t (own c) (cells (area_cell b c))) apart
 
 -- another number leads to the same space where one comes, and the new number to the new one
-at_push : (n k : ℕ) (d : SpaceData) → nat_eq n k ≡ false → (es : List (ℕ × SpaceData)) → space_at n (es ++ (k, d) ∷ []) ≡ space_at n es
+pub at_push : (n k : ℕ) (d : SpaceData) → nat_eq n k ≡ false → (es : List (ℕ × SpaceData)) → space_at n (es ++ (k, d) ∷ []) ≡ space_at n es
 at_push n k d apart [] = ap (λ (b : Bool). cond b (Some d) None) apart
 at_push n k d apart (e ∷ es) = ap (cond (nat_eq n e.0) (Some e.1)) (at_push n k d apart es)
 
-push_at : (k : ℕ) (d : SpaceData) (es : List (ℕ × SpaceData)) → space_at k es ≡ None → space_at k (es ++ (k, d) ∷ []) ≡ Some d
+pub push_at : (k : ℕ) (d : SpaceData) (es : List (ℕ × SpaceData)) → space_at k es ≡ None → space_at k (es ++ (k, d) ∷ []) ≡ Some d
 push_at k d [] free = ap (λ (b : Bool). cond b (Some d) None) (eq-eqb k k refl)
 push_at k d (e ∷ es) free = by (nat_eq k e.0) refl free (push_at k d es)
   where

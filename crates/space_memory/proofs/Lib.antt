@@ -4,3 +4,4 @@ pub mod Led
 pub mod Held
 pub mod Areas
 pub mod Changed
+pub mod Given

@@ -4,6 +4,7 @@ use Rattle.task_numbers.specs.declared.number.TaskNo.{TaskNo}
 use Rattle.eu_base.specs.declared.request.Request.{Request}
 use Rattle.eu_base.specs.declared.request.Request.TheVariants.{Out}
 use Rattle.eu_base.specs.declared.request.Reply.TheVariants.{Done}
+use Rattle.eu_base.specs.Requests.{plain}
 use Rattle.task_lines.specs.Below.source_machine.specs.Systems.{Moment, on_system, woken, write}
 
 -- the bytes that a request is to write, and whether they end the line
@@ -13,7 +14,7 @@ output_of _ = None
 
 -- bytes are written for a task, and it goes on
 abbrev pub put : List ℕ → Bool → ℕ → TaskNo → Moment → Moment
-put bytes ends c t m = on_system (woken t Done) (write c bytes ends m)
+put bytes ends c t m = on_system (woken t (plain Done)) (write c bytes ends m)
 
 abbrev pub written : Option (List ℕ × Bool) → ℕ → TaskNo → Moment → Moment
 written None c t m = m

@@ -2,10 +2,11 @@
 ghost use Rattle.std.specs.Prelude.{◌≡◌, ◌≤◌, ℕ, List, Bool, Some, OnOk};
 ghost use Rattle.eu_base.specs.declared.stop.Stop.TheVariants.{Halted};
 ghost use Rattle.elan_scope.specs.declared.env.Env.{Env};
+ghost use Rattle.message_wait.specs.Rendezvous.{left};
 ghost use Rattle.slicer.specs.Rotation as rotation;
 ghost use Rattle.terminals.specs.Channels as channels;
 ghost use Rattle.task_lines.specs.Below.source_machine.specs.Tasks.{Command, Running, ending, world_of};
-ghost use Rattle.task_lines.specs.Below.source_machine.specs.Systems.{Moment, doing, on_ready, on_system};
+ghost use Rattle.task_lines.specs.Below.source_machine.specs.Systems.{Moment, doing, on_ready, on_waits, on_system};
 ghost use Rattle.task_lines.specs.Below.source_machine.specs.Monitor.{Reading};
 ghost use Rattle.task_lines.specs.Below.source_machine.specs.Monitor as monitor;
 ghost use Rattle.task_lines.specs.Below.source_machine.specs.Readings.{IsReading};
@@ -64,13 +65,14 @@ fn stopped(alloc: Global, system: &mut System, channel: u8, task: TaskNo) -> Res
     }
 }
 
-/// The command that a task runs stops.
+/// The command that a task runs stops, and the task waits for no message any more.
 fn command_halted(alloc: Global, system: &mut System, task: TaskNo) -> Result<(), NoMemory>
     ensures { OnOk result ((read : Env → Bool → List ℕ → Reading) → IsReading read → (m : Moment) (c : Command)
         → doing task m.system ≡ Some (Running c) → StandsAt system.old m
-        → StandsAt system.new (monitor.over read task c (Some Halted) (world_of (ending c 0)) (on_system (on_ready (rotation.without task)) m))) }
+        → StandsAt system.new (monitor.over read task c (Some Halted) (world_of (ending c 0)) (on_system (on_waits (left task)) (on_system (on_ready (rotation.without task)) m)))) }
 {
     system.leave(task);
+    system.stop_waiting(task);
     match system.halt(task) {
         Some(finished) => over(alloc, system, task, finished),
         None => Ok(()),

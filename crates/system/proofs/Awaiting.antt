@@ -4,6 +4,7 @@ use Rattle.task_numbers.specs.declared.number.TaskNo.{TaskNo}
 use Rattle.eu_base.specs.declared.request.Request.{Request}
 use Rattle.eu_base.specs.declared.request.Request.TheVariants.{Input}
 use Rattle.eu_base.specs.declared.request.Reply.{Reply}
+use Rattle.eu_base.specs.Requests.{Answer, plain}
 use Rattle.task_requests.specs.Below.source_machine.specs.Systems.{Moment, woken, on_system}
 use Rattle.task_requests.specs.Below.source_machine.specs.Serving.{Served, Replies, Rests, input}
 use Rattle.task_requests.specs.Below.source_machine.specs.Events.{answered, awaited}
@@ -14,14 +15,14 @@ use Rattle.task_requests.specs.Served.{ServedAs}
 module _ (new : Machine) (t : TaskNo) where
   -- it gets the line
   pub answered_so : (middle : Machine) (served : Served) (reply : Reply) → ServedAs served middle (Some reply)
-      → ((m : Moment) → StandsAt middle m → StandsAt new (on_system (woken t reply) m)) → StandsAt new (answered served t)
-  answered_so middle (Replies r m) reply h f =
-      let same : reply ≡ r = cc h.0 in
-      subst (λ r. StandsAt new (on_system (woken t r) m)) same (f m h.1)
+      → ((m : Moment) → StandsAt middle m → StandsAt new (on_system (woken t (plain reply)) m)) → StandsAt new (answered served t)
+  answered_so middle (Replies a m) reply h f =
+      let same : plain reply ≡ a = cc h.0 in
+      subst (λ (b : Answer). StandsAt new (on_system (woken t b) m)) same (f m h.1)
   answered_so middle (Rests m) reply h f = absurd (cc h.0)
 
   pub unanswered : (served : Served) → ServedAs served new None → StandsAt new (answered served t)
-  unanswered (Replies r m) h = absurd (cc h.0)
+  unanswered (Replies a m) h = absurd (cc h.0)
   unanswered (Rests m) h = h.1
 
   -- it waits for one, or does not

@@ -9,11 +9,11 @@ use Rattle.task_requests.specs.Below.source_machine.specs.Systems.{System, Momen
 use Rattle.task_requests.specs.Below.source_machine.specs.Monitor.{Reading, taken}
 use Rattle.task_requests.specs.Below.source_machine.specs.Events.{line_for, line_at, happens, whole, after}
 use Rattle.task_requests.specs.Below.live_system.specs.Machines.{Machine, StandsAt}
-use Rattle.system.specs.Systems.{StandsFor, IsShort}
+use Rattle.system.specs.Systems.{Stands, StandsFor, IsShort}
 
 module _ (read : Env → Bool → List ℕ → Reading) (new : Machine) where
   -- no moment is left open behind an event
-  pub stands_after : (s : System) (e : Event) → StandsAt new (whole read s e) → StandsFor new (after read s e)
+  pub stands_after : (s : System) (e : Event) → Stands new (whole read s e) → StandsFor new (after read s e)
   unfolding StandsFor
   stands_after s e h = ((whole read s e).display, h)
 

@@ -4,3 +4,4 @@ mod Awaiting
 mod Leading
 mod Evaluating
 mod Turning
+mod Keeping

@@ -1,3 +1,4 @@
 pub mod Systems
 pub mod Leading
+pub mod Keeping
 pub mod Below

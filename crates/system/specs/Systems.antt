@@ -3,13 +3,19 @@ use Rattle.std.specs.Prelude.{◌≤◌, length}
 use Rattle.task_numbers.specs.declared.limits.TheConstants.{LONGEST_LINE}
 use Rattle.session_text.specs.declared.events.Event.{Event}
 use Rattle.session_text.specs.declared.events.Event.TheVariants.{Line, Supervisor, Turns, Fixpoint, Shut}
+use Rattle.isolation.specs.Waits.{AreOrderly}
 use Rattle.output_pieces.specs.Display.{Display}
-use Rattle.task_requests.specs.Below.source_machine.specs.Systems.{System}
+use Rattle.task_requests.specs.Below.source_machine.specs.Systems.{System, Moment}
 use Rattle.task_requests.specs.Below.live_system.specs.Machines.{Machine, StandsAt}
+
+-- a machine stands for a moment, in which those that wait for messages do so rightly
+pub record Stands (now : Machine) (m : Moment) : Type 0 where
+  pub at : StandsAt now m
+  pub orderly : AreOrderly m.system
 
 -- whatever was shown in the course of the last event
 unfoldable pub StandsFor : Machine → System → Type 0
-StandsFor now s = (display : Display) × StandsAt now (record { system = s; display = display })
+StandsFor now s = (display : Display) × Stands now (record { system = s; display = display })
 
 -- a line has at most 250 bytes, and comes at one of the four channels; so does a call
 abbrev pub IsShort : Event → Type 0

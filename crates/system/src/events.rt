@@ -8,7 +8,7 @@ ghost use Rattle.task_requests.specs.Below.source_machine.specs.Readings.{IsRead
 ghost use Rattle.task_requests.specs.Below.source_machine.specs.Supervisor.{called};
 ghost use Rattle.task_requests.specs.Below.source_machine.specs.Events as spec;
 ghost use Rattle.task_requests.specs.Below.live_system.specs.Machines.{StandsAt};
-ghost use Rattle.system.specs.Systems.{StandsFor, IsShort};
+ghost use Rattle.system.specs.Systems.{Stands, StandsFor, IsShort};
 
 use crate::lines::line_at;
 use crate::turns::turns;
@@ -17,11 +17,13 @@ use session_text::Event;
 use std::alloc::Global;
 use supervisor::call;
 use task_requests::System;
+use waiting_law::waits;
 
 /// UR and PUBLIC, idle, and no channel coupled.
 pub fn opening(alloc: Global) -> Result<System, NoMemory>
     ensures { IfOk result (λ system. StandsFor system source.opening) }
 {
+    waits();
     System::opening(alloc)
 }
 
@@ -47,8 +49,10 @@ pub fn event(
 /// An event from its beginning to its end.
 fn whole(alloc: Global, system: &mut System, event: &Event) -> Result<(), NoMemory>
     ensures { OnOk result ((read : Env → Bool → List ℕ → Reading) → IsReading read → (s : source.System) → IsShort event.now → StandsFor system.old s
-        → StandsAt system.new (spec.whole read s event.now)) }
+        → Stands system.new (spec.whole read s event.now)) }
 {
+    system.law();
+    waits();
     system.begin_event()?;
     happens(alloc, system, event)?;
     system.close_all()?;
@@ -57,7 +61,7 @@ fn whole(alloc: Global, system: &mut System, event: &Event) -> Result<(), NoMemo
 
 /// What happens in the course of an event.
 fn happens(alloc: Global, system: &mut System, event: &Event) -> Result<(), NoMemory>
-    ensures { OnOk result ((read : Env → Bool → List ℕ → Reading) → IsReading read → (m : source.Moment) → IsShort event.now → StandsAt system.old m
+    ensures { OnOk result ((read : Env → Bool → List ℕ → Reading) → IsReading read → (m : source.Moment) → IsShort event.now → Stands system.old m
         → StandsAt system.new (spec.happens read event.now m)) }
 {
     match event {

@@ -8,16 +8,17 @@ ghost use Rattle.task_requests.specs.Below.source_machine.specs.Turns.{turn};
 ghost use Rattle.task_requests.specs.Below.source_machine.specs.Whole.{IsSystem};
 ghost use Rattle.task_requests.specs.Below.live_system.specs.Machines.{StandsAt};
 ghost use Rattle.isolation.specs.Others.{OthersStay};
-ghost use Rattle.isolation.specs.Told.{turn_told};
+ghost use Rattle.isolation.specs.Told.{turn_told, turn_asked};
+ghost use Rattle.isolation.specs.Waits.{AreOrderly};
 ghost use Rattle.isolation.specs.Worlds.{SameFor, GoesSame, IsNext};
 
 use isolation::{others_stay, turns_alike};
 use task_requests::System;
 
-/// The turn that comes next leaves what is the own of each other task.
+/// The turn that comes next leaves what is the own of each other task that it does not reach.
 pub fn others(system: &System)
-    ensures { (read : Env → Bool → List ℕ → Reading) → (m : Moment) → StandsAt system.now m
-        → OthersStay m.system.shared.ready m.system (turn read m).system }
+    ensures { (read : Env → Bool → List ℕ → Reading) → (m : Moment) → StandsAt system.now m → AreOrderly m.system
+        → OthersStay m.system.shared.ready (turn_asked m) m.system (turn read m).system }
 {
     system.law();
     others_stay();
@@ -27,7 +28,7 @@ pub fn others(system: &System)
 /// the same it comes to the same, and the same is shown at its channel.
 pub fn two_worlds(system: &System)
     ensures { (read : Env → Bool → List ℕ → Reading) → (u : TaskNo) → (m : Moment) → (n : Moment) → StandsAt system.now m → IsSystem n.system
-        → length m.display.unfinished ≡ 4 → length n.display.unfinished ≡ 4 → IsNext u m.system.shared.ready → IsNext u n.system.shared.ready
+        → AreOrderly m.system → AreOrderly n.system → length m.display.unfinished ≡ 4 → length n.display.unfinished ≡ 4 → IsNext u m.system.shared.ready → IsNext u n.system.shared.ready
         → SameFor u m n → turn_told m ≡ turn_told n → GoesSame u m n (turn read m) (turn read n) }
 {
     system.law();

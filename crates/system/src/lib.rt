@@ -6,6 +6,7 @@ mod events;
 mod isolated;
 mod lines;
 mod turns;
+mod waiting;
 
 pub use events::{event, opening};
 pub use isolated::{others, two_worlds};

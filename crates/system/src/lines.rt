@@ -1,5 +1,6 @@
 //! Lines that come in at channels.
-ghost use Rattle.std.specs.Prelude.{◌≤◌, ℕ, Bool, List, Some, length, OnOk};
+ghost use Rattle.std.specs.Prelude.{◌≡◌, ◌≤◌, ℕ, Bool, true, List, Some, length, OnOk};
+ghost use Rattle.eu_base.specs.Requests.{plain, is_plain};
 ghost use Rattle.task_numbers.specs.declared.limits.TheConstants.{LONGEST_LINE};
 ghost use Rattle.elan_scope.specs.declared.env.Env.{Env};
 ghost use Rattle.terminals.specs.Channels as channels;
@@ -116,7 +117,8 @@ fn answered(system: &mut System, channel: u8, task: TaskNo) -> Result<(), NoMemo
 
 /// A task that waits gets its reply, and is ready.
 fn woken(system: &mut System, task: TaskNo, reply: Reply) -> Result<(), NoMemory>
-    ensures { OnOk result ((m : Moment) → StandsAt system.old m → StandsAt system.new (on_system (woken task reply) m)) }
+    requires plain { is_plain reply ≡ true }
+    ensures { OnOk result ((m : Moment) → StandsAt system.old m → StandsAt system.new (on_system (woken task (plain reply)) m)) }
 {
     system.reply(task, reply)?;
     system.back(task);

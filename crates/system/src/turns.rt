@@ -6,19 +6,23 @@ ghost use Rattle.task_requests.specs.Below.source_machine.specs.Monitor.{Reading
 ghost use Rattle.task_requests.specs.Below.source_machine.specs.Readings.{IsReading};
 ghost use Rattle.task_requests.specs.Below.source_machine.specs.Turns as spec;
 ghost use Rattle.task_requests.specs.Below.live_system.specs.Machines.{StandsAt};
+ghost use Rattle.isolation.specs.Waits.{HasTurn};
+ghost use Rattle.system.specs.Systems.{Stands};
 
 use crate::evaluations::evaluation;
 use crate::isolated::{others, two_worlds};
+use crate::waiting::turn_begins;
 use eu_base::NoMemory;
 use slice_law::enough;
 use std::alloc::Global;
 use task_numbers::TaskNo;
 use task_requests::System;
+use waiting_law::waits;
 
 /// So many turns.
 pub(crate) fn turns(alloc: Global, system: &mut System, number: u16) -> Result<(), NoMemory>
-    ensures { OnOk result ((read : Env → Bool → List ℕ → Reading) → IsReading read → (m : Moment) → StandsAt system.old m
-        → StandsAt system.new (spec.turns read number m)) }
+    ensures { OnOk result ((read : Env → Bool → List ℕ → Reading) → IsReading read → (m : Moment) → Stands system.old m
+        → Stands system.new (spec.turns read number m)) }
 {
     for k in 0..number {
         turn(alloc, system)?;
@@ -29,11 +33,13 @@ pub(crate) fn turns(alloc: Global, system: &mut System, number: u16) -> Result<(
 /// A turn, behind which all open lines end. It leaves what is the own of each other task (`others`), and depends on what is the task's own alone, its
 /// channel, and what it is told (`two_worlds`).
 fn turn(alloc: Global, system: &mut System) -> Result<(), NoMemory>
-    ensures { OnOk result ((read : Env → Bool → List ℕ → Reading) → IsReading read → (m : Moment) → StandsAt system.old m
-        → StandsAt system.new (spec.turn read m)) }
+    ensures { OnOk result ((read : Env → Bool → List ℕ → Reading) → IsReading read → (m : Moment) → Stands system.old m
+        → Stands system.new (spec.turn read m)) }
 {
     others(system);
     two_worlds(system);
+    system.law();
+    waits();
     first_turn(alloc, system)?;
     system.close_all()?;
     Ok(())
@@ -41,9 +47,10 @@ fn turn(alloc: Global, system: &mut System) -> Result<(), NoMemory>
 
 /// The first ready task has its turn, and stands no longer in the ready list.
 fn first_turn(alloc: Global, system: &mut System) -> Result<(), NoMemory>
-    ensures { OnOk result ((read : Env → Bool → List ℕ → Reading) → IsReading read → (m : Moment) → StandsAt system.old m
+    ensures { OnOk result ((read : Env → Bool → List ℕ → Reading) → IsReading read → (m : Moment) → Stands system.old m
         → StandsAt system.new (spec.turn_of read m.system.shared.ready m)) }
 {
+    turn_begins(system);
     match system.next_ready() {
         Some(task) => {
             enough(system);
@@ -53,7 +60,7 @@ fn first_turn(alloc: Global, system: &mut System) -> Result<(), NoMemory>
     }
 }
 
-/// A task goes on with so many marks. There are at most so many evaluations.
+/// A task that has its turn goes on with so many marks. There are at most so many evaluations.
 fn slice(
     alloc: Global,
     system: &mut System,
@@ -61,7 +68,7 @@ fn slice(
     most: usize,
     marks: u32,
 ) -> Result<(), NoMemory>
-    ensures { OnOk result ((read : Env → Bool → List ℕ → Reading) → IsReading read → (m : Moment) → StandsAt system.old m
+    ensures { OnOk result ((read : Env → Bool → List ℕ → Reading) → IsReading read → (m : Moment) → HasTurn task m.system → StandsAt system.old m
         → StandsAt system.new (spec.slice read most task marks m)) }
 {
     let mut left = marks;
@@ -81,9 +88,10 @@ fn turn_marks() -> u32
     100
 }
 
-/// A request costs a mark, so there is one evaluation more than marks; and one more yet, for a request that was paid before and is waited for.
+/// A request costs a mark, so there is one evaluation more than marks; one more for a request that was paid before and is waited for; and one more yet
+/// for a call that was taken, whose task asks for the answer.
 fn most_evaluations() -> usize
     ensures { result ≡ spec.most_evaluations }
 {
-    102
+    103
 }

@@ -1,4 +1,5 @@
 mod Living
+mod Waiting
 mod Coupling
 mod Queues
 pub mod Steps

@@ -1,9 +1,10 @@
 -- The ready tasks live, so there is room for one more that does.
-use Rattle.std.proofs.Common.{◌≡◌, ◌<◌, ◌≤◌, Bool, true, false, cond, not, ◌||◌, List, [], ◌∷◌, length, get_or, filter, sym, ap, ◌∙◌, arith}
+use Rattle.std.proofs.Common.{◌≡◌, ℕ, ◌<◌, ◌≤◌, Bool, true, false, cond, not, ◌||◌, List, [], ◌∷◌, length, get_or, filter, sym, ap, ◌∙◌, arith}
 use Rattle.std.proofs.Common.{if◌then◌else◌}
 use Rattle.std.specs.List.{list_any, IsDistinct, AllByRecursion}
 use Rattle.std.proofs.lemmas.Bool.{false≢true, and_parts, or_parts}
 use Rattle.std.proofs.lemmas.List.Elements.{recursion_from_All, All-filter, All-push, filter_passes}
+use Rattle.std.proofs.lemmas.List.Folds.{list_any-append}
 use Rattle.std.proofs.lemmas.List.Sums.{length-filter, count_by-le-length}
 use Rattle.std.proofs.lemmas.Map.Keys.{IsDistinct-from_apart, IsDistinct-head, IsDistinct-tail}
 use Rattle.std.proofs.lemmas.Map.Views.{any-filter_same}
@@ -11,7 +12,8 @@ use Rattle.task_numbers.specs.declared.limits.TheConstants.{TASKS}
 use Rattle.task_numbers.specs.declared.number.TaskNo.{TaskNo}
 use Rattle.task_numbers.specs.Numbers.{is_task}
 use Rattle.task_tree.specs.declared.task.Task.{Task}
-use Rattle.task_tree.specs.Tree.{Tree, has_number, lives, ended}
+use Rattle.task_tree.specs.Tree.{Tree, has_number, lives, ended, begun, task, next}
+use Rattle.task_tree.specs.Trees.{IsTree}
 use Rattle.slicer.specs.Rotation.{is_ready, at_back, without}
 use Rattle.source_machine.specs.Below.packet_store.specs.Library.{Library, none_live}
 use Rattle.source_machine.specs.Tasks.{Own}
@@ -54,7 +56,7 @@ at_most_all (t ∷ ts) xs apart live =
     turned [] h = tt
     turned (u ∷ us) h = (let e = h.0 in grind (arith, e), turned us h.1)
 
-apart_from : (t : TaskNo) (ready : List TaskNo) → is_ready t ready ≡ false → AllByRecursion (λ u. is_task u t ≡ false) ready
+pub apart_from : (t : TaskNo) (ready : List TaskNo) → is_ready t ready ≡ false → AllByRecursion (λ u. is_task u t ≡ false) ready
 apart_from t [] waits = tt
 apart_from t (u ∷ us) waits = let both = or_parts (is_task u t) (is_ready t us) waits in (both.0, apart_from t us both.1)
 
@@ -70,14 +72,19 @@ can_be_ready_waits t d can = by (is_ready t d.ready) (and_parts (lives t d.tree)
     by true h = absurd (false≢true h)
     by false h = grind arith
 
+-- room for one more that lives, beside different ones that live
+pub room_for : (t : TaskNo) (tree : Tree) (xs : List TaskNo) → IsTree tree → AllByRecursion (λ u. lives u tree ≡ true) xs → IsDistinct is_task xs
+    → AllByRecursion (λ u. is_task u t ≡ false) xs → lives t tree ≡ true → length xs < TASKS
+room_for t tree xs has live distinct apart here =
+    let few = has.few in
+    let less = fewer t tree.tasks here in
+    let most = at_most_all xs (others t tree.tasks) distinct (all_live_on t xs tree.tasks apart live) in
+    omega (arith, few, less, most)
+
 pub has_room : (t : TaskNo) (d : Desk) → IsDesk d → machine.can_be_ready t (system d none_live []) ≡ true → length d.ready < TASKS
 has_room t d desk can =
-    let few = desk.tree.few in
-    let less = fewer t d.tree.tasks (can_be_ready_lives t d can) in
-    let live = recursion_from_All (λ u. lives u d.tree ≡ true) d.ready desk.live in
-    let most = at_most_all d.ready (others t d.tree.tasks) (IsDistinct-from_apart is_task d.ready desk.ready.apart)
-    (all_live_on t d.ready d.tree.tasks (apart_from t d.ready (can_be_ready_waits t d can)) live) in
-    omega (arith, few, less, most)
+    room_for t d.tree d.ready desk.tree (recursion_from_All (λ u. lives u d.tree ≡ true) d.ready desk.live)
+    (IsDistinct-from_apart is_task d.ready desk.ready.apart) (apart_from t d.ready (can_be_ready_waits t d can)) (can_be_ready_lives t d can)
 
 pub live_at_back : (t : TaskNo) (tree : Tree) (ready : List TaskNo) → AllLive tree ready → lives t tree ≡ true → AllLive tree (at_back t ready)
 live_at_back t tree ready live here = All-push (λ u. lives u tree ≡ true) ready t live here
@@ -93,6 +100,12 @@ live_ended t tree ready live = λ k d lt.
     kept : (b : Bool) → not b ≡ true → b ≡ false
     kept true h = absurd (false≢true h)
     kept false h = grind arith
+
+-- a task more, and all live on
+pub live_begun : (name : List ℕ) (father : TaskNo) (tree : Tree) (t : TaskNo) → lives t tree ≡ true → lives t (begun name father tree) ≡ true
+live_begun name father tree t live =
+    list_any-append (has_number t) tree.tasks (task (next tree) name father ∷ [])
+    ∙ ap (λ (b : Bool). b || list_any (has_number t) (task (next tree) name father ∷ [])) live
 
 pub comes_back : (t : TaskNo) (inside now : Desk) (ready : List TaskNo) → inside ≡ now → ready ≡ at_back t inside.ready
     → ((library : Library) (owns : List Own) → machine.can_be_ready t (system now library owns) ≡ true)

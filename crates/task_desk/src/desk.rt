@@ -1,10 +1,11 @@
 //! The desk of the tasks.
-ghost use Rattle.std.specs.Prelude.{◌≡◌, ◌<◌, ◌≤◌, true, None, [], ◌∷◌, ◌++◌, List, drop, length, slice_get, IfOk, IfSome, OnOk};
-ghost use Rattle.std.specs.Option.{option_copied};
+ghost use Rattle.std.specs.Prelude.{◌≡◌, ◌<◌, ◌≤◌, true, false, not, ◌&&◌, None, Some, [], ◌∷◌, ◌++◌, List as Lists, drop, length, slice_get, IfOk, IfSome, OnOk};
+ghost use Rattle.std.specs.Option.{option_copied, option_map};
 ghost use Rattle.task_numbers.specs.Numbers.{niltask};
 ghost use Rattle.task_tree.specs.Tree as trees;
 ghost use Rattle.task_walks.specs.Families as families;
 ghost use Rattle.slicer.specs.Rotation as rotation;
+ghost use Rattle.message_wait.specs.Rendezvous as rendezvous;
 ghost use Rattle.terminals.specs.Channels as terminal;
 ghost use Rattle.output_pieces.specs.Display as shows;
 ghost use Rattle.source_machine.specs.Below.packet_store.specs.Library.{Library};
@@ -16,8 +17,9 @@ ghost use Rattle.source_machine.specs.Supervisor as supervisor;
 ghost use Rattle.task_desk.specs.Desks as desks;
 ghost use Rattle.task_desk.specs.Desks.{Makes, IsDesk};
 
-use containers::{Bytes, NoMemory};
+use containers::{Bytes, List, NoMemory};
 use eu_base::Stop;
+use message_wait::{Offer, Waits};
 use output_pieces::Display;
 use slicer::Slicer;
 use std::alloc::Global;
@@ -28,12 +30,13 @@ use task_tree::{BeginError, TaskTree};
 use task_walks::Entry;
 use terminals::{CHANNELS, Terminals};
 
-/// The tree of the tasks, the ready ones, the channels, and what is shown in the course of an event. A call that memory was
+/// The tree of the tasks, the ready ones, those that wait for messages, the channels, and what is shown in the course of an event. A call that memory was
 /// refused to may leave it with a part of what it was to do.
 #[derive(Drop)]
 pub struct TaskDesk {
     tree: TaskTree,
     ready: Slicer,
+    waits: Waits,
     channels: Terminals,
     display: Display,
 }
@@ -43,20 +46,21 @@ impl Model for TaskDesk {
 
     ghost Value = { desks.Desk };
 
-    ghost view = { λ desk. record { tree = desk.tree; ready = desk.ready; channels = desk.channels; display = desk.display } };
+    ghost view = { λ desk. record { tree = desk.tree; ready = desk.ready; waits = desk.waits; channels = desk.channels; display = desk.display } };
 
-    // So a task that lives and is not ready finds room in the ready list.
-    ghost invariant = { λ desk. desks.AllLive desk.tree desk.ready };
+    // So a task that lives and is not ready finds room in the ready list, and one that does not wait finds room to wait.
+    ghost invariant = { λ desk. desks.AllLive desk.tree desk.ready × desks.AreWaiters desk.tree desk.waits };
 }
 
 impl TaskDesk {
-    /// `UR` and `PUBLIC` live, none is ready, no channel is coupled, and nothing is shown.
+    /// `UR` and `PUBLIC` live, none is ready, none waits for messages, no channel is coupled, and nothing is shown.
     pub fn opening(alloc: Global) -> Result<TaskDesk, NoMemory>
         ensures { IfOk result (λ made. made ≡ desks.opening) }
     {
         Ok(TaskDesk {
             tree: TaskTree::opening(alloc)?,
             ready: Slicer::new(alloc)?,
+            waits: Waits::new(alloc)?,
             channels: Terminals::new(alloc)?,
             display: Display::new(alloc),
         })
@@ -128,7 +132,7 @@ impl TaskDesk {
 
     /// The place of a task in the order of the tree; `None` exactly where it does not live.
     pub fn place(&self, task: TaskNo) -> Option<usize>
-        ensures place { (library : Library) → (owns : List Own) → result ≡ machine.place task (desks.system self.now library owns) }
+        ensures place { (library : Library) → (owns : Lists Own) → result ≡ machine.place task (desks.system self.now library owns) }
         ensures within { IfSome result (λ place. place < length self.now.tree.tasks) }
     {
         self.tree.place(task)
@@ -178,7 +182,7 @@ impl TaskDesk {
         }
     }
 
-    /// A task without sons stands in the tree and the ready list no more; it is neither `UR` nor `PUBLIC`.
+    /// A task without sons stands in the tree, the ready list and among those that wait no more; it is neither `UR` nor `PUBLIC`.
     pub fn end(&mut self, task: TaskNo)
         requires live { trees.lives task self.old.tree ≡ true }
         requires childless { trees.son task self.old.tree ≡ niltask }
@@ -187,6 +191,7 @@ impl TaskDesk {
     {
         self.tree.end(task);
         self.ready.leave(task);
+        self.waits.leave(task);
     }
 
     /// Whether a task stands in the ready list.
@@ -198,7 +203,7 @@ impl TaskDesk {
 
     /// Whether a task lives and does not stand in the ready list.
     pub fn can_be_ready(&self, task: TaskNo) -> bool
-        ensures { (library : Library) → (owns : List Own) → result ≡ machine.can_be_ready task (desks.system self.now library owns) }
+        ensures { (library : Library) → (owns : Lists Own) → result ≡ machine.can_be_ready task (desks.system self.now library owns) }
     {
         self.tree.lives(task) && !self.ready.is_ready(task)
     }
@@ -229,6 +234,60 @@ impl TaskDesk {
         ensures none { result ≡ None → (self.old.ready ≡ []) × (self.new ≡ self.old) }
     {
         self.ready.next()
+    }
+
+    /// Whether a task lives and waits for no message, so that it can.
+    pub fn can_wait(&self, task: TaskNo) -> bool
+        ensures { result ≡ (trees.lives task self.now.tree && not (rendezvous.is_waiting task self.now.waits)) }
+    {
+        self.tree.lives(task) && !self.waits.is_waiting(task)
+    }
+
+    /// Offers the message of a task, which lives and does not wait, to another: what becomes of it, and of those that wait.
+    pub fn offer(&mut self, from: TaskNo, to: TaskNo, code: i16, queue: bool) -> Offer
+        requires live { trees.lives from self.old.tree ≡ true }
+        requires free { rendezvous.is_waiting from self.old.waits ≡ false }
+        ensures answer { result ≡ rendezvous.offer from to queue self.old.waits }
+        ensures after { Makes (machine.on_system (machine.on_waits (rendezvous.offered (record { from = from; to = to; code = code }) queue))) self.old self.new }
+    {
+        self.law();
+        self.waits.offer(from, to, code, queue)
+    }
+
+    /// A task, which lives and does not wait, takes the message of the one that has called it longest, or waits for anybody's.
+    pub fn wait_any(&mut self, task: TaskNo) -> Option<(TaskNo, i16)>
+        requires live { trees.lives task self.old.tree ≡ true }
+        requires free { rendezvous.is_waiting task self.old.waits ≡ false }
+        ensures message { result ≡ option_map (λ c. (c.from, c.code)) (rendezvous.first_caller task self.old.waits) }
+        ensures after { Makes (machine.on_system (machine.on_waits (rendezvous.waited task))) self.old self.new }
+    {
+        self.law();
+        self.waits.wait_any(task)
+    }
+
+    /// A task, which lives and does not wait, waits for the answer of the one that took its message.
+    pub fn wait_from(&mut self, task: TaskNo, of: TaskNo)
+        requires live { trees.lives task self.old.tree ≡ true }
+        requires free { rendezvous.is_waiting task self.old.waits ≡ false }
+        ensures { Makes (machine.on_system (machine.on_waits (rendezvous.entered (record { task = task; of = Some of })))) self.old self.new }
+    {
+        self.law();
+        self.waits.wait_from(task, of);
+    }
+
+    /// Those that wait for a task that has ended wait no longer: they are told, in their order.
+    pub fn gone(&mut self, alloc: Global, task: TaskNo) -> Result<List<TaskNo>, NoMemory>
+        ensures tasks { IfOk result (λ tasks. tasks ≡ rendezvous.waiting_for task self.old.waits) }
+        ensures after { OnOk result (Makes (machine.on_system (machine.on_waits (rendezvous.released task))) self.old self.new) }
+    {
+        self.waits.gone(alloc, task)
+    }
+
+    /// A task waits no longer, and calls no more.
+    pub fn stop_waiting(&mut self, task: TaskNo)
+        ensures { Makes (machine.on_system (machine.on_waits (rendezvous.left task))) self.old self.new }
+    {
+        self.waits.leave(task);
     }
 
     /// The task that a channel is coupled to, or niltask.
@@ -270,14 +329,14 @@ impl TaskDesk {
     pub fn can_couple(&self, channel: u8, task: TaskNo) -> bool
         requires low { 1 ≤ channel }
         requires high { channel ≤ CHANNELS }
-        ensures { (library : Library) → (owns : List Own) → result ≡ machine.can_couple channel task (desks.system self.now library owns) }
+        ensures { (library : Library) → (owns : Lists Own) → result ≡ machine.can_couple channel task (desks.system self.now library owns) }
     {
         self.channels.task_of(channel).is_nil() && self.channels.channel_of(task).is_none()
     }
 
     /// Why a task of the tree is coupled to no channel now, as a line: it does not live, or is coupled already.
     pub fn coupling_refusal(&self, task: TaskNo) -> Option<&'static [u8]>
-        ensures { (library : Library) → (owns : List Own) →
+        ensures { (library : Library) → (owns : Lists Own) →
             option_copied result ≡ supervisor.coupling_refusal task (desks.system self.now library owns) }
     {
         if !self.tree.lives(task) {
@@ -371,7 +430,7 @@ impl TaskDesk {
     pub fn unqueue(&mut self, channel: u8) -> Option<Bytes>
         requires low { 1 ≤ channel }
         requires high { channel ≤ CHANNELS }
-        ensures served { (library : Library) → (owns : List Own) →
+        ensures served { (library : Library) → (owns : Lists Own) →
             input (Some channel) (desks.moment self.old library owns) ≡ desks.line_served result (desks.moment self.new library owns) }
         ensures line { result ≡ slice_get (terminal.channel channel self.old.channels).queue 0 }
         ensures queue { Makes (machine.on_system (machine.on_channels (terminal.unqueued channel))) self.old self.new }

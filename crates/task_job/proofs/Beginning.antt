@@ -267,6 +267,7 @@ module _ (p : Program) (slots : List Slot) (spaces : Spaces) (heads : Heads) (ce
         (subst (λ ks. HasSlots p (blanks (start_kinds p)) (slots ++ blanks ks) spaces (mem_of heads (made p cells))) b.inserted has_made);
     front = front_held;
     bare = unmade;
+    contents = tt;
     stands = stands_first p (start p) (mem_of heads (made p cells));
     comes = λ marks more last g.
         let e : 0 + marks ≡ marks = omega arith in

@@ -4,4 +4,5 @@ pub mod Reaching
 pub mod Beginning
 pub mod Keeping
 pub mod Standing
+pub mod Receiving
 pub mod Framed

@@ -1,22 +1,22 @@
 -- A run that came to rest goes on from there, with more marks and replies, as it does from where it began.
 use Rattle.std.proofs.Common.{◌≡◌, ℕ, zero, suc, ◌+◌, ◌-◌, ◌≤◌, List, Some, sym, ap, ◌∙◌, subst, arith, ◌⊎◌, inl, inr, ⊎_elim}
-use Rattle.eu_base.specs.declared.request.Reply.{Reply}
+use Rattle.eu_base.specs.Requests.{Answer}
 use Rattle.code_form.specs.Program.{Program}
 use Rattle.code_form.specs.Machine.{Control, Scene, Rest, Stage, On, Over, Lost, advance, carry_on, exec}
 use Rattle.code_form.specs.Runs.{IsPaused, Rests}
 use Rattle.code_form.proofs.Spent.{at_marks, stage_shifts}
 
 -- with no more marks than the stage spends and k besides, it leads there with k
-abbrev pub Shifts : List Reply → Stage → Control → Scene → (ℕ → Stage) → Type 0
+abbrev pub Shifts : List Answer → Stage → Control → Scene → (ℕ → Stage) → Type 0
 Shifts rs (On c' s') c s f = (s'.marks ≤ s.marks) × ((k : ℕ) → f ((s.marks - s'.marks) + k) ≡ On c' (at_marks rs k s'))
 Shifts rs (Over r) c s f = IsPaused r.how ⊎ (s.marks ≡ 0) → (r.control ≡ c) × (r.scene ≡ s)
 Shifts rs Lost c s f = Unit {0}
 
-abbrev Passes : Program → List Reply → Control → Scene → Rest → Type 0
+abbrev Passes : Program → List Answer → Control → Scene → Rest → Type 0
 Passes p rs c s r =
     (k : ℕ) (last : Rest) → Rests p c (at_marks rs ((s.marks - r.scene.marks) + k) s) last → Rests p r.control (at_marks rs k r.scene) last
 
-module _ (p : Program) (rs : List Reply) where
+module _ (p : Program) (rs : List Answer) where
   passes_stage : (j : ℕ) (st : Stage) (c : Control) (s : Scene) (r : Rest) → IsPaused r.how ⊎ (s.marks ≡ 0)
       → ((c : Control) (s : Scene) → IsPaused r.how ⊎ (s.marks ≡ 0) → exec p j c s ≡ Some r → (r.scene.marks ≤ s.marks) × Passes p rs c s r)
       → carry_on st (exec p j) ≡ Some r → Shifts rs st c s (λ n. advance p c (at_marks rs n s)) → (r.scene.marks ≤ s.marks) × Passes p rs c s r

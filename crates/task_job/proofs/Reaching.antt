@@ -7,18 +7,20 @@ use Rattle.eu_base.specs.declared.value.Kind.{Kind}
 use Rattle.eu_base.specs.Values.{blank_of}
 use Rattle.std.proofs.lemmas.List.{length-map, length-append}
 use Rattle.eu_base.specs.declared.request.Request.{Request}
-use Rattle.eu_base.specs.declared.request.Reply.{Reply}
+use Rattle.eu_base.specs.Requests.{Answer}
 use Rattle.eu_base.specs.declared.address.Area.TheVariants.{Packets}
 use Rattle.eu_base.specs.Room.{cells_fit}
 use Rattle.eu_base.specs.Cells.{Free, packet_cell}
 use Rattle.eu_base.specs.DataSpaces.{Spaces}
+use Rattle.eu_base.specs.SoundSpaces.{CanCome}
+use Rattle.eu_base.proofs.SoundSpaces.{come_push}
 use Rattle.cell_kinds.specs.Kinds.{packet_kinds}
 use Rattle.code_form.specs.declared.halt.Halt.{Halt}
 use Rattle.code_form.specs.declared.halt.Halt.TheVariants as halts
 use Rattle.code_form.specs.declared.waits.Waits.{Waits}
 use Rattle.code_form.specs.declared.waits.Waits.TheVariants.{Nothing, Asked, Refused}
 use Rattle.code_form.specs.Program.{Program, start_kinds, kinds_in_packets}
-use Rattle.code_form.specs.Machine.{Position, Control, asking, answered, refused, Mem, Scene, Rest, rest_at, stage_at, carry_on, exec, have_room, start}
+use Rattle.code_form.specs.Machine.{Position, Control, asking, answered, after_reply, refused, Mem, Scene, Rest, rest_at, stage_at, carry_on, exec, have_room, start}
 use Rattle.code_form.specs.Runs.{IsPaused, Rests, Stands}
 use Rattle.code_form.proofs.Spent.{falls, stands_run, stands_reply}
 use Rattle.place_gen.specs.Correct.{Image, HasVariables, RestsAs, Shows}
@@ -37,15 +39,15 @@ use Rattle.task_job.proofs.Staying.{still}
 the_some : {A : Type 0} (a b : A) → Some a ≡ Some b → a ≡ b
 the_some a b e = cc
 
--- the reply that is given is taken
-took : (p : Program) (w : Waits) (c : Position) (q : Request) (r : Reply) (mem : Mem) (marks : ℕ) (more : List Reply) (last : Rest) → w ≡ Asked q
-    → Rests p (record { position = c; waits = w }) (record { mem = mem; marks = marks; replies = r ∷ more }) last
-    → Rests p (answered q r c) (record { mem = mem; marks = marks; replies = more }) last
-took p w c q r mem marks more last is h =
-    by (subst (λ (w : Waits). Rests p (record { position = c; waits = w }) (record { mem = mem; marks = marks; replies = r ∷ more }) last) is h)
+-- the answer that is given is taken
+took : (p : Program) (w : Waits) (c : Position) (q : Request) (a : Answer) (mem : Mem) (marks : ℕ) (more : List Answer) (last : Rest) → w ≡ Asked q
+    → Rests p (record { position = c; waits = w }) (record { mem = mem; marks = marks; replies = a ∷ more }) last
+    → Rests p (answered q a.reply c) (record { mem = after_reply q a mem; marks = marks; replies = more }) last
+took p w c q a mem marks more last is h =
+    by (subst (λ (w : Waits). Rests p (record { position = c; waits = w }) (record { mem = mem; marks = marks; replies = a ∷ more }) last) is h)
   where
-    by : Rests p (asking c q) (record { mem = mem; marks = marks; replies = r ∷ more }) last
-        → Rests p (answered q r c) (record { mem = mem; marks = marks; replies = more }) last
+    by : Rests p (asking c q) (record { mem = mem; marks = marks; replies = a ∷ more }) last
+        → Rests p (answered q a.reply c) (record { mem = after_reply q a mem; marks = marks; replies = more }) last
     by (zero, e) = absurd (cc e)
     by (suc n, e) = (n, e)
 
@@ -71,7 +73,7 @@ packets_in (Stopped s w) = w.packets
 packets_in (OutOfMarks w) = w.packets
 packets_in (Asks q w) = w.packets
 
-unfit : (core : Core) (variables : List Slot) (spaces : Spaces) (marks : ℕ) (replies : List Reply) → start_fits core ≡ false
+unfit : (core : Core) (variables : List Slot) (spaces : Spaces) (marks : ℕ) (replies : List Answer) → start_fits core ≡ false
     → packets_in (evaluate core variables spaces marks replies) ≡ variables ++ blanks core.inserted
 unfit core variables spaces marks replies full =
     ap (λ b. packets_in (ending (outcomes.branch b (run_from core.start core marks) (outcomes.Stopped CellRoom) (at_start core variables spaces marks replies)))) full
@@ -94,7 +96,7 @@ front_is : (xs ys : List Slot) → take (length xs) (xs ++ ys) ≡ xs
 front_is [] ys = refl
 front_is (x ∷ xs) ys = ap (λ l. x ∷ l) (front_is xs ys)
 
-module _ (core : Core) (variables : List Slot) (spaces : Spaces) (spent : ℕ) (replies : List Reply) (code : Program) (c : Control) (now : Mem)
+module _ (core : Core) (variables : List Slot) (spaces : Spaces) (spent : ℕ) (replies : List Answer) (code : Program) (c : Control) (now : Mem)
     (k : Reaches core variables spaces spent replies code c now) where
   abbrev with_marks : ℕ → Scene
   with_marks left = record { mem = now; marks = left; replies = [] }
@@ -102,7 +104,7 @@ module _ (core : Core) (variables : List Slot) (spaces : Spaces) (spent : ℕ) (
   -- it comes to rest
   pub next : (left : ℕ) → (r : Rest) × Rests code c (record { mem = now; marks = left; replies = [] }) r
   next left =
-      let e = k.behaves.ends (at_start core variables spaces (spent + left) replies) k.first k.has in (
+      let e = k.behaves.ends (at_start core variables spaces (spent + left) replies) k.first (k.has, k.contents) in (
         e.rest,
         k.comes left [] e.rest
             (subst (λ rs. Rests code (start code) (record { mem = k.first; marks = spent + left; replies = rs }) e.rest) (sym (append-nil replies))
@@ -112,7 +114,7 @@ module _ (core : Core) (variables : List Slot) (spaces : Spaces) (spent : ℕ) (
   -- and shows what the evaluation gives
   pub shows : (left : ℕ) (r : Rest) → Rests code c (record { mem = now; marks = left; replies = [] }) r
       → Shows code (evaluate core variables spaces (spent + left) replies) r
-  shows left r h = plays core code variables spaces k.first now spent left replies c r k.behaves k.has k.stands h
+  shows left r h = plays core code variables spaces k.first now spent left replies c r k.behaves (k.has, k.contents) k.stands h
 
   -- where there is no room its cells are those of the start
   still_first : (left : ℕ) (r : Rest) → Rests code c (record { mem = now; marks = left; replies = [] }) r → have_room code ≡ false
@@ -158,6 +160,7 @@ module _ (core : Core) (variables : List Slot) (spaces : Spaces) (spent : ℕ) (
     has = k.has;
     front = k.front;
     bare = k.bare;
+    contents = k.contents;
     stands = stands_run code (start code) k.first spent left replies c now r calm k.stands h none;
     comes = λ marks more last g.
         let e : (spent + (left - r.scene.marks)) + marks ≡ spent + ((left - r.scene.marks) + marks) = omega arith in
@@ -177,23 +180,24 @@ module _ (core : Core) (variables : List Slot) (spaces : Spaces) (spent : ℕ) (
           let gone : r.scene.marks ≡ 0 = omega (arith, less, spent_none) in
           ap (λ n. record r.scene { marks = n }) gone ∙ ap (λ rs. record r.scene { marks = 0; replies = rs }) none
 
-  -- after a reply
-  pub reaches_reply : (q : Request) (reply : Reply) → c.waits ≡ Asked q
-      → Reaches core variables spaces spent (replies ++ reply ∷ []) code (answered q reply c.position) now
-  reaches_reply q reply asks = record {
+  -- after an answer
+  pub reaches_reply : (q : Request) (a : Answer) → CanCome a.content → c.waits ≡ Asked q
+      → Reaches core variables spaces spent (replies ++ a ∷ []) code (answered q a.reply c.position) (after_reply q a now)
+  reaches_reply q a can asks = record {
     behaves = k.behaves;
     first = k.first;
     has = k.has;
     front = k.front;
     bare = k.bare;
+    contents = come_push replies a k.contents can;
     stands =
-        stands_reply code (start code) k.first spent replies c.position now q reply
+        stands_reply code (start code) k.first spent replies c.position now q a
         (subst (λ (w : Waits). Stands code (start code) k.first spent replies (record { position = c.position; waits = w }) now) asks k.stands);
     comes = λ marks more last g.
-        took code c.waits c.position q reply now marks more last asks
-        (k.comes marks (reply ∷ more) last
+        took code c.waits c.position q a now marks more last asks
+        (k.comes marks (a ∷ more) last
         (subst (λ rs. Rests code (start code) (record { mem = k.first; marks = spent + marks; replies = rs }) last)
-        (append_assoc replies (reply ∷ []) more) g));
+        (append_assoc replies (a ∷ []) more) g));
   }
 
   -- and behind them nothing was made where all together have no room

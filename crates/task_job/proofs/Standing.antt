@@ -3,10 +3,10 @@ use Rattle.std.proofs.Common.{◌≡◌, ℕ, ◌+◌, ◌-◌, ◌≤◌, ◌�
 use Rattle.std.specs.Prelude.{Result, Ok, Err, IfOk, IsSome}
 use Rattle.eu_base.specs.declared.value.Kind.{Kind}
 use Rattle.eu_base.specs.declared.request.Request.{Request}
-use Rattle.eu_base.specs.declared.request.Reply.{Reply}
+use Rattle.eu_base.specs.Requests.{Answer, reply_changes}
 use Rattle.eu_base.specs.declared.address.Area.TheVariants.{Packets}
 use Rattle.eu_base.specs.Cells.{Cells}
-use Rattle.eu_base.specs.DataSpaces.{Heads}
+use Rattle.eu_base.specs.DataSpaces.{Heads, SpaceChange, heads_after}
 use Rattle.cell_kinds.specs.Kinds.{packet_kinds}
 use Rattle.page_pool.specs.Pool.{Pages}
 use Rattle.space_memory.specs.Memories.{MemoryData, HoldsAll, memory_heads}
@@ -15,7 +15,7 @@ use Rattle.code_form.specs.declared.halt.Halt.TheVariants as halts
 use Rattle.code_form.specs.declared.waits.Waits.{Waits}
 use Rattle.code_form.specs.declared.waits.Waits.TheVariants.{Nothing, Asked, Given, Refused}
 use Rattle.code_form.specs.Program.{Program}
-use Rattle.code_form.specs.Machine.{Control, Mem, Rest, start, made, CanBeMade, answered}
+use Rattle.code_form.specs.Machine.{Control, Mem, mem_by, mem_after, Rest, start, made, CanBeMade, answered, after_reply}
 use Rattle.code_form.specs.Runs.{IsPaused, Rests, asked}
 use Rattle.zero_state.specs.Stepping.{mem_of, scene_of}
 use Rattle.zero_machine.specs.Running.{RestsSo}
@@ -27,7 +27,7 @@ use Rattle.source_machine.specs.Below.packet_store.specs.declared.unit.Compiled.
 use Rattle.source_machine.specs.Stores.{Store}
 use Rattle.source_machine.specs.Tasks.{Command, ending, world_of, store_in, own_variables, spent, request_in, starting, with_reply}
 use Rattle.task_job.specs.Runs.{asked_by, IsStill, Reaches}
-use Rattle.task_job.specs.Standing.{Keeps, HasBehind, Left, ReachesFor, RunsFor, RestsFor}
+use Rattle.task_job.specs.Standing.{Keeps, HasBehind, Left, ReachesFor, RunsFor, RestsFor, Receives}
 use Rattle.task_job.specs.declared.job.Job.{Job}
 use Rattle.task_job.proofs.Beginning.{can_be_made, begins}
 use Rattle.task_job.proofs.Reaching.{packets_in, next, shows, many_variables, behind_there, reaches_on, still_there, reaches_reply}
@@ -196,22 +196,43 @@ asked_is (Asked q) some = (q, refl)
 asked_is (Given r) some = absurd (cc some)
 asked_is (Refused stop) some = absurd (cc some)
 
--- a job that got a reply
-pub takes_reply : (kinds : List Kind) (old new : Pages) (m n : MemoryData) (job : Job) (c : Command) (q : Request) (reply : Reply) (run' : Control)
-    → ReachesFor kinds old m job c → job.run.waits ≡ Asked q → run' ≡ answered q reply job.run.position
-    → ((cells : Cells) → HoldsAll old m cells → HoldsAll new n cells) → memory_heads n ≡ memory_heads m
-    → ReachesFor kinds new n (at_run job run') (with_reply reply c)
-takes_reply kinds old new m n job c q reply run' h asks is kept heads = record {
-  unit = h.unit;
-  kinds_are = h.kinds_are;
-  now = h.now;
-  holds = kept h.now h.holds;
-  reaches =
-      subst (λ (hs : Heads). Reaches c.unit.core c.before.variables c.before.spaces c.marks (c.replies ++ reply ∷ []) job.code run' (mem_of hs h.now)) (sym heads)
-      (subst (λ (d : Control). Reaches c.unit.core c.before.variables c.before.spaces c.marks (c.replies ++ reply ∷ []) job.code d (mem_of (memory_heads m) h.now))
-      (sym is)
-      (reaches_reply c.unit.core c.before.variables c.before.spaces c.marks c.replies job.code job.run (mem_of (memory_heads m) h.now) h.reaches q reply asks));
+-- the data spaces of a memory after changes
+mem_is : (list : List SpaceChange) (m : Mem) → mem_after list m ≡ mem_of (heads_after list m.heads) (mem_after list m).cells
+mem_is [] m = refl
+mem_is (change ∷ list) m = mem_is list (mem_by change m)
+
+-- so it is still after a call that keeps what is known
+pub receives_on : (q : Request) (a : Answer) (old mid new : Pages) (m n l : MemoryData) → Receives q a old mid m n
+    → ((cells : Cells) → HoldsAll mid n cells → HoldsAll new l cells) → memory_heads l ≡ memory_heads n → Receives q a old new m l
+receives_on q a old mid new m n l got kept same = record {
+  content = got.content;
+  heads = same ∙ got.heads;
+  holds = λ cells h. kept (after_reply q a (mem_of (memory_heads m) cells)).cells (got.holds cells h);
 }
+
+module _ (kinds : List Kind) (old new : Pages) (m n : MemoryData) (job : Job) (c : Command) (q : Request) (a : Answer) (run' : Control)
+    (h : ReachesFor kinds old m job c) (asks : job.run.waits ≡ Asked q) (is : run' ≡ answered q a.reply job.run.position) (got : Receives q a old new m n) where
+  abbrev was : Mem
+  was = mem_of (memory_heads m) h.now
+
+  abbrev after : Mem
+  after = after_reply q a was
+
+  after_is : after ≡ mem_of (memory_heads n) after.cells
+  after_is = mem_is (reply_changes q a was.heads) was ∙ ap (λ (heads : Heads). mem_of heads after.cells) (sym got.heads)
+
+  -- a job that got an answer
+  pub takes_reply : ReachesFor kinds new n (at_run job run') (with_reply a c)
+  takes_reply = record {
+    unit = h.unit;
+    kinds_are = h.kinds_are;
+    now = after.cells;
+    holds = got.holds h.now h.holds;
+    reaches =
+        subst (Reaches c.unit.core c.before.variables c.before.spaces c.marks (c.replies ++ a ∷ []) job.code run') after_is
+        (subst (λ (d : Control). Reaches c.unit.core c.before.variables c.before.spaces c.marks (c.replies ++ a ∷ []) job.code d after) (sym is)
+        (reaches_reply c.unit.core c.before.variables c.before.spaces c.marks c.replies job.code job.run was h.reaches q a got.content asks));
+  }
 
 -- a job at its start
 pub starts : (old new : Pages) (m n : MemoryData) (unit : Compiled) (code : Program) (run : Control) (store : Store) → Behaves unit.core code

@@ -2,7 +2,7 @@
 use Rattle.std.proofs.Common.{◌≡◌, ℕ, zero, suc, List, [], ◌∷◌, ◌++◌, Option, Some, None, refl, sym, ap, ◌∙◌, subst, arith, ◌⊎◌, inl, inr, ⊎_elim}
 use Rattle.std.specs.Prelude.{slice_get}
 use Rattle.eu_base.specs.declared.request.Request.{Request}
-use Rattle.eu_base.specs.declared.request.Reply.{Reply}
+use Rattle.eu_base.specs.Requests.{Answer}
 use Rattle.code_form.specs.declared.waits.Waits.{Waits}
 use Rattle.code_form.specs.declared.waits.Waits.TheVariants.{Nothing, Asked, Given, Refused}
 use Rattle.code_form.specs.Program.{Program, instr_of}
@@ -38,7 +38,7 @@ move_asks : (m : Move) (d : Control) (s : Scene) → AsksAs None (move_stage m d
 move_asks (Goes c m) d s = tt
 move_asks (Spends a) d s = mark_asks s.marks a d s
 move_asks (Halts stop) d s = refl
-move_asks (Refuses stop c) d s = tt
+move_asks (Refuses stop c m) d s = tt
 move_asks Ends d s = refl
 move_asks Unknown d s = tt
 move_asks Stuck d s = tt
@@ -48,7 +48,7 @@ stage_asks p Nothing c s = move_asks (step p c s.mem) (free c) s
 stage_asks p (Given r) c s = move_asks (takes_reply (instr_of (slice_get p.lines c.pc)) r c s.mem) (given c r) s
 stage_asks p (Asked q) c s = by s.replies
   where
-    by : (rs : List Reply) → AsksAs (Some q) (reply_stage rs q c s)
+    by : (rs : List Answer) → AsksAs (Some q) (reply_stage rs q c s)
     by [] = refl
     by (r ∷ rs) = tt
 stage_asks p (Refused stop) c s = refl
@@ -73,7 +73,7 @@ move_stays : (m : Move) (d : Control) (s : Scene) → StaysAs (move_stage m d s)
 move_stays (Goes c m) d s = tt
 move_stays (Spends a) d s = mark_stays s.marks a d s
 move_stays (Halts stop) d s = λ paused. absurd paused
-move_stays (Refuses stop c) d s = tt
+move_stays (Refuses stop c m) d s = tt
 move_stays Ends d s = λ paused. absurd paused
 move_stays Unknown d s = tt
 move_stays Stuck d s = tt
@@ -83,7 +83,7 @@ stage_stays p Nothing c s = move_stays (step p c s.mem) (free c) s
 stage_stays p (Given r) c s = move_stays (takes_reply (instr_of (slice_get p.lines c.pc)) r c s.mem) (given c r) s
 stage_stays p (Asked q) c s = by s.replies
   where
-    by : (rs : List Reply) → StaysAs (reply_stage rs q c s) (asking c q) s (reply_stage [] q c (bare s))
+    by : (rs : List Answer) → StaysAs (reply_stage rs q c s) (asking c q) s (reply_stage [] q c (bare s))
     by [] = λ paused. refl
     by (r ∷ rs) = tt
 stage_stays p (Refused stop) c s = λ paused. absurd paused

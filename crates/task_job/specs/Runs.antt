@@ -2,10 +2,11 @@
 use Rattle.std.specs.Prelude.{◌≡◌, ℕ, ◌+◌, ◌≤◌, false, List, [], ◌++◌, length, Option, Some, None}
 use Rattle.eu_base.specs.declared.address.Area.TheVariants.{Packets}
 use Rattle.eu_base.specs.declared.request.Request.{Request}
-use Rattle.eu_base.specs.declared.request.Reply.{Reply}
+use Rattle.eu_base.specs.Requests.{Answer}
 use Rattle.eu_base.specs.Room.{cells_fit}
 use Rattle.eu_base.specs.Cells.{Free, packet_cell}
 use Rattle.eu_base.specs.DataSpaces.{Spaces}
+use Rattle.eu_base.specs.SoundSpaces.{AllCanCome}
 use Rattle.code_form.specs.declared.halt.Halt.{Halt}
 use Rattle.code_form.specs.declared.halt.Halt.TheVariants as halts
 use Rattle.code_form.specs.Program.{Program, kinds_in_packets}
@@ -30,16 +31,17 @@ pub record IsStill (code : Program) (c : Control) (mem : Mem) : Type 0 where
   pub asks : asked c.waits ≡ asked_by rest.how
 
 -- Code does what a command does that starts with these variables of packets and these data spaces. From the memory in which the command's
--- variables were made, with the marks that were spent and the replies that were given, it stands here, and it goes on as the command does. Where
+-- variables were made, with the marks that were spent and the answers that were given, it stands here, and it goes on as the command does. Where
 -- the variables of packets have no room with those of the packet that is inserted, these were not made.
-pub record Reaches (core : Core) (variables : List Slot) (spaces : Spaces) (spent : ℕ) (replies : List Reply) (code : Program) (c : Control) (now : Mem) :
+pub record Reaches (core : Core) (variables : List Slot) (spaces : Spaces) (spent : ℕ) (replies : List Answer) (code : Program) (c : Control) (now : Mem) :
     Type 0 where
   pub behaves : Behaves core code
   pub first : Mem
   pub has : HasSlots code (blanks (start_kinds core)) (variables ++ blanks core.inserted) spaces first
   pub front : Image Packets variables first.cells
   pub bare : cells_fit (length (kinds_in_packets code)) ≡ false → (x : ℕ) → length variables ≤ x → first.cells (packet_cell x) ≡ Free
+  pub contents : AllCanCome replies
   pub stands : Stands code (start code) first spent replies c now
-  pub comes : (marks : ℕ) (more : List Reply) (last : Rest)
+  pub comes : (marks : ℕ) (more : List Answer) (last : Rest)
       → Rests code (start code) (record { mem = first; marks = spent + marks; replies = replies ++ more }) last
       → Rests code c (record { mem = now; marks = marks; replies = more }) last

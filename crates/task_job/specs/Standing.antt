@@ -3,13 +3,17 @@ use Rattle.std.specs.Prelude.{◌≡◌, ℕ, ◌≤◌, false, List, ◌++◌, 
 use Rattle.eu_base.specs.declared.value.Kind.{Kind}
 use Rattle.eu_base.specs.declared.address.Area.TheVariants.{Packets}
 use Rattle.eu_base.specs.Room.{cells_fit}
+use Rattle.eu_base.specs.declared.request.Request.{Request}
+use Rattle.eu_base.specs.Requests.{Answer, reply_changes}
 use Rattle.eu_base.specs.Cells.{Free, Cells, run_cell, packet_cell}
-use Rattle.eu_base.specs.DataSpaces.{Spaces}
+use Rattle.eu_base.specs.DataSpaces.{Spaces, heads_after}
+use Rattle.eu_base.specs.SoundSpaces.{CanCome}
 use Rattle.cell_kinds.specs.Kinds.{packet_kinds}
 use Rattle.page_pool.specs.Pool.{Pages}
 use Rattle.space_memory.specs.Memories.{MemoryData, HoldsAll, memory_heads}
 use Rattle.code_form.specs.declared.halt.Halt.{Halt}
 use Rattle.code_form.specs.declared.halt.Halt.TheVariants as halts
+use Rattle.code_form.specs.Machine.{after_reply}
 use Rattle.code_form.specs.Valid.{Fits}
 use Rattle.zero_state.specs.Stepping.{mem_of}
 use Rattle.place_gen.specs.Correct.{Image, HasVariables, HasSpaces}
@@ -68,6 +72,13 @@ pub record ReachesFor (kinds : List Kind) (pages : Pages) (memory : MemoryData) 
 pub record RunsFor (kinds : List Kind) (pages : Pages) (memory : MemoryData) (job : Job) (c : Command) : Type 0 where
   pub reaches : ReachesFor kinds pages memory job c
   pub still : IsStill job.code job.run (mem_of (memory_heads memory) reaches.now)
+
+-- What an answer to a request does to the data spaces of a memory is done: the one that was sent was taken out, and the one that came with a message
+-- was given. With most answers that is nothing.
+pub record Receives (q : Request) (a : Answer) (old new : Pages) (m n : MemoryData) : Type 0 where
+  pub content : CanCome a.content
+  pub heads : memory_heads n ≡ heads_after (reply_changes q a (memory_heads m)) (memory_heads m)
+  pub holds : (cells : Cells) → HoldsAll old m cells → HoldsAll new n (after_reply q a (mem_of (memory_heads m) cells)).cells
 
 -- ---- a command that runs fits its code
 

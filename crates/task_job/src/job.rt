@@ -1,14 +1,18 @@
 //! A command that runs over the memory of its task.
 ghost use Rattle.std.specs.Prelude.{◌≡◌, ◌≤◌, List, IfOk, OnOk, IsSome};
 ghost use Rattle.eu_base.specs.declared.value.Kind.{Kind};
+ghost use Rattle.eu_base.specs.declared.request.Request.{Request};
+ghost use Rattle.eu_base.specs.Requests.{Answer};
 ghost use Rattle.cell_kinds.specs.Kinds.{packet_kinds};
+ghost use Rattle.code_form.specs.declared.waits.Waits.TheVariants as waits;
 ghost use Rattle.code_form.specs.Runs.{asked};
 ghost use Rattle.code_gen.specs.Correct.{Behaves};
 ghost use Rattle.source_machine.specs.Below.packet_store.specs.Units.{IsUnit};
-ghost use Rattle.space_memory.specs.Memories.{roots, StandsWhole, MemoryFrames};
+ghost use Rattle.page_pool.specs.Pool.{Pages};
+ghost use Rattle.space_memory.specs.Memories.{MemoryData, roots, StandsWhole, MemoryFrames};
 ghost use Rattle.source_machine.specs.Stores.{Store};
 ghost use Rattle.source_machine.specs.Tasks.{Command, ending, starting, with_reply};
-ghost use Rattle.task_job.specs.Standing.{Keeps, ReachesFor, RunsFor, RestsFor, IsSoundJob};
+ghost use Rattle.task_job.specs.Standing.{Keeps, ReachesFor, RunsFor, RestsFor, Receives, IsSoundJob};
 
 use crate::lent::{answer_over, go_over, start_over};
 use code_form::{Code, Halt};
@@ -104,7 +108,8 @@ impl Job {
         Ok(halt)
     }
 
-    /// Gets a reply to what it asks, and goes on to right before its next mark.
+    /// Gets the reply of an answer to what it asks, and goes on to right before its next mark. What the answer does to the data spaces of the memory
+    /// is done already.
     pub fn answer(
         &mut self,
         memory: &mut SpaceMemory,
@@ -114,8 +119,9 @@ impl Job {
         requires sound { IsSoundJob self.old }
         requires asks { IsSome (asked self.old.run.waits) }
         requires agree { StandsWhole pool.old (roots memory.old) }
-        ensures answered { OnOk result ((kinds : List Kind) (c : Command) → RunsFor kinds pool.old memory.old self.old c →
-            RunsFor kinds pool.new memory.new self.new (with_reply reply c)) }
+        ensures answered { OnOk result ((kinds : List Kind) (c : Command) (request : Request) (a : Answer) (pages : Pages) (before : MemoryData) →
+            self.old.run.waits ≡ waits.Asked request → a.reply ≡ reply → Receives request a pages pool.old before memory.old →
+            RunsFor kinds pages before self.old c → RunsFor kinds pool.new memory.new self.new (with_reply a c)) }
         ensures sound { OnOk result (IsSoundJob self.new) }
         ensures stands { StandsWhole pool.new (roots memory.new) }
         ensures frames { MemoryFrames pool.old pool.new (roots memory.old) (roots memory.new) }

@@ -3,6 +3,7 @@ use Rattle.std.proofs.Common.{◌≡◌, ℕ, Bool, true, false, List, Option, S
 use Rattle.std.specs.Prelude.{option_map, if◌then◌else◌}
 use Rattle.eu_base.specs.declared.stop.Stop.TheVariants.{BadName, NotInserted}
 use Rattle.eu_base.specs.declared.request.Reply.TheVariants.{Stopped}
+use Rattle.eu_base.specs.Requests.{plain}
 use Rattle.task_numbers.specs.declared.number.TaskNo.{TaskNo}
 use Rattle.task_tree.specs.declared.refusal.BeginError.{BeginError}
 use Rattle.task_tree.specs.Tree as tree
@@ -31,7 +32,7 @@ module _ (new : Machine) (name : List ℕ) (t : TaskNo) (m : Moment) where
   pub begun : (unit : Option Compiled) (son : TaskNo) → BeginsRunning unit new name t m (Some son)
       → ServedAs (begin_with None unit name t m) new (Some (of_task son))
   begun None son h = absurd (cc h.0)
-  begun (Some unit) son h = (ap (option_map of_task) h.0, h.1)
+  begun (Some unit) son h = (ap (λ (o : Option TaskNo). option_map (λ (u : TaskNo). plain (of_task u)) o) h.0, h.1)
 
   pub not_begun : (unit : Option Compiled) → BeginsRunning unit new name t m None
       → ServedAs (begin_with None unit name t m) new (Some (Stopped NotInserted))

@@ -15,10 +15,11 @@ use Rattle.task_walks.specs.Ends.{EndInTurn}
 use Rattle.task_walks.proofs.Ending.{family_ends}
 use Rattle.terminals.specs.Channels as channels
 use Rattle.live_system.specs.Below.source_machine.specs.Systems.{System, Moment, on_channels, uncouple_at}
-use Rattle.live_system.specs.Below.source_machine.specs.Ends.{removed, removed_at, ended, ended_with_descendants}
+use Rattle.live_system.specs.Below.source_machine.specs.Ends.{removed, removed_at, freed_by, ended, ended_with_descendants}
 use Rattle.live_system.specs.Below.source_machine.specs.Serving.{is_first, may_end}
 use Rattle.live_system.specs.Machines.{Machine, StandsAt}
 use Rattle.live_system.proofs.Living.{placed}
+use Rattle.task_requests.proofs.Handing.{freed_tree}
 
 -- the machine stands where tasks have ended, and those that are left can end in turn; that leads to the last moment
 pub record Midway (now : Machine) (left : List TaskNo) (last : Moment) : Type 0 where
@@ -36,9 +37,10 @@ removed_tree t s live =
 ended_tree : (t : TaskNo) (m : Moment) → tree.lives t m.system.shared.tree ≡ true → (ended m t).system.shared.tree ≡ tree.ended t m.system.shared.tree
 ended_tree t m live = by (channels.channel_of t m.system.shared.channels)
   where
-    by : (o : Option ℕ) → (removed t (uncouple_at o m).system).shared.tree ≡ tree.ended t m.system.shared.tree
-    by None = removed_tree t m.system live
-    by (Some c) = removed_tree t (on_channels (channels.uncoupled c) m.system) live
+    by : (o : Option ℕ) → (freed_by t (removed t (uncouple_at o m).system)).shared.tree ≡ tree.ended t m.system.shared.tree
+    by None = freed_tree t (removed t m.system) ∙ removed_tree t m.system live
+    by (Some c) =
+        freed_tree t (removed t (on_channels (channels.uncoupled c) m.system)) ∙ removed_tree t (on_channels (channels.uncoupled c) m.system) live
 
 next_ended : (old new : Machine) (t : TaskNo) (left : List TaskNo) (last : Moment) → Midway old (t ∷ left) last
     → ((m : Moment) → tree.lives t m.system.shared.tree ≡ true → tree.son t m.system.shared.tree ≡ niltask → 2 < t.0 → StandsAt old m → StandsAt new (ended m t))

@@ -3,3 +3,7 @@ mod Results
 mod Lines
 mod Beginning
 mod Ending
+mod Waiting
+mod Handing
+mod Sending
+mod Answering

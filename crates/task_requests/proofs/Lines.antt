@@ -1,8 +1,9 @@
 -- Lines that wait at channels.
-use Rattle.std.proofs.Common.{◌≡◌, ℕ, ◌-◌, List, [], ◌∷◌, drop, Some, None, refl, sym, ap, ◌∙◌, subst}
+use Rattle.std.proofs.Common.{◌≡◌, ℕ, ◌-◌, List, [], ◌∷◌, drop, Option, Some, None, refl, sym, ap, ◌∙◌, subst}
 use Rattle.std.specs.Prelude.{slice_get, slice_set, option_map}
 use Rattle.std.proofs.lemmas.List.{set-get_or}
 use Rattle.eu_base.specs.declared.request.Reply.TheVariants.{Text}
+use Rattle.eu_base.specs.Requests.{plain}
 use Rattle.terminals.specs.Channels.{Channel, channel, without_line, unqueued, unused}
 use Rattle.live_system.specs.Below.source_machine.specs.Systems.{Moment, on_system, on_channels}
 use Rattle.live_system.specs.Below.source_machine.specs.Serving.{line_taken}
@@ -23,7 +24,7 @@ line_given new c m line is h = by (channel c m.system.shared.channels).queue is
   where
     by : (q : List (List ℕ)) → Some line ≡ slice_get q 0 → ServedAs (line_taken q c m) new (Some (Text line))
     by [] e = absurd (cc e)
-    by (first ∷ rest) e = (ap (λ o. option_map Text o) e, h)
+    by (first ∷ rest) e = (ap (λ (o : Option (List ℕ)). option_map (λ (l : List ℕ). plain (Text l)) o) e, h)
 
 pub none_given : (new : Machine) (c : ℕ) (m : Moment) → None ≡ slice_get (channel c m.system.shared.channels).queue 0
     → StandsAt new (on_system (on_channels (unqueued c)) m)

@@ -6,9 +6,10 @@ use Rattle.std.proofs.lemmas.Bool.{false≢true, lt-ltb}
 use Rattle.std.proofs.lemmas.List.Folds.{list_any_at}
 use Rattle.std.proofs.lemmas.List.Quantifiers.{position-Some}
 use Rattle.task_numbers.specs.declared.number.TaskNo.{TaskNo}
+use Rattle.eu_base.specs.declared.request.Request.{Request}
 use Rattle.task_tree.specs.Tree.{Tree, lives, has_number, task}
-use Rattle.live_system.specs.Below.source_machine.specs.Tasks.{Command, Doing, Own, command_of, with_doing}
-use Rattle.live_system.specs.Below.source_machine.specs.Systems.{System, place, doing, command, changed_at, does}
+use Rattle.live_system.specs.Below.source_machine.specs.Tasks.{Command, Doing, Own, command_of, request_of, with_doing}
+use Rattle.live_system.specs.Below.source_machine.specs.Systems.{System, place, doing, command, requested, changed_at, does}
 
 place_lives : (t : TaskNo) (s : Tree) (k : ℕ) → position (has_number t) s.tasks ≡ Some k → lives t s ≡ true
 place_lives t s k e =
@@ -30,6 +31,14 @@ pub command_lives : (t : TaskNo) (s : System) (c : Command) → command t s ≡ 
 command_lives t s c = by (doing t s) refl
   where
     by : (o : Option Doing) → doing t s ≡ o → option_and_then command_of o ≡ Some c → lives t s.shared.tree ≡ true
+    by None e none = absurd (cc none)
+    by (Some d) e some = doing_lives t s d e
+
+-- and one that asks for something
+pub asked_lives : (t : TaskNo) (s : System) (q : Request) → requested t s ≡ Some q → lives t s.shared.tree ≡ true
+asked_lives t s q = by (doing t s) refl
+  where
+    by : (o : Option Doing) → doing t s ≡ o → option_and_then request_of o ≡ Some q → lives t s.shared.tree ≡ true
     by None e none = absurd (cc none)
     by (Some d) e some = doing_lives t s d e
 

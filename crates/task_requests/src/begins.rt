@@ -1,5 +1,6 @@
 //! Sons that begin.
-ghost use Rattle.std.specs.Prelude.{◌≡◌, true, None, IfOk};
+ghost use Rattle.std.specs.Prelude.{◌≡◌, true, None, IfOk, IfSome};
+ghost use Rattle.eu_base.specs.Requests.{is_plain};
 ghost use Rattle.task_tree.specs.Tree as tree;
 ghost use Rattle.live_system.specs.Below.packet_store.specs.Library.{started_at};
 ghost use Rattle.live_system.specs.Below.source_machine.specs.Systems.{Moment, packets};
@@ -20,8 +21,9 @@ pub(crate) fn begin(
     name: &[u8],
     start: usize,
 ) -> Result<Option<Reply>, NoMemory>
-    ensures { IfOk result (λ reply. (m : Moment) → tree.lives task m.system.shared.tree ≡ true → StandsAt system.old m →
+    ensures served { IfOk result (λ reply. (m : Moment) → tree.lives task m.system.shared.tree ≡ true → StandsAt system.old m →
         ServedAs (spec.begin_with (spec.begin_refusal name.now m.system) (started_at m.system.shared.library (packets task m.system) start) name.now task m) system.new reply) }
+    ensures plain { IfOk result (λ reply. IfSome reply (λ r. is_plain r ≡ true)) }
 {
     match refusal(system, name) {
         Some(stop) => Ok(Some(Reply::Stopped(stop))),
@@ -37,8 +39,9 @@ fn begin_running(
     name: &[u8],
     start: usize,
 ) -> Result<Option<Reply>, NoMemory>
-    ensures { IfOk result (λ reply. (m : Moment) → tree.lives task m.system.shared.tree ≡ true → spec.begin_refusal name.now m.system ≡ None → StandsAt system.old m →
+    ensures served { IfOk result (λ reply. (m : Moment) → tree.lives task m.system.shared.tree ≡ true → spec.begin_refusal name.now m.system ≡ None → StandsAt system.old m →
         ServedAs (spec.begin_with None (started_at m.system.shared.library (packets task m.system) start) name.now task m) system.new reply) }
+    ensures plain { IfOk result (λ reply. IfSome reply (λ r. is_plain r ≡ true)) }
 {
     match system.begin_running(alloc, name, task, start)? {
         Some(son) => Ok(Some(Reply::Task(son.0))),

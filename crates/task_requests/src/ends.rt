@@ -1,7 +1,8 @@
 //! Tasks that end, with their descendants.
-ghost use Rattle.std.specs.Prelude.{◌≡◌, true, false, fold, IfOk, OnOk};
+ghost use Rattle.std.specs.Prelude.{◌≡◌, true, false, fold, IfOk, IfSome, OnOk};
 ghost use Rattle.std.specs.List.{list_any};
 ghost use Rattle.task_numbers.specs.Numbers.{is_task};
+ghost use Rattle.eu_base.specs.Requests.{is_plain};
 ghost use Rattle.task_tree.specs.Tree as tree;
 ghost use Rattle.task_walks.specs.Ends.{EndInTurn};
 ghost use Rattle.live_system.specs.Below.source_machine.specs.Systems.{Moment};
@@ -22,8 +23,9 @@ pub(crate) fn end(
     task: TaskNo,
     other: TaskNo,
 ) -> Result<Option<Reply>, NoMemory>
-    ensures { IfOk result (λ reply. (m : Moment) → StandsAt system.old m →
+    ensures served { IfOk result (λ reply. (m : Moment) → StandsAt system.old m →
         ServedAs (spec.end_living (tree.lives other m.system.shared.tree) task other m) system.new reply) }
+    ensures plain { IfOk result (λ reply. IfSome reply (λ r. is_plain r ≡ true)) }
 {
     let lives = system.lives(other);
     if !lives {
@@ -39,8 +41,9 @@ fn end_living(
     task: TaskNo,
     other: TaskNo,
 ) -> Result<Option<Reply>, NoMemory>
-    ensures { IfOk result (λ reply. (m : Moment) → tree.lives other m.system.shared.tree ≡ true → StandsAt system.old m →
+    ensures served { IfOk result (λ reply. (m : Moment) → tree.lives other m.system.shared.tree ≡ true → StandsAt system.old m →
         ServedAs (spec.end_allowed (spec.may_end task other m.system) task other m) system.new reply) }
+    ensures plain { IfOk result (λ reply. IfSome reply (λ r. is_plain r ≡ true)) }
 {
     let may = may_end(alloc, system, task, other)?;
     if !may {
@@ -56,8 +59,9 @@ fn end_allowed(
     task: TaskNo,
     other: TaskNo,
 ) -> Result<Option<Reply>, NoMemory>
-    ensures { IfOk result (λ reply. (m : Moment) → tree.lives other m.system.shared.tree ≡ true → spec.is_first other ≡ false → StandsAt system.old m →
+    ensures served { IfOk result (λ reply. (m : Moment) → tree.lives other m.system.shared.tree ≡ true → spec.is_first other ≡ false → StandsAt system.old m →
         ServedAs (spec.end_allowed true task other m) system.new reply) }
+    ensures plain { IfOk result (λ reply. IfSome reply (λ r. is_plain r ≡ true)) }
 {
     end_family(alloc, system, other)?;
     if task.is(other) {

@@ -4,6 +4,7 @@
 mod begins;
 mod channel;
 mod ends;
+mod messages;
 mod requests;
 
 pub use channel::input;

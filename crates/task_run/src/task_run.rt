@@ -1,11 +1,11 @@
 //! A command that runs.
 ghost use Rattle.std.specs.Prelude.{◌≡◌, ◌+◌, ◌-◌, ◌<◌, ◌≤◌, ◌⊎◌, ◌++◌, ◌∷◌, [], ℕ, List, None, IfOk, OnOk, IsSome, option_copied};
 ghost use Rattle.eu_base.specs.declared.request.Request.{Request};
-ghost use Rattle.eu_base.specs.declared.request.Reply.{Reply};
+ghost use Rattle.eu_base.specs.Requests.{Answer};
 ghost use Rattle.code_form.specs.declared.halt.Halt.TheVariants as halts;
 ghost use Rattle.code_form.specs.declared.waits.Waits.TheVariants as waits;
 ghost use Rattle.eu_base.specs.Cells.{Cells, HasFaultCause};
-ghost use Rattle.code_form.specs.Machine.{Mem, Control, Rest, start, answered, made, CanBeMade};
+ghost use Rattle.code_form.specs.Machine.{Mem, Control, Rest, start, answered, after_reply, made, CanBeMade};
 ghost use Rattle.code_form.specs.Valid.{Fits};
 ghost use Rattle.code_form.specs.Runs.{IsPaused, Rests, Stands, asked};
 ghost use Rattle.zero_state.specs.Stepping.{mem_of, scene_of};
@@ -57,7 +57,7 @@ impl TaskRun {
             RestsSo (M.holds m.new) (M.heads m.new) halt self.new marks.new r) }
         ensures marks { OnOk result (marks.new ≤ marks.old) }
         ensures stands { IfOk result (λ halt. IsPaused halt ⊎ (marks.old ≡ 0) → (cells : Cells) (r : Rest) → M.holds m.old cells →
-            Rests c.now self.old (scene_of (mem_of (M.heads m.old) cells) marks.old) r → (first : Control) (before : Mem) (spent : ℕ) (replies : List Reply) →
+            Rests c.now self.old (scene_of (mem_of (M.heads m.old) cells) marks.old) r → (first : Control) (before : Mem) (spent : ℕ) (replies : List Answer) →
             Stands c.now first before spent replies self.old (mem_of (M.heads m.old) cells) →
             Stands c.now first before (spent + (marks.old - marks.new)) replies self.new r.scene.mem) }
         ensures asks { IfOk result (λ halt. (request : Request) → halt ≡ halts.Asks request → self.new.waits ≡ waits.Asked request) }
@@ -80,13 +80,15 @@ impl TaskRun {
         }
     }
 
-    /// Answers the request that the command waits for.
+    /// Answers the request that the command waits for. A call whose message was taken waits for the answer then. What the answer does to the
+    /// data spaces is done already: the one that was sent was taken out, and the one that came with a message was given.
     pub fn answer<M: Memory>(&mut self, c: &Code, m: &mut M, r: Reply) -> Result<(), MemFault>
         requires fits { Fits c.now self.old }
         requires asks { IsSome (asked self.old.waits) }
         ensures answered { OnOk result ((request : Request) → self.old.waits ≡ waits.Asked request → self.new ≡ answered request r self.old.position) }
-        ensures stands { OnOk result ((first : Control) (before now : Mem) (spent : ℕ) (replies : List Reply) →
-            Stands c.now first before spent replies self.old now → Stands c.now first before spent (replies ++ r ∷ []) self.new now) }
+        ensures stands { OnOk result ((first : Control) (before now : Mem) (spent : ℕ) (replies : List Answer) (request : Request) (a : Answer) →
+            self.old.waits ≡ waits.Asked request → a.reply ≡ r → Stands c.now first before spent replies self.old now →
+            Stands c.now first before spent (replies ++ a ∷ []) self.new (after_reply request a now)) }
         ensures fits { OnOk result (Fits c.now self.new) }
         ensures kept { (cells : Cells) → M.holds m.old cells → M.holds m.new cells }
         ensures heads { M.heads m.new ≡ M.heads m.old }

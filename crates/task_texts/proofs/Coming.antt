@@ -1,10 +1,9 @@
 -- A memory that has data spaces, after one came, got a name, or went.
-use Rattle.std.proofs.Common.{◌≡◌, ℕ, zero, suc, ◌+◌, ◌<◌, ◌≤◌, ⊎_elim, Bool, true, false, cond, nat_eq, List, [], ◌∷◌, ◌++◌, map, length, Option, Some, None, refl, sym, ap, ◌∙◌, subst, arith, eqb-true, eq-eqb, true≢false}
+use Rattle.std.proofs.Common.{◌≡◌, ℕ, zero, suc, ◌+◌, ◌<◌, ◌≤◌, Bool, true, false, cond, nat_eq, List, [], ◌∷◌, ◌++◌, map, length, Option, Some, None, refl, sym, ap, ◌∙◌, subst, arith, eqb-true}
 use Rattle.std.specs.Prelude.{◌==◌, slice_get, option_map}
 use Rattle.std.specs.List.{AllByRecursion}
 use Rattle.std.specs.Map.{lookup}
-use Rattle.std.specs.Option.{is_some, unwrap_or}
-use Rattle.std.proofs.lemmas.Bool.{le-leb}
+use Rattle.std.specs.Option.{unwrap_or}
 use Rattle.std.proofs.lemmas.List.{length-map}
 use Rattle.std.proofs.lemmas.Option.{slice_get-map, slice_get_past}
 use Rattle.task_numbers.specs.declared.number.SpaceNo.{SpaceNo}
@@ -16,29 +15,29 @@ use Rattle.eu_base.specs.declared.value.Kind.{Kind}
 use Rattle.eu_base.specs.declared.value.Value.{Value}
 use Rattle.eu_base.specs.declared.shape.Shape.{Shape}
 use Rattle.eu_base.specs.Values.{IsOf}
-use Rattle.eu_base.specs.Cells.{Cell, Free, Cells, held_of, area_cell, run_cell, space_cell, same_area}
-use Rattle.eu_base.specs.DataSpaces.{Space, Spaces, Head, Heads, heads_of, heads_in, head_of, no_space, the_space, next_number, last_number, Forgets, Names, heads_by, under}
+use Rattle.eu_base.specs.Cells.{Free, Cells, area_cell, space_cell, same_area}
+use Rattle.eu_base.specs.DataSpaces.{Space, Spaces, Head, Heads, heads_of, head_of, no_space, the_space, last_number, Forgets, Names, heads_by}
 use Rattle.eu_base.specs.DataSpaces as data_spaces
 use Rattle.eu_base.specs.SpaceCells.{with_area}
 use Rattle.eu_base.specs.SpacePlaces.{kinds_of, values_of, shaped_kinds}
-use Rattle.eu_base.specs.SoundSpaces.{AreOf, none, one, shape_kinds, IsSpace, AreSpaces}
+use Rattle.eu_base.specs.SoundSpaces.{AreOf, none, one, shape_kinds, IsSpace}
 use Rattle.eu_base.proofs.Heads.{append_heads, by_same}
-use Rattle.eu_base.proofs.Places.{same_area_is, same_area_self}
+use Rattle.eu_base.proofs.Places.{same_area_self}
 use Rattle.eu_base.proofs.SoundSpaces.{change_sound}
 use Rattle.page_pool.specs.Pool.{Pages}
 use Rattle.page_table.specs.Frames.{content_at}
 use Rattle.text_heap.specs.Held.{HoldsCells}
-use Rattle.text_heap.proofs.Kept.{moved_held}
 use Rattle.data_space.specs.Data.{SpaceData}
 use Rattle.live_spaces.specs.Kept.{KeepsBytes}
 use Rattle.live_spaces.specs.Live as live_spaces
 use Rattle.live_spaces.specs.Live.{space_at}
 use Rattle.space_names.specs.Directory as directory
-use Rattle.space_memory.specs.Memories.{MemoryData, HoldsAll, is_there, space_in, bytes_in, roots, memory_heads, with_new, forgotten}
+use Rattle.space_memory.specs.Memories.{MemoryData, HoldsAll, roots, memory_heads, with_new, forgotten}
 use Rattle.space_memory.specs.Memories as memories
 use Rattle.space_memory.proofs.Changed.{forgot_heads, forgot_held, named_still}
+use Rattle.space_memory.proofs.Given.{given_held}
 use Rattle.elan_types.specs.Eval.{Slot, Holds}
-use Rattle.place_gen.specs.Correct.{StandsFor, HasVariables, AreGiven, HasSpaces}
+use Rattle.place_gen.specs.Correct.{StandsFor, HasVariables, AreGiven}
 use Rattle.place_gen.proofs.Spaces.{numbers_apart, other_gone, kinds_same}
 use Rattle.source_texts.specs.Spaces.{HoldsSpace, held, cells_of}
 use Rattle.live_task.specs.Below.source_machine.specs.Stores.{Store}
@@ -187,35 +186,9 @@ module _ (spaces : Spaces) (m : MemoryData) (cells : Cells) (h : KeepsSpaces m s
     abbrev now : MemoryData
     now = with_new d m
 
-    new_is : space_at (m.last + 1) now.spaces ≡ Some d
-    new_is = pushed_here (m.last + 1) m.spaces d (none_next memories.head_of m.spaces m.last (given_there spaces m cells h).rise)
-
-    area_there : (b : Area) → same_area b mine ≡ false → is_there b now ≡ is_there b m
-    area_there Run apart = refl
-    area_there Packets apart = refl
-    area_there (areas.Space s) apart = ap (λ (o : Option SpaceData). is_some o) (pushed_other s.0 (m.last + 1) m.spaces d apart)
-
-    area_same : (b : Area) → same_area b mine ≡ false → space_in b now ≡ space_in b m
-    area_same Run apart = refl
-    area_same Packets apart = refl
-    area_same (areas.Space s) apart = ap (λ (o : Option SpaceData). unwrap_or o live_spaces.no_space) (pushed_other s.0 (m.last + 1) m.spaces d apart)
-
     pub new_holds : HoldsCells Run (content_at pages d.root) (cells_of space.values) → HoldsAll pages m cells → HoldsAll pages now put
-    new_holds own all = record { there = λ b is. by b is (same_area b mine) refl; gone = λ b not k. none_there b not k (same_area b mine) refl }
-      where
-        by : (b : Area) → is_there b now ≡ true → (c : Bool) → same_area b mine ≡ c → HoldsCells b (bytes_in b pages now) put
-        by b is true e =
-            subst (λ (x : Area). HoldsCells x (bytes_in x pages now) put) (sym (same_area_is b mine e))
-            (subst (λ (o : Option SpaceData). HoldsCells mine (content_at pages (unwrap_or o live_spaces.no_space).root) put) (sym new_is)
-            (moved_held Run mine (content_at pages d.root) (cells_of space.values) put put_there own))
-        by b is false e =
-            moved_held b b (bytes_in b pages now) cells put (λ k. put_other b k e)
-            (subst (λ (x : SpaceData). HoldsCells b (content_at pages x.root) cells) (sym (area_same b e)) (all.there b (sym (area_there b e) ∙ is)))
-
-        none_there : (b : Area) → is_there b now ≡ false → (k : ℕ) → (c : Bool) → same_area b mine ≡ c → put (area_cell b k) ≡ Free
-        none_there b not k true e =
-            absurd (true≢false (sym (ap (λ (o : Option SpaceData). is_some o) new_is) ∙ ap (λ (x : Area). is_there x now) (sym (same_area_is b mine e)) ∙ not))
-        none_there b not k false e = put_other b k e ∙ all.gone b (sym (area_there b e) ∙ not) k
+    new_holds own all =
+        given_held pages m d space (none_next memories.head_of m.spaces m.last (given_there spaces m cells h).rise) own cells all
 
   -- and the spaces
   module _ (is : IsSpace space) (fits : length (shaped_kinds space.shape) ≤ CELLS) (left : m.last < last_number) (head : memories.head_of d ≡ head_of space) where

@@ -19,8 +19,8 @@ use Rattle.place_gen.specs.Correct.{HasSpaces}
 use Rattle.elan_types.specs.Eval.{Slot, Holds}
 use Rattle.packet_cells.specs.Freed.{HoldEach}
 use Rattle.packet_cells.specs.Denoted.{holds_space, denote}
-use Rattle.task_texts.specs.Below.source_machine.specs.Stores.{Store, denotes, is_used}
-use Rattle.task_texts.specs.Below.task_job.specs.Standing.{Keeps}
+use Rattle.task_messages.specs.Below.source_machine.specs.Stores.{Store, denotes, is_used}
+use Rattle.task_messages.specs.Below.task_job.specs.Standing.{Keeps}
 
 -- ---- a value in its cell
 

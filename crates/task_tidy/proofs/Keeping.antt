@@ -16,9 +16,9 @@ use Rattle.live_spaces.specs.Live.{without}
 use Rattle.space_memory.specs.Memories.{MemoryData, memory_heads, roots, most_roots, forgotten, StandsWhole}
 use Rattle.space_memory.specs.Memories as memories
 use Rattle.space_memory.proofs.Framed.{roots_long}
-use Rattle.task_texts.specs.Below.source_machine.specs.Stores.{Store, is_used, only_used}
-use Rattle.task_texts.specs.Below.task_job.specs.Standing.{Keeps}
-use Rattle.task_texts.proofs.Coming.{forgets}
+use Rattle.task_messages.specs.Below.source_machine.specs.Stores.{Store, is_used, only_used}
+use Rattle.task_messages.specs.Below.task_job.specs.Standing.{Keeps}
+use Rattle.task_messages.specs.Below.task_texts.proofs.Coming.{forgets}
 use Rattle.task_tidy.specs.Tidied.{gone_unless, tidied_by, tidied_at, tidied_from}
 use Rattle.task_tidy.proofs.Left.{at_most, number_same, left_from, is_there, kept_there, gone_there, neither, names_stay}
 

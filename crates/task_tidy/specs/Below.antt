@@ -1,7 +1,8 @@
 -- The libraries below whose words a crate above reads here, so that its line in crates.txt stays short.
-pub use Rattle.task_texts as task_texts
-pub use Rattle.task_texts.specs.Below.live_task as live_task
-pub use Rattle.task_texts.specs.Below.source_machine as source_machine
-pub use Rattle.task_texts.specs.Below.packet_store as packet_store
-pub use Rattle.task_texts.specs.Below.elan_check as elan_check
-pub use Rattle.task_texts.specs.Below.refusals as refusals
+pub use Rattle.task_messages as task_messages
+pub use Rattle.task_messages.specs.Below.task_texts as task_texts
+pub use Rattle.task_messages.specs.Below.live_task as live_task
+pub use Rattle.task_messages.specs.Below.source_machine as source_machine
+pub use Rattle.task_messages.specs.Below.packet_store as packet_store
+pub use Rattle.task_messages.specs.Below.elan_check as elan_check
+pub use Rattle.task_messages.specs.Below.refusals as refusals

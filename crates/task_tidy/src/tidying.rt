@@ -1,10 +1,10 @@
 //! A task whose command is over.
 ghost use Rattle.std.specs.Prelude.{◌≡◌, ◌≤◌, length, OnOk};
 ghost use Rattle.space_memory.specs.Memories.{roots, most_roots, StandsWhole, MemoryFrames};
-ghost use Rattle.task_texts.specs.Below.source_machine.specs.Stores.{Store, tidied};
-ghost use Rattle.task_texts.specs.Below.source_machine.specs.Tasks.{Own, Idle, with_doing};
-ghost use Rattle.task_texts.specs.Below.task_job.specs.Standing.{Keeps};
-ghost use Rattle.task_texts.specs.Below.live_task.specs.Stands.{StandsFor, IsSound};
+ghost use Rattle.task_messages.specs.Below.source_machine.specs.Stores.{Store, tidied};
+ghost use Rattle.task_messages.specs.Below.source_machine.specs.Tasks.{Own, Idle, with_doing};
+ghost use Rattle.task_messages.specs.Below.task_job.specs.Standing.{Keeps};
+ghost use Rattle.task_messages.specs.Below.live_task.specs.Stands.{StandsFor, IsSound};
 ghost use Rattle.task_tidy.specs.Tidied.{kinds_with};
 
 use crate::forgetting::forget_unused;
@@ -14,7 +14,7 @@ use packet_cells::count_cells;
 use page_pool::Pool;
 use space_memory::SpaceMemory;
 use std::alloc::Global;
-use task_texts::{Doing, Task};
+use task_messages::{Doing, Task};
 
 /// The data spaces of an idle task are forgotten that no variable of its packets and no name denotes. The kinds of the variables are those of
 /// these packets, and those that stand behind them.

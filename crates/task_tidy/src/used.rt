@@ -8,9 +8,9 @@ ghost use Rattle.cell_kinds.specs.Kinds.{packet_kinds};
 ghost use Rattle.packet_cells.specs.Freed.{HoldEach};
 ghost use Rattle.packet_cells.specs.Denoted.{denote};
 ghost use Rattle.space_memory.specs.Memories.{roots, HoldsAll, memory_heads, StandsWhole, MemoryFrames};
-ghost use Rattle.task_texts.specs.Below.source_machine.specs.Stores as spec;
-ghost use Rattle.task_texts.specs.Below.source_machine.specs.Stores.{Store};
-ghost use Rattle.task_texts.specs.Below.task_job.specs.Standing.{Keeps};
+ghost use Rattle.task_messages.specs.Below.source_machine.specs.Stores as spec;
+ghost use Rattle.task_messages.specs.Below.source_machine.specs.Stores.{Store};
+ghost use Rattle.task_messages.specs.Below.task_job.specs.Standing.{Keeps};
 ghost use Rattle.task_tidy.specs.Tidied.{kinds_with};
 
 use cell_kinds::{CellKinds, Packet};

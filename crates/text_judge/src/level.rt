@@ -20,7 +20,7 @@ use elan_scope::known::Known;
 use elan_scope::scope::Scope;
 use elan_scope::trouble::Trouble;
 use elan_tree::{Export, Formal, Level, LevelUnit, Name};
-use elan_unbuilt::operator_text;
+use elan_walk::operator_text;
 use std::alloc::Global;
 use value_rules::name::{declared, type_declared};
 

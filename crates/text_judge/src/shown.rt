@@ -21,7 +21,7 @@ use elan_names::heading::{Heading, What, is_one};
 use elan_scope::scope::Scope;
 use elan_scope::trouble::Trouble;
 use elan_tree::{Export, Level, Operator};
-use elan_unbuilt::operator_text;
+use elan_walk::operator_text;
 use eu_base::{Bytes, List, NoMemory};
 use std::alloc::Global;
 use type_definitions::definition::{Defined, Definition, level_definitions};

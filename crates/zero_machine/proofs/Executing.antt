@@ -1,7 +1,7 @@
 -- What an instruction does, where it is the one at hand.
-use Rattle.std.proofs.Common.{◌≡◌, ℕ, ◌+◌, ◌-◌, ◌<◌, List, get_or, Some, sym, ap, ◌∙◌, subst}
+use Rattle.std.proofs.Common.{◌≡◌, ℕ, ◌+◌, ◌-◌, ◌<◌, List, length, get_or, Some, sym, ap, ◌∙◌, subst}
 use Rattle.std.specs.Prelude.{Result, Ok, Err, IfOk, slice_get}
-use Rattle.std.proofs.lemmas.Option.{get_or_from_slice_get}
+use Rattle.std.proofs.lemmas.Option.{get_or_from_slice_get, slice_get_within}
 use Rattle.eu_base.specs.Cells.{Cells, Within, without}
 use Rattle.eu_base.specs.DataSpaces.{Heads}
 use Rattle.eu_base.specs.declared.shape.Shape.{Shape}
@@ -16,7 +16,7 @@ use Rattle.code_form.specs.declared.code.Entry.{Entry}
 use Rattle.code_form.specs.declared.operand.Operand.{Operand}
 use Rattle.code_form.specs.Program.{Program}
 use Rattle.code_form.specs.Machine.{Mem, with_cells, Position, Control, To, at, Stage, call_move, refer_move, instruction, pushes, stage}
-use Rattle.zero_state.specs.Finds.{Finds, HasProc, HasBody}
+use Rattle.zero_state.specs.Finds.{Finds, IsCallable, HasProc, HasBody}
 use Rattle.zero_state.specs.Stepping.{stage_of, halt_of, mem_of, scene_of, stage_by, StepsSo, GoesOn, Steps, Acts, Accesses}
 use Rattle.zero_state.proofs.Making.{plain_steps, plain, steps_at, fewer_known, unspent, spent}
 
@@ -25,6 +25,24 @@ found : (bodies : List Entry) (n : ℕ) (entry d : Entry) → slice_get bodies n
 found bodies n entry d has is =
     let e : d ≡ entry = is ∙ get_or_from_slice_get bodies n entry d has in
     has ∙ ap (λ (x : Entry). Some x) (sym e)
+
+-- a body that is called or referred to is there
+module _ (bodies : List Entry) (instr : Instr) (n : ℕ) (c : Position) (finds : Finds bodies instr c) where
+  pub called_in : (read : List Entry) → instr ≡ Call n → read ≡ bodies → n < length read
+  called_in read is same =
+      let proc : HasProc bodies n c.ops = subst (λ (i : Instr). Finds bodies i c) is finds in
+      subst (λ (b : List Entry). n < length b) (sym same) (slice_get_within bodies n proc.entry proc.has)
+
+  pub referred_in : (read : List Entry) → instr ≡ Refer n → read ≡ bodies → n < length read
+  referred_in read is same =
+      let body : HasBody bodies n = subst (λ (i : Instr). Finds bodies i c) is finds in
+      subst (λ (b : List Entry). n < length b) (sym same) (slice_get_within bodies n body.entry body.has)
+
+  pub callable : (read : List Entry) (d : Entry) → instr ≡ Call n → read ≡ bodies → d ≡ get_or read n d → IsCallable d.layout c.ops
+  callable read d is same at =
+      let proc : HasProc bodies n c.ops = subst (λ (i : Instr). Finds bodies i c) is finds in
+      let e : d ≡ proc.entry = subst (λ (b : List Entry). d ≡ get_or b n d) same at ∙ get_or_from_slice_get bodies n proc.entry d proc.has in
+      subst (λ (x : Entry). IsCallable x.layout c.ops) (sym e) proc.callable
 
 module _ {E : Type 0} (result : Result Next E) (before after : Cells → Type 0) (had has : Heads) (c : Position) (c' : Control) (marks marks' : ℕ) (p : Program)
     (instr : Instr) where
@@ -79,6 +97,16 @@ accesses (Ok next) before after had has c c' marks p instr i is same h =
     subst (λ i. Steps before after had has (stage_by p i marks) c c' marks next) (sym is)
     (subst (λ has. Steps before after had has (stage_by p i marks) c c' marks next) (sym same) (h p marks))
 accesses (Err e) before after had has c c' marks p instr i is same h = tt
+
+-- one that spends a mark, and leaves the data spaces what they are
+pub spends : {E : Type 0} (result : Result Next E) (before after : Cells → Type 0) (had has : Heads) (c : Position) (c' : Control) (marks marks' : ℕ)
+    (p : Program) (instr i : Instr) → instr ≡ i → has ≡ had
+    → IfOk result (λ next. (p : Program) → Steps before after had had (stage_by p i marks) c c' marks' next)
+    → IfOk result (Steps before after had has (stage_by p instr marks) c c' marks')
+spends (Ok next) before after had has c c' marks marks' p instr i is same h =
+    subst (λ i. Steps before after had has (stage_by p i marks) c c' marks' next) (sym is)
+    (subst (λ has. Steps before after had has (stage_by p i marks) c c' marks' next) (sym same) (h p))
+spends (Err e) before after had has c c' marks marks' p instr i is same h = tt
 
 -- one that changes data spaces
 pub acts : {E : Type 0} (result : Result Next E) (before after : Cells → Type 0) (had has : Heads) (c : Position) (c' : Control) (marks : ℕ) (p : Program)

@@ -28,9 +28,9 @@ use Rattle.code_form.specs.declared.code.Spot.{Spot}
 use Rattle.code_form.specs.Program.{Program, line_of, instr_of, owner, CellUse, HoldsValue, HoldsPlace, frame_cells}
 use Rattle.code_form.specs.Machine.{Frame, Position, Control, free, given, base_of}
 use Rattle.code_form.specs.Valid.{cell_value, cell_place, HasKinds, pushed_kinds, pushed_operands, request_operands, HasResult, IsCalled, IsFine, IsValid, FitsKinds, FitsFrames, Fits}
-use Rattle.code_form.proofs.Safe.{is_one, has_values, request_many, fits_behind, level_below, frame_below, by_layout, as_proc, as_refined, same_owner}
+use Rattle.code_form.proofs.Frames.{is_one, has_values, request_many, fits_behind, level_below, frame_below, by_layout, as_proc, as_refined, same_owner}
 use Rattle.zero_state.specs.Finds.{is_value, TopValue, TopAny, TopPicked, TopStored, TopPlace, TopBoth, TopValues, TopResult, HasProc, IsInside, is_in_proc, Finds}
-use Rattle.zero_state.specs.Finds.{behind_values, IsVariable, FindsReply}
+use Rattle.zero_state.specs.Finds.{behind_values, IsVariable, AreVariables, FindsReply}
 
 -- the instruction of a state that fits is the one that stands in the code
 pub the_instr : (p : Program) (c : Position) (fits : Fits p (free c)) (i : Instr) → Some i ≡ instr_of (slice_get p.lines c.pc) → fits.next.0 ≡ i
@@ -143,17 +143,25 @@ is_variable (k ∷ ks) (Of v ∷ os) f = absurd f.0
 is_variable (k ∷ ks) (Aggregate vs ∷ os) f = absurd f.0
 is_variable (k ∷ ks) (At a ∷ os) f = f.0
 
--- so a request finds what it takes when its reply is there
+are_variables : (ks : List Kind) (os : List Operand) → FitsKinds os (map cell_place ks) → AreVariables ks os
+are_variables [] [] f = tt
+are_variables [] (o ∷ os) f = absurd f
+are_variables (k ∷ ks) [] f = absurd f
+are_variables (k ∷ ks) (Of v ∷ os) f = absurd f.0
+are_variables (k ∷ ks) (Aggregate vs ∷ os) f = absurd f.0
+are_variables (k ∷ ks) (At a ∷ os) f = (f.0, are_variables ks os f.1)
+
+-- so a request finds what it takes when it is made, and when its reply is there
 pub finds_reply : (q : RequestName) (rest : List OperandKind) (ops : List Operand) (ks : List OperandKind) → ks ≡ pushed_operands (request_operands q) rest
     → FitsKinds ops ks → FindsReply q ops
 finds_reply q rest ops ks is fits =
     let top = (top_fits (request_operands q) rest ops (subst (FitsKinds ops) is fits)).0 in
     let here = subst (λ n. FitsKinds (reverse (take n ops)) (request_operands q)) (request_many q) top in
+    let behind = fits_behind (request_kinds q) (map cell_place (request_places q)) (reverse (take (request_size q) ops)) here in
     record {
       taken = asked_many q rest ops ks is fits;
-      variable =
-          is_variable (request_places q) (behind_values q ops)
-          (fits_behind (request_kinds q) (map cell_place (request_places q)) (reverse (take (request_size q) ops)) here);
+      variable = is_variable (request_places q) (behind_values q ops) behind;
+      variables = are_variables (request_places q) (behind_values q ops) behind;
     }
 
 module _ (p : Program) (valid : IsValid p) where
@@ -250,7 +258,7 @@ module _ (p : Program) (valid : IsValid p) where
     finds_at (Limit way a) f = top_both c.ops kinds.Int (Cell kinds.Int) f.0 (subst (FitsKinds c.ops) f.1 fits.operands)
     finds_at Unlimit f = limited f.0 f.1
     finds_at (Step way a) f = (top_place c.ops (Cell kinds.Int) f.2.0 (subst (FitsKinds c.ops) f.2.1 fits.operands), limited f.0 f.1)
-    finds_at (Ask name) f = asked_many name f.0 c.ops ks f.1 fits.operands
+    finds_at (Ask name) f = finds_reply name f.0 c.ops ks f.1 fits.operands
     finds_at ErrorStop f = top_value c.ops kinds.Text f.0 (subst (FitsKinds c.ops) f.1 fits.operands)
     finds_at (Call n) f = has_proc n c.pc ks m c.ops f fits.operands
     finds_at (Refer n) f = record { entry = f.entry; has = f.has }

@@ -24,7 +24,7 @@ use Rattle.zero_state.specs.Stepping.{stage_of, stage_by, halt_of, mem_of, scene
 use Rattle.zero_state.proofs.Room.{like_fits}
 use Rattle.zero_machine.specs.Running.{Spends}
 use Rattle.zero_state.specs.declared.next.Next.{Next}
-use Rattle.zero_steps.specs.Replying.{replied_by, GoesOrRests, Replies}
+use Rattle.zero_requests.specs.Replying.{replied_by, GoesOrRests, Replies}
 
 -- where nothing is waited for
 pub fits_free : (p : Program) (c : Control) → c.waits ≡ Nothing → Fits p c → Fits p (free c.position)
@@ -74,7 +74,7 @@ module _ (p : Program) (from : Control) (s : Scene) (fits : Fits p from) (calm :
       by zero none = over Good halts.Marked from s here
       by (suc m) some = after_good m some a safe
   stage_good (Halts stop) safe = over Good (halts.Stopped stop) from s here
-  stage_good (Refuses stop d) safe = on Good (refused d stop) s (safe, record { fewer = omega arith; paid = λ some. absurd (cc some) })
+  stage_good (Refuses stop d mem) safe = on Good (refused d stop) (record s { mem = mem }) (safe, record { fewer = omega arith; paid = λ some. absurd (cc some) })
   stage_good Ends safe = over Good halts.Ended from s here
   stage_good Unknown safe = lost Good
   stage_good Stuck safe = absurd safe
@@ -164,21 +164,21 @@ module _ {E : Type 0} (p : Program) (c : Control) (result : Result Next E) (befo
       by (Err e) h = tt
 
 -- a request goes on with its reply from a state that fits
-module _ {E : Type 0} (p : Program) (c : Position) (r : Reply) (result : Result Next E) (before after : Cells → Type 0) (heads : Heads) (c' : Control) (q : RequestName)
+module _ {E : Type 0} (p : Program) (c : Position) (r : Reply) (result : Result Next E) (before after : Cells → Type 0) (had has : Heads) (c' : Control) (q : RequestName)
     (valid : IsValid p) (fits : Fits p (given c r)) (is : Some (Ask q) ≡ instr_of (slice_get p.lines c.pc)) where
   abbrev Answered : Next → Type 0
-  Answered = Replies before after heads q r c c'
+  Answered = Replies before after had has q r c c'
 
   reply_is : (r : Reply) (mem : Mem) (marks : ℕ) → replied_by q r marks c mem ≡ advance p (given c r) (scene_of mem marks)
   reply_is r mem marks = ap (λ o. move_stage (takes_reply o r c mem) (given c r) (scene_of mem marks)) is
 
   pub reply_goes : IfOk result Answered
-      → IfOk result (λ next. (marks : ℕ) (cells : Cells) → before cells → Does after heads (halt_of next) c' marks (advance p (given c r) (scene_of (mem_of heads cells) marks)))
+      → IfOk result (λ next. (marks : ℕ) (cells : Cells) → before cells → Does after has (halt_of next) c' marks (advance p (given c r) (scene_of (mem_of had cells) marks)))
   reply_goes h = by result h
     where
       by : (result : Result Next E) → IfOk result Answered
-          → IfOk result (λ next. (marks : ℕ) (cells : Cells) → before cells → Does after heads (halt_of next) c' marks (advance p (given c r) (scene_of (mem_of heads cells) marks)))
-      by (Ok next) h = λ marks cells held. subst (Does after heads (halt_of next) c' marks) (reply_is r (mem_of heads cells) marks) (h.does marks cells held)
+          → IfOk result (λ next. (marks : ℕ) (cells : Cells) → before cells → Does after has (halt_of next) c' marks (advance p (given c r) (scene_of (mem_of had cells) marks)))
+      by (Ok next) h = λ marks cells held. subst (Does after has (halt_of next) c' marks) (reply_is r (mem_of had cells) marks) (h.does marks cells held)
       by (Err e) h = tt
 
   -- as with any other

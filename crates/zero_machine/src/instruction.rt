@@ -12,18 +12,19 @@ ghost use Rattle.zero_state.specs.Stepping.{IsReady, Steps};
 use code_form::{Code, Instr, Operand};
 use eu_base::{MemFault, Memory, NoMemory, Value};
 use zero_calls::calls::{back, back_around, call, refer};
+use zero_requests::ask::{ask, ask_sending};
+use zero_spaces::{bind, content, copy, on_spaces};
 use zero_state::{Next, State};
 use zero_steps::aggregate::{pick, take};
-use zero_steps::ask::ask;
 use zero_steps::change::modify;
 use zero_steps::operate::operate;
 use zero_steps::place::{field, index};
-use zero_steps::push::{push_on, push_text};
-use zero_steps::spaces::{bind, content, copy, on_spaces};
 use zero_steps::step::{
-    drop_value, jump_false, limit, load, local, outer, packet, param, step, store, unlimit, when,
+    drop_value, jump_false, limit, load, local, outer, packet, param, push_text, step, store,
+    unlimit, when,
 };
 use zero_steps::stop::error_stop;
+use zero_values::push::push_on;
 
 /// What one instruction does.
 pub fn execute<M: Memory>(
@@ -89,7 +90,13 @@ pub fn execute<M: Memory>(
             Ok(Next::On)
         }
         Instr::Step(way, to) => step(s, m, *way, *to),
-        Instr::Ask(request) => computed(ask(s, *request, marks)),
+        Instr::Ask(request) => {
+            if request.sends() {
+                ask_sending(s, m, *request, marks)
+            } else {
+                computed(ask(s, *request, marks))
+            }
+        }
         Instr::ErrorStop => {
             error_stop(s);
             Ok(Next::On)

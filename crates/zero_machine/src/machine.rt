@@ -1,11 +1,13 @@
 //! Runs of code.
-ghost use Rattle.std.specs.Prelude.{◌≡◌, ◌≤◌, ◌<◌, ℕ, length, IfOk, OnOk, IsSome, None};
+ghost use Rattle.std.specs.Prelude.{◌≡◌, ◌≤◌, ◌<◌, ℕ, length, IfOk, OnOk, IsSome, None, option_map};
 ghost use Rattle.eu_base.specs.Cells.{Cells, HasFaultCause};
-ghost use Rattle.eu_base.specs.declared.request.Request.{Request};
+ghost use Rattle.eu_base.specs.declared.request.Request.{Request as Requests};
+ghost use Rattle.eu_base.specs.declared.request.Request.TheVariants as requests;
+ghost use Rattle.eu_base.specs.Requests.{then_asked};
 ghost use Rattle.eu_base.specs.declared.request.Reply.{Reply};
 ghost use Rattle.code_form.specs.declared.halt.Halt.TheVariants as halts;
 ghost use Rattle.code_form.specs.declared.waits.Waits.TheVariants as waits;
-ghost use Rattle.code_form.specs.Machine.{Rest, advance, answered};
+ghost use Rattle.code_form.specs.Machine.{Position, Rest, advance, answered, answered_by};
 ghost use Rattle.code_form.specs.Valid.{Fits};
 ghost use Rattle.code_form.specs.Runs.{Rests, Resumes, Replies, IsOne, StaysFit, asked, steps_left};
 ghost use Rattle.zero_state.specs.Stepping.{position_of, control_of, mem_of, scene_of, halt_of, due, Does};
@@ -13,9 +15,9 @@ ghost use Rattle.zero_machine.specs.Running.{Spends, RestsSo};
 
 use crate::instruction::execute;
 use code_form::{Code, Halt, Instr, Waits};
-use eu_base::{MemFault, Memory, Reply};
+use eu_base::{MemFault, Memory, Reply, Request};
+use zero_requests::reply::take_reply;
 use zero_state::{Next, State};
-use zero_steps::reply::take_reply;
 
 // One step, where nothing is waited for.
 fn step<M: Memory>(code: &Code, s: &mut State, m: &mut M, marks: &mut u32) -> Result<Next, MemFault>
@@ -82,25 +84,66 @@ fn advance<M: Memory>(
     }
 }
 
-/// Answers the request that the machine waits for. Its instruction goes on with the reply in the next run.
+/// Answers the request that the machine waits for. Its instruction goes on with the reply in the next run; a call whose message was taken
+/// waits for the answer then. What the reply does to the data spaces is done already.
 pub fn reply<M: Memory>(_code: &Code, s: &mut State, _m: &mut M, r: Reply) -> Result<(), MemFault>
     requires fits { Fits _code.now (control_of s.old) }
     requires asks { IsSome (asked s.old.waits) }
-    ensures answered { OnOk result ((request : Request) → s.old.waits ≡ waits.Asked request → control_of s.new ≡ answered request r (position_of s.old)) }
+    ensures answered { OnOk result ((request : Requests) → s.old.waits ≡ waits.Asked request → control_of s.new ≡ answered request r (position_of s.old)) }
     ensures fits { OnOk result (Fits _code.now (control_of s.new)) }
     ensures kept { (cells : Cells) → M.holds _m.old cells → M.holds _m.new cells }
     ensures heads { M.heads _m.new ≡ M.heads _m.old }
     ensures cause { HasFaultCause (M.faults _m.old) (M.faults _m.new) result }
     ensures follows { M.follows _m.old _m.new }
 {
-    s.waits = match r {
+    s.waits = answered(&s.waits, r);
+    Ok(())
+}
+
+// What is waited for after a reply: the answer to a call whose message was taken; else nothing any more.
+fn answered(waiting: &Waits, r: Reply) -> Waits
+    ensures { (request : Requests) (c : Position) → waiting.now ≡ waits.Asked request →
+        record { position = c; waits = result } ≡ answered request r c }
+{
+    match answer_asked(waiting, &r) {
+        Some(of) => Waits::Asked(Request::Answer { of }),
+        None => heeded(r),
+    }
+}
+
+// The task of which a call asks for the answer then.
+fn answer_asked(waiting: &Waits, r: &Reply) -> Option<u32>
+    ensures { (request : Requests) → waiting.now ≡ waits.Asked request → then_asked request r.now ≡ option_map requests.Answer result }
+{
+    match (waiting, r) {
+        (
+            Waits::Asked(
+                Request::Call {
+                    to,
+                    code: _,
+                    space: _,
+                },
+            ),
+            Reply::Taken,
+        ) => Some(*to),
+        _ => None,
+    }
+}
+
+// The instruction goes on with a reply, or stops.
+fn heeded(r: Reply) -> Waits
+    ensures { (c : Position) → record { position = c; waits = result } ≡ answered_by None r c }
+{
+    match r {
         Reply::Done => Waits::Given(Reply::Done),
         Reply::Text(text) => Waits::Given(Reply::Text(text)),
         Reply::Task(task) => Waits::Given(Reply::Task(task)),
         Reply::Truth(truth) => Waits::Given(Reply::Truth(truth)),
+        Reply::Taken => Waits::Given(Reply::Taken),
+        Reply::Receipt(number) => Waits::Given(Reply::Receipt(number)),
+        Reply::Message { code, from, space } => Waits::Given(Reply::Message { code, from, space }),
         Reply::Stopped(stop) => Waits::Refused(stop),
-    };
-    Ok(())
+    }
 }
 
 /// However marks and replies are divided over the calls, they make one run; a run comes to rest in one way; and
@@ -124,8 +167,8 @@ pub fn run<M: Memory>(
     ensures rests { IfOk result (λ halt. (cells : Cells) (r : Rest) → M.holds m.old cells → Rests code.now (control_of s.old) (scene_of (mem_of (M.heads m.old) cells) marks.old) r →
         RestsSo (M.holds m.new) (M.heads m.new) halt (control_of s.new) marks.new r) }
     ensures marks { OnOk result (marks.new ≤ marks.old) }
-    ensures asks { IfOk result (λ halt. (request : Request) → halt ≡ halts.Asks request → s.new.waits ≡ waits.Asked request) }
-    ensures pays { IfOk result (λ halt. (request : Request) → halt ≡ halts.Asks request → asked s.old.waits ≡ None → marks.new < marks.old) }
+    ensures asks { IfOk result (λ halt. (request : Requests) → halt ≡ halts.Asks request → s.new.waits ≡ waits.Asked request) }
+    ensures pays { IfOk result (λ halt. (request : Requests) → halt ≡ halts.Asks request → asked s.old.waits ≡ None → marks.new < marks.old) }
     ensures fits { OnOk result (Fits code.now (control_of s.new)) }
     ensures cause { HasFaultCause (M.faults m.old) (M.faults m.new) result }
     ensures follows { M.follows m.old m.new }

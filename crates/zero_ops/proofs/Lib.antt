@@ -1,4 +1,5 @@
 mod Copies
+mod Messages
 mod Parts
 mod Places
 mod Spelled

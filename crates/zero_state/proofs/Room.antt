@@ -14,7 +14,7 @@ use Rattle.code_form.specs.declared.operand.OperandKind.TheVariants.{Value as Of
 use Rattle.code_form.specs.Program.{Program}
 use Rattle.code_form.specs.Machine.{Position, free, operand_of, operand_bytes, bytes_on, bytes_of}
 use Rattle.code_form.specs.Valid.{HasKinds, IsPlace, FitsKind, FitsKinds, Fits}
-use Rattle.code_form.proofs.Safe.{has_values}
+use Rattle.code_form.proofs.Frames.{has_values}
 use Rattle.zero_state.specs.Stepping.{IsLike, AreLike}
 
 -- there is room for less

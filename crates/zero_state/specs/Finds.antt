@@ -9,7 +9,7 @@ use Rattle.eu_base.specs.Cells.{IsCell, run_cell}
 use Rattle.eu_base.specs.Operations.{operand_kinds}
 use Rattle.eu_base.specs.SpaceOperations.{space_operand_kinds}
 use Rattle.eu_base.specs.declared.request.RequestName.{RequestName}
-use Rattle.eu_base.specs.Requests.{request_kinds, request_size}
+use Rattle.eu_base.specs.Requests.{request_kinds, request_places, request_size}
 use Rattle.code_form.specs.declared.instr.Instr.{Instr}
 use Rattle.code_form.specs.declared.instr.Instr.TheVariants.{Outer, Local, Param, Index, Field, Content, Pick, Take, Load, Store, Do, OnSpaces, Copy, Bind, Modify, False, When, Drop, Limit}
 use Rattle.code_form.specs.declared.instr.Instr.TheVariants.{Unlimit, Step, Ask, ErrorStop, Call, Refer, Back, Out}
@@ -92,10 +92,17 @@ IsVariable [] = Unit {0}
 IsVariable (At a ∷ os) = IsCell a
 IsVariable _ = ⊥
 
--- what a request takes when its reply is there
+-- places of cells, as many as there are kinds
+abbrev pub AreVariables : List Kind → List Operand → Type 0
+AreVariables [] [] = Unit {0}
+AreVariables (k ∷ ks) (At a ∷ os) = IsCell a × AreVariables ks os
+AreVariables _ _ = ⊥
+
+-- what a request takes when it is made, and when its reply is there
 pub record FindsReply (name : RequestName) (ops : List Operand) : Type 0 where
   pub taken : request_size name ≤ length ops
   pub variable : IsVariable (behind_values name ops)
+  pub variables : AreVariables (request_places name) (behind_values name ops)
 
 -- a result, where there is one of a shape
 abbrev pub TopResult : Option Shape → List Operand → Type 0
@@ -152,7 +159,7 @@ Finds bodies Drop c = TopValue c.ops
 Finds bodies (Limit way a) c = TopBoth c.ops
 Finds bodies Unlimit c = 1 ≤ c.used
 Finds bodies (Step way a) c = TopPlace c.ops × (1 ≤ c.used)
-Finds bodies (Ask name) c = request_size name ≤ length c.ops
+Finds bodies (Ask name) c = FindsReply name c.ops
 Finds bodies ErrorStop c = TopValue c.ops
 Finds bodies (Call n) c = HasProc bodies n c.ops
 Finds bodies (Refer n) c = HasBody bodies n

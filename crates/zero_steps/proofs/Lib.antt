@@ -1,14 +1,2 @@
-pub mod Pushing
-pub mod Accessing
-pub mod Contents
-pub mod Asking
 pub mod Operating
-pub mod Putting
-pub mod Replying
-pub mod Along
-pub mod Storing
 pub mod Aggregates
-pub mod Placed
-pub mod Looking
-pub mod Performing
-pub mod Assigning

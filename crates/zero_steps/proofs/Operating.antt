@@ -24,8 +24,9 @@ use Rattle.zero_state.proofs.Room.{less_fits}
 use Rattle.zero_state.specs.Stacked.{Stacked}
 use Rattle.zero_state.specs.Stepping.{stage_of, scene_of, StepsSo}
 use Rattle.zero_ops.specs.Given.{has_texts}
-use Rattle.zero_steps.specs.Giving.{GivesSo}
-use Rattle.zero_steps.proofs.Accessing.{standing, with_ops}
+use Rattle.zero_values.specs.Giving.{GivesSo}
+use Rattle.zero_values.proofs.Accessing.{standing, with_ops}
+use Rattle.zero_values.proofs.Putting.{at_least}
 
 -- an operation on numbers and truth values looks at no more than two operands
 pub looks_at_two : (op : Operation) (vs : List Value) → has_texts op ≡ false → result_of op vs ≡ result_of op (operand vs 0 ∷ operand vs 1 ∷ [])
@@ -77,13 +78,6 @@ number_bytes _ (Truth b) h of = refl
 number_bytes _ (Text t) h of = absurd of
 number_bytes _ (Task n) h of = refl
 number_bytes _ (Space s) h of = refl
-
-pub at_least : (v : Value) → 8 ≤ value_bytes v
-at_least (Int z) = omega arith
-at_least (Truth b) = omega arith
-at_least (Text t) = omega arith
-at_least (Task n) = omega arith
-at_least (Space s) = omega arith
 
 more_on : (more ops : List Operand) (held : ℕ) → bytes_on ops held ≤ bytes_on (more ++ ops) held
 more_on [] ops held = omega arith

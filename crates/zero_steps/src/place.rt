@@ -2,13 +2,13 @@
 ghost use Rattle.std.specs.Prelude.{◌≡◌, ◌*◌, ℕ};
 ghost use Rattle.code_form.specs.declared.instr.Instr.TheVariants as instrs;
 ghost use Rattle.eu_base.specs.Operations.{in_row};
-ghost use Rattle.code_form.specs.Machine.{Mem, further};
+ghost use Rattle.code_form.specs.Machine.{Mem};
 ghost use Rattle.zero_state.specs.Finds.{TopPlace, TopBoth};
 ghost use Rattle.zero_state.specs.Stepping.{position_of, control_of, IsReady, GoesOn, StepsSo};
 
 use code_form::Operand;
-use eu_base::{Addr, CELLS};
 use zero_state::{Next, State};
+use zero_values::cells::further;
 
 /// INDEX. A stop leaves the operands pending.
 pub fn index(s: &mut State, count: u16, cells: u16) -> Next
@@ -58,16 +58,5 @@ pub(crate) fn in_row(count: u16, number: i16) -> Option<u16>
             }
         }
         Err(_) => None,
-    }
-}
-
-/// The place so many cells further on in its area.
-pub(crate) fn further(at: Addr, cells: u32) -> Addr
-    ensures { result ≡ further at cells }
-{
-    let cell = u64::from(at.cell) + u64::from(cells);
-    Addr {
-        area: at.area,
-        cell: (cell % u64::from(CELLS)) as u16,
     }
 }

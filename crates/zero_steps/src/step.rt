@@ -11,13 +11,25 @@ ghost use Rattle.zero_state.specs.Stepping.{position_of, control_of, IsReady, Go
 
 use crate::aggregate::{load_all, store_all};
 use crate::counter::{has_reached, is_past};
-use crate::push::push_on;
-use crate::reading::{put, value_at};
-use crate::there::{is_below_there, is_top_there};
 use code_form::Operand;
-use eu_base::{Area, CELLS, Kind, MemFault, Memory, NoMemory, Set, Shape, Value, Way, number_in};
-use space_places::{are_there, kind_of};
+use eu_base::{
+    Area, Bytes, CELLS, Kind, MemFault, Memory, NoMemory, Set, Shape, Value, Way, number_in,
+};
+use space_places::kind_of;
 use zero_state::{Next, State, area_cell, have_room, place_in, run_cell};
+use zero_values::push::push_on;
+use zero_values::reading::{put, value_at};
+use zero_values::there::{is_below_there, is_there, is_top_there};
+
+/// TEXT. The text is copied. It stands outside the loop of a run, which is quicker so.
+#[inline(never)]
+pub fn push_text(s: &mut State, text: &[u8]) -> Result<Next, NoMemory>
+    requires { IsReady s.old }
+    ensures { IfOk result (λ next. (mem : Mem) → StepsSo (instrs.Text text.now) (position_of s.old) mem (control_of s.new) mem next) }
+{
+    let copy = Bytes::from(s.alloc, text)?;
+    push_on(s, Operand::Value(Value::Text(copy)))
+}
 
 /// OUTER
 pub fn outer(s: &mut State, cell: usize) -> Result<Next, NoMemory>
@@ -89,7 +101,7 @@ fn load_one<M: Memory>(s: &mut State, m: &mut M, kind: Kind) -> Result<Next, Mem
     let [Operand::Place(at)] = s.stack.top(1) else {
         unreachable!()
     };
-    if !are_there(m, *at, &[kind]) {
+    if !is_there(m, *at, kind) {
         return Ok(Next::NoSpace);
     }
     let value = value_at(m, *at, kind)?;
@@ -130,7 +142,7 @@ fn store_one<M: Memory>(s: &mut State, m: &mut M) -> Result<Next, MemFault>
     let [Operand::Place(at), Operand::Value(value)] = s.stack.top(2) else {
         unreachable!()
     };
-    if !are_there(m, *at, &[kind_of(value)]) {
+    if !is_there(m, *at, kind_of(value)) {
         return Ok(Next::NoSpace);
     }
     match put(m, *at, value)? {

@@ -1,4 +1,4 @@
-use Rattle.std.proofs.Common.{sym, subst}
+use Rattle.std.proofs.Common.{subst}
 use Rattle.elan_scope.specs.declared.env.Env.{Env}
 use Rattle.elan_check.proofs.Checked.{Checked, text_checked}
 use Rattle.elan_check.proofs.text.check.Goals as goal
@@ -6,7 +6,7 @@ use Rattle.elan_check.proofs.text.check.Goals as goal
 checked : (c : goal.After-core_of) → Checked c.args.packets.now c.args.tree.now c.core_of.result
 checked c =
     subst (λ (env : Env). Checked env c.args.tree.now c.core_of.result) c.env.ensures.env
-    (text_checked c.env.result.now c.env.ensures.compiled c.args.tree.now c.core_of.result (sym c.if-has_unbuilt.ensures) c.core_of.ensures)
+    (text_checked c.env.result.now c.env.ensures.compiled c.args.tree.now c.core_of.result c.core_of.ensures)
 
 pub returns-clause-meaning : goal.returns-clause-meaning
 returns-clause-meaning c = (checked c).meaning
@@ -16,9 +16,6 @@ returns-clause-only c = (checked c).only
 
 pub returns-clause-refused : goal.returns-clause-refused
 returns-clause-refused c = (checked c).refused
-
-pub returns-clause-not_built : goal.returns-clause-not_built
-returns-clause-not_built c = (checked c).not_built
 
 pub returns-clause-typed : goal.returns-clause-typed
 returns-clause-typed c = (checked c).typed

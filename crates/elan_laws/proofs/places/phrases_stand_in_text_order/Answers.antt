@@ -9,4 +9,4 @@ pub returns-clause-judged : goal.returns-clause-judged
 returns-clause-judged c = λ env t. text_leaves_follow env t
 
 pub returns-clause-types : goal.returns-clause-types
-returns-clause-types c = λ env t h. faults_follow env t h
+returns-clause-types c = λ env t. faults_follow env t

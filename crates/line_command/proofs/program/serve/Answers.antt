@@ -90,7 +90,7 @@ loop-screen-preserved g c =
                   (sym c.in_ok-answer-in-Asks.ensures.heads) on,
             ),
           );
-      free = ap (λ (d : Control). asked d.waits) answer ∙ answered_free c.in-Asks.request (reply_to c.in-Asks.request) c.go.new.self.position;
+      free = ap (λ (d : Control). asked d.waits) answer ∙ answered_free c.in-Asks.request c.go.new.self.position;
       fits = c.in_ok-answer-in-Asks.ensures.fits;
       later = omega (arith, c.loop-screen.invariant.later, c.go.ensures.cause.later, c.answer.ensures.cause.later);
     }

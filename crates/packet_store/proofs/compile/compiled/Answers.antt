@@ -15,8 +15,7 @@ returns-in_err-core-clause-refused c = λ packet ts has reads.
     let t = c.args.tree.now in
     handed_on env packet c.args.text.now (of_check c.in_err-core.field-0.0) c.from_residual-in_err-core.result c.from_residual-in_err-core.ensures
     (check_refuses env packet c.args.text.now ts t c.in_err-core.field-0.0 has reads
-    (subst (λ (e : Env). tree.IsRefusal (tree.Refused e t) (Err c.in_err-core.field-0.0)) c.get-2.ensures c.in_err-core.ensures.refused)
-    c.in_err-core.ensures.not_built.0)
+    (subst (λ (e : Env). tree.IsRefusal (tree.Refused e t) (Err c.in_err-core.field-0.0)) c.get-2.ensures c.in_err-core.ensures.refused))
 
 pub returns-clause-unit : goal.returns-clause-unit
 returns-clause-unit c = λ packet ts has reads.

@@ -12,28 +12,25 @@ returns-clause-one c = λ env packet text a b m n.
       one_core = c.one_core.ensures;
       one_refusal = c.one_refusal.ensures;
       meant_is_not_refused = c.meant_is_not_refused.ensures;
-      one_answer = c.each_text_has_one_answer.ensures;
     } in
     one_meaning laws env packet text m n
 
 pub returns-clause-not_both : goal.returns-clause-not_both
-returns-clause-not_both c = λ env h packet text a r m f.
+returns-clause-not_both c = λ env packet text a r m f.
     let laws : Laws = record {
       one_tree = c.one_tree.ensures;
       one_core = c.one_core.ensures;
       one_refusal = c.one_refusal.ensures;
       meant_is_not_refused = c.meant_is_not_refused.ensures;
-      one_answer = c.each_text_has_one_answer.ensures;
     } in
-    not_both laws env packet text h m f
+    not_both laws env packet text m f
 
 pub returns-clause-one_refusal : goal.returns-clause-one_refusal
-returns-clause-one_refusal c = λ env h packet text q r f g.
+returns-clause-one_refusal c = λ env packet text q r f g.
     let laws : Laws = record {
       one_tree = c.one_tree.ensures;
       one_core = c.one_core.ensures;
       one_refusal = c.one_refusal.ensures;
       meant_is_not_refused = c.meant_is_not_refused.ensures;
-      one_answer = c.each_text_has_one_answer.ensures;
     } in
-    one_refusal laws env packet text h f g
+    one_refusal laws env packet text f g

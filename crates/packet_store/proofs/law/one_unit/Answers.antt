@@ -9,6 +9,5 @@ returns c = λ env packet text u v f g.
       one_core = c.one_core.ensures;
       one_refusal = c.one_refusal.ensures;
       meant_is_not_refused = c.meant_is_not_refused.ensures;
-      one_answer = c.each_text_has_one_answer.ensures;
     } in
     one_unit laws env packet text u v f g

@@ -8,7 +8,7 @@ returns-clause-one c = λ env compiled packet text a b f g.
       one_refusal = c.one_meaning.ensures.one_refusal;
       one_unit = c.one_unit.ensures;
     } in
-    one_reading laws env compiled packet text a b f g
+    one_reading laws env packet text a b f g
 
 pub returns-clause-agree : goal.returns-clause-agree
 returns-clause-agree c = λ read other f g env compiled packet text.
@@ -17,4 +17,4 @@ returns-clause-agree c = λ read other f g env compiled packet text.
       one_refusal = c.one_meaning.ensures.one_refusal;
       one_unit = c.one_unit.ensures;
     } in
-    one_reading laws env compiled packet text (read env packet text) (other env packet text) (f env packet text compiled) (g env packet text compiled)
+    one_reading laws env packet text (read env packet text) (other env packet text) (f env packet text compiled) (g env packet text compiled)

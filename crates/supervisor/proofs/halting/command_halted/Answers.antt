@@ -1,7 +1,8 @@
 use Rattle.std.proofs.Common.{subst}
+use Rattle.message_wait.specs.Rendezvous.{left}
 use Rattle.slicer.specs.Rotation as rotation
 use Rattle.task_lines.specs.Below.source_machine.specs.Tasks.{ending, world_of}
-use Rattle.task_lines.specs.Below.source_machine.specs.Systems.{doing, on_ready, on_system}
+use Rattle.task_lines.specs.Below.source_machine.specs.Systems.{doing, on_ready, on_waits, on_system}
 use Rattle.task_lines.specs.Below.source_machine.specs.Monitor.{over}
 use Rattle.task_lines.specs.Below.live_system.specs.Machines.{StandsAt}
 use Rattle.supervisor.proofs.Halts.{halted_over, is_halted}
@@ -12,14 +13,16 @@ pub returns-in-Some : goal.returns-in-Some
 returns-in-Some c =
     on_ok c.over.result c.over.ensures
     (λ h read reads m command is stands.
-    let left = on_system (on_ready (rotation.without c.args.task)) m in
+    let out = on_system (on_ready (rotation.without c.args.task)) m in
+    let calm = on_system (on_waits (left c.args.task)) out in
     let w = world_of (ending command 0) in
-    let done = halted_over c.halt.new.self c.in-Some.finished c.args.task command (doing c.args.task m.system) left is
-    (c.in-Some.ensures left (c.leave.ensures m stands)) in
-    subst (λ stop. StandsAt c.over.new.system (over read c.args.task command stop w left)) done.1 (h read reads left command w done.0 done.2))
+    let done = halted_over c.halt.new.self c.in-Some.finished c.args.task command (doing c.args.task m.system) calm is
+    (c.in-Some.ensures calm (c.stop_waiting.ensures out (c.leave.ensures m stands))) in
+    subst (λ stop. StandsAt c.over.new.system (over read c.args.task command stop w calm)) done.1 (h read reads calm command w done.0 done.2))
 
 pub returns-in-None : goal.returns-in-None
 returns-in-None c = λ read reads m command is stands.
-    let left = on_system (on_ready (rotation.without c.args.task)) m in
-    absurd (is_halted c.halt.new.self c.args.task command (doing c.args.task m.system) left is
-    (c.in-None.ensures left (c.leave.ensures m stands)))
+    let out = on_system (on_ready (rotation.without c.args.task)) m in
+    let calm = on_system (on_waits (left c.args.task)) out in
+    absurd (is_halted c.halt.new.self c.args.task command (doing c.args.task m.system) calm is
+    (c.in-None.ensures calm (c.stop_waiting.ensures out (c.leave.ensures m stands))))

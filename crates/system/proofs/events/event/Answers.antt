@@ -11,4 +11,4 @@ pub returns-clause-shown : goal.returns-clause-shown
 returns-clause-shown c = λ read reads s short stands.
     let last = whole read s c.args.event.now in
     joined c.args.out.now (rendered c.args.plain last.display.shown) (point_shown c.args.event.now) c.render.new.out c.point_shown.result.now c.append.new.self
-    (c.in_ok-render.ensures last (c.in_ok-whole.ensures read reads s short stands)) c.in_ok-append.ensures.ok c.point_shown.ensures
+    (c.in_ok-render.ensures last (c.in_ok-whole.ensures read reads s short stands).at) c.in_ok-append.ensures.ok c.point_shown.ensures

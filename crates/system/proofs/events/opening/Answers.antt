@@ -7,4 +7,6 @@ use Rattle.system.proofs.events.opening.Goals as goal
 
 pub returns : goal.returns
 unfolding StandsFor
-returns c = if_ok c.opening.result (λ system. StandsAt system (at_event opening)) (λ system. StandsFor system opening) (λ system h. (blank, h)) c.opening.ensures
+returns c =
+    if_ok c.opening.result (λ system. StandsAt system (at_event opening)) (λ system. StandsFor system opening)
+    (λ system h. (blank, record { at = h; orderly = c.waits.ensures.begins })) c.opening.ensures

@@ -2,5 +2,5 @@
 use Rattle.system.proofs.isolated.two_worlds.Goals as goal
 
 pub returns : goal.returns
-returns c = λ read u m n stands is four_m four_n one other same told.
-    c.turns_alike.ensures read u m n (c.law.ensures m stands) is four_m four_n one other same told
+returns c = λ read u m n stands is first second four_m four_n one other same told.
+    c.turns_alike.ensures read u m n (c.law.ensures m stands) is first second four_m four_n one other same told

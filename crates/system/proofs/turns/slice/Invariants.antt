@@ -5,11 +5,12 @@ use Rattle.task_requests.specs.Below.source_machine.specs.Monitor.{Reading}
 use Rattle.task_requests.specs.Below.source_machine.specs.Readings.{IsReading}
 use Rattle.task_requests.specs.Below.source_machine.specs.Turns.{slice}
 use Rattle.task_requests.specs.Below.live_system.specs.Machines.{StandsAt}
-use Rattle.system.specs.Leading.{Leads}
+use Rattle.isolation.specs.Waits.{HasTurn}
+use Rattle.system.specs.Leading.{Leads, TurnGoes}
 use Rattle.system.proofs.turns.slice.Given as goal
 
 -- the evaluations so far led here
 abbrev pub invariant-loop-k : goal.invariant-loop-k
 invariant-loop-k l =
-    (read : Env → Bool → List ℕ → Reading) → IsReading read → (m : Moment) → StandsAt l.fn.system m
-    → Leads true l.system (slice read (l.most - l.k) l.task l.left) (slice read l.most l.task l.marks m)
+    (read : Env → Bool → List ℕ → Reading) → IsReading read → (m : Moment) → HasTurn l.task m.system → StandsAt l.fn.system m
+    → Leads true (TurnGoes l.task true) l.system (slice read (l.most - l.k) l.task l.left) (slice read l.most l.task l.marks m)

@@ -4,12 +4,13 @@ use Rattle.task_requests.specs.Below.source_machine.specs.Systems.{Moment}
 use Rattle.task_requests.specs.Below.source_machine.specs.Monitor.{Reading}
 use Rattle.task_requests.specs.Below.source_machine.specs.Readings.{IsReading}
 use Rattle.task_requests.specs.Below.source_machine.specs.Turns.{turns}
-use Rattle.task_requests.specs.Below.live_system.specs.Machines.{StandsAt}
+use Rattle.system.specs.Systems.{Stands}
 use Rattle.system.specs.Leading.{Leads}
+use Rattle.system.proofs.Leading.{AreInOrder}
 use Rattle.system.proofs.turns.turns.Given as goal
 
 -- the turns so far led here
 abbrev pub invariant-loop-k : goal.invariant-loop-k
 invariant-loop-k l =
-    (read : Env → Bool → List ℕ → Reading) → IsReading read → (m : Moment) → StandsAt l.fn.system m
-    → Leads true l.system (turns read (l.number - l.k)) (turns read l.number m)
+    (read : Env → Bool → List ℕ → Reading) → IsReading read → (m : Moment) → Stands l.fn.system m
+    → Leads true AreInOrder l.system (turns read (l.number - l.k)) (turns read l.number m)

@@ -5,8 +5,8 @@ use Rattle.std.proofs.lemmas.List.{length-append}
 use Rattle.eu_base.specs.declared.address.TheConstants.{CELLS}
 use Rattle.eu_base.specs.Room.{cells_fit}
 use Rattle.cell_kinds.specs.Kinds.{packet_kinds}
-use Rattle.task_texts.specs.Below.source_machine.specs.Stores.{only_used}
-use Rattle.task_texts.specs.Below.task_job.specs.Standing.{Keeps}
+use Rattle.task_messages.specs.Below.source_machine.specs.Stores.{only_used}
+use Rattle.task_messages.specs.Below.task_job.specs.Standing.{Keeps}
 use Rattle.task_tidy.specs.Tidied.{kinds_with}
 use Rattle.task_tidy.proofs.tidying.tidy_memory.Goals as goal
 

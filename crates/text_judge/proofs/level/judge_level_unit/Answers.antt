@@ -3,7 +3,7 @@ use Rattle.elan_tree.specs.declared.tree.LevelUnit.{LevelUnit}
 use Rattle.elan_names.specs.declared.heading.Sort.TheVariants.{Operator}
 use Rattle.elan_scope.specs.Answer.{Is}
 use Rattle.elan_rules.specs.Meaning.{judged}
-use Rattle.elan_unbuilt.specs.Operators.{operator_text}
+use Rattle.elan_walk.specs.Operators.{operator_text}
 use Rattle.elan_bodies.specs.Level.{procedure_name, level_unit}
 use Rattle.text_judge.proofs.Routines.{procedure_at, operator_at}
 use Rattle.text_judge.proofs.level.judge_level_unit.Goals as goal

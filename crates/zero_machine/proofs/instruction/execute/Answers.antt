@@ -8,7 +8,8 @@ use Rattle.code_form.specs.declared.instr.Instr.TheVariants.{Number, Truth, Text
 use Rattle.code_form.specs.declared.instr.Instr.TheVariants.{Drop, Limit, Unlimit, Step, Ask, ErrorStop, Back, Out}
 use Rattle.zero_state.specs.Stepping.{position_of, control_of, mem_of, stage_by}
 use Rattle.zero_state.proofs.Making.{plain_steps}
-use Rattle.zero_machine.proofs.Executing.{call_so, refer_so, said_by, accesses, acts, stores, so, goes_so, forgets_so, computed_so, pushes_so, asks_so, ends}
+use Rattle.zero_state.specs.Finds.{Finds}
+use Rattle.zero_machine.proofs.Executing.{called_in, referred_in, callable, call_so, refer_so, said_by, accesses, spends, acts, stores, so, goes_so, forgets_so, computed_so, pushes_so, asks_so, ends}
 use Rattle.zero_machine.proofs.instruction.execute.Goals as goal
 
 pub returns-in-Mark-clause-goes : goal.returns-in-Mark-clause-goes
@@ -159,10 +160,45 @@ returns-in-Unlimit-clause-goes g c =
     forgets_so (g.M.Memory.holds c.args.m.now) (g.M.Memory.heads c.args.m.now) c.args.code.now c.args.instr.now Unlimit c.args.marks.now (position_of c.args.s.now) (control_of c.unlimit.new.s)
     c.in-Unlimit.is c.unlimit.new.s.used c.args.s.now.used (g.met.M.Memory.forgets c.args.m.now) c.unlimit.ensures
 
-pub returns-in-Ask-clause-goes : goal.returns-in-Ask-clause-goes
-returns-in-Ask-clause-goes g c =
+pub ask-requires-clause-finds : goal.ask-requires-clause-finds
+ask-requires-clause-finds g c =
+    (subst (λ i. Finds c.args.code.now.bodies i (position_of c.args.s.now)) c.in-Ask.is c.requires.finds).taken
+
+pub returns-then-sends-clause-goes : goal.returns-then-sends-clause-goes
+returns-then-sends-clause-goes g c =
+    spends c.ask_sending.result (g.M.Memory.holds c.args.m.now) (g.M.Memory.holds c.ask_sending.new.m) (g.M.Memory.heads c.args.m.now)
+    (g.M.Memory.heads c.ask_sending.new.m) (position_of c.args.s.now) (control_of c.ask_sending.new.s) c.args.marks.now c.ask_sending.new.marks
+    c.args.code.now c.args.instr.now (Ask c.in-Ask.request) c.in-Ask.is c.ask_sending.ensures.heads c.ask_sending.ensures.goes
+
+pub returns-else-sends-clause-goes : goal.returns-else-sends-clause-goes
+returns-else-sends-clause-goes g c =
     asks_so (g.M.Memory.holds c.args.m.now) (g.M.Memory.heads c.args.m.now) c.args.code.now c.args.instr.now (Ask c.in-Ask.request) c.args.marks.now (position_of c.args.s.now) (control_of c.ask.new.s)
-    c.in-Ask.is c.ask.new.marks c.ask.result c.computed-in-Ask.result c.computed-in-Ask.ensures.same c.ask.ensures
+    c.in-Ask.is c.ask.new.marks c.ask.result c.computed-else-sends.result c.computed-else-sends.ensures.same c.ask.ensures
+
+pub bounds-bodies-body : goal.bounds-bodies-body
+bounds-bodies-body g c =
+    called_in c.args.code.now.bodies c.args.instr.now c.in-Call.body (position_of c.args.s.now) c.requires.finds c.bodies.result.now c.in-Call.is c.bodies.ensures
+
+pub offset_bounds-bodies-body : goal.offset_bounds-bodies-body
+offset_bounds-bodies-body g c =
+    let lt = called_in c.args.code.now.bodies c.args.instr.now c.in-Call.body (position_of c.args.s.now) c.requires.finds c.bodies.result.now c.in-Call.is c.bodies.ensures in
+    search rules
+
+pub call-requires-clause-finds : goal.call-requires-clause-finds
+call-requires-clause-finds g c =
+    callable c.args.code.now.bodies c.args.instr.now c.in-Call.body (position_of c.args.s.now) c.requires.finds c.bodies.result.now c.index-bodies-body.result
+    c.in-Call.is c.bodies.ensures c.index-bodies-body.is
+
+pub bounds-bodies-body-in-Refer : goal.bounds-bodies-body-in-Refer
+bounds-bodies-body-in-Refer g c =
+    referred_in c.args.code.now.bodies c.args.instr.now c.in-Refer.body (position_of c.args.s.now) c.requires.finds c.bodies-in-Refer.result.now c.in-Refer.is
+    c.bodies-in-Refer.ensures
+
+pub offset_bounds-bodies-body-in-Refer : goal.offset_bounds-bodies-body-in-Refer
+offset_bounds-bodies-body-in-Refer g c =
+    let lt = referred_in c.args.code.now.bodies c.args.instr.now c.in-Refer.body (position_of c.args.s.now) c.requires.finds c.bodies-in-Refer.result.now c.in-Refer.is
+    c.bodies-in-Refer.ensures in
+    search rules
 
 pub returns-in-Call-clause-goes : goal.returns-in-Call-clause-goes
 returns-in-Call-clause-goes g c =

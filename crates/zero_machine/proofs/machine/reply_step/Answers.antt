@@ -1,6 +1,6 @@
 use Rattle.std.proofs.Common.{Some, sym, ap, ◌∙◌}
 use Rattle.zero_state.specs.Stepping.{position_of, control_of}
-use Rattle.zero_steps.specs.Replying.{Replies}
+use Rattle.zero_requests.specs.Replying.{Replies}
 use Rattle.zero_machine.proofs.Finds.{reply_finds}
 use Rattle.zero_machine.proofs.Fitting.{fits_given, at_reply, reply_fits, reply_spends, reply_nears}
 use Rattle.zero_machine.proofs.machine.reply_step.Goals as goal
@@ -22,11 +22,13 @@ returns-clause-fits g c =
     let r = c.requires.given.0 in
     let before = g.M.Memory.holds c.args.m.now in
     let after = g.M.Memory.holds c.take_reply.new.m in
+    let had = g.M.Memory.heads c.args.m.now in
+    let has = g.M.Memory.heads c.take_reply.new.m in
     let d = control_of c.take_reply.new.s in
     let q = c.in-Ask.name in
-    reply_fits p (position_of s) r c.take_reply.result before after (g.M.Memory.heads c.args.m.now) d q c.len-size.ensures.valid
+    reply_fits p (position_of s) r c.take_reply.result before after had has d q c.len-size.ensures.valid
     (fits_given p (control_of s) r c.requires.given.1 c.requires.fits) (ap (λ i. Some i) (sym c.in-Ask.is) ∙ c.instr.ensures)
-    (at_reply c.take_reply.result s.waits (λ r. Replies before after (g.M.Memory.heads c.args.m.now) q r (position_of s) d) r c.requires.given.1 c.take_reply.ensures.goes)
+    (at_reply c.take_reply.result s.waits (λ r. Replies before after had has q r (position_of s) d) r c.requires.given.1 c.take_reply.ensures.goes)
 
 pub returns-clause-spends : goal.returns-clause-spends
 returns-clause-spends g c = λ marks.
@@ -35,11 +37,13 @@ returns-clause-spends g c = λ marks.
     let r = c.requires.given.0 in
     let before = g.M.Memory.holds c.args.m.now in
     let after = g.M.Memory.holds c.take_reply.new.m in
+    let had = g.M.Memory.heads c.args.m.now in
+    let has = g.M.Memory.heads c.take_reply.new.m in
     let d = control_of c.take_reply.new.s in
     let q = c.in-Ask.name in
-    reply_spends p (position_of s) r c.take_reply.result before after (g.M.Memory.heads c.args.m.now) d q c.len-size.ensures.valid
+    reply_spends p (position_of s) r c.take_reply.result before after had has d q c.len-size.ensures.valid
     (fits_given p (control_of s) r c.requires.given.1 c.requires.fits) (ap (λ i. Some i) (sym c.in-Ask.is) ∙ c.instr.ensures) marks
-    (at_reply c.take_reply.result s.waits (λ r. Replies before after (g.M.Memory.heads c.args.m.now) q r (position_of s) d) r c.requires.given.1 c.take_reply.ensures.goes)
+    (at_reply c.take_reply.result s.waits (λ r. Replies before after had has q r (position_of s) d) r c.requires.given.1 c.take_reply.ensures.goes)
 
 pub returns-clause-nearer : goal.returns-clause-nearer
 returns-clause-nearer g c = λ marks.
@@ -48,8 +52,10 @@ returns-clause-nearer g c = λ marks.
     let r = c.requires.given.0 in
     let before = g.M.Memory.holds c.args.m.now in
     let after = g.M.Memory.holds c.take_reply.new.m in
+    let had = g.M.Memory.heads c.args.m.now in
+    let has = g.M.Memory.heads c.take_reply.new.m in
     let d = control_of c.take_reply.new.s in
     let q = c.in-Ask.name in
-    reply_nears p (position_of s) r c.take_reply.result before after (g.M.Memory.heads c.args.m.now) d q c.len-size.ensures.valid
+    reply_nears p (position_of s) r c.take_reply.result before after had has d q c.len-size.ensures.valid
     (fits_given p (control_of s) r c.requires.given.1 c.requires.fits) (ap (λ i. Some i) (sym c.in-Ask.is) ∙ c.instr.ensures) marks
-    (at_reply c.take_reply.result s.waits (λ r. Replies before after (g.M.Memory.heads c.args.m.now) q r (position_of s) d) r c.requires.given.1 c.take_reply.ensures.goes)
+    (at_reply c.take_reply.result s.waits (λ r. Replies before after had has q r (position_of s) d) r c.requires.given.1 c.take_reply.ensures.goes)

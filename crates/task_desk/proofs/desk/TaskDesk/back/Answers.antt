@@ -19,17 +19,20 @@ back-requires-clause-room c =
     (has_room c.args.task c.args.self.now c.law.ensures (sym (c.can_be_ready.ensures none_live []) ∙ c.if-can_be_ready.true))
 
 pub invariant_of-self : goal.invariant_of-self
-invariant_of-self c =
-    subst (λ (ready : List TaskNo). AllLive c.self.inside.tree ready) (sym c.back.ensures)
-    (live_at_back c.args.task c.self.inside.tree c.self.inside.ready c.self.invariant
-    (subst (λ (d : Desk). lives c.args.task d.tree ≡ true) (sym c.self.view_is)
-    (can_be_ready_lives c.args.task c.args.self.now (sym (c.can_be_ready.ensures none_live []) ∙ c.if-can_be_ready.true))))
+invariant_of-self c = (
+  subst (λ (ready : List TaskNo). AllLive c.self.inside.tree ready) (sym c.back.ensures)
+      (live_at_back c.args.task c.self.inside.tree c.self.inside.ready c.self.invariant.0
+      (subst (λ (d : Desk). lives c.args.task d.tree ≡ true) (sym c.self.view_is)
+      (can_be_ready_lives c.args.task c.args.self.now (sym (c.can_be_ready.ensures none_live []) ∙ c.if-can_be_ready.true)))),
+  c.self.invariant.1,
+)
 
 pub returns-then-can_be_ready : goal.returns-then-can_be_ready
 returns-then-can_be_ready c =
     let inside : Desk = record {
       tree = c.self.inside.tree;
       ready = c.self.inside.ready;
+      waits = c.self.inside.waits;
       channels = c.self.inside.channels;
       display = c.self.inside.display;
     } in

@@ -21,6 +21,7 @@ returns-then-can_couple c =
     let inside : Desk = record {
       tree = c.self.inside.tree;
       ready = c.self.inside.ready;
+      waits = c.self.inside.waits;
       channels = c.self.inside.channels;
       display = c.self.inside.display;
     } in

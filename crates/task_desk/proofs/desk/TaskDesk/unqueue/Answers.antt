@@ -8,6 +8,7 @@ returns-clause-none c none =
     let inside : Desk = record {
       tree = c.self.inside.tree;
       ready = c.self.inside.ready;
+      waits = c.self.inside.waits;
       channels = c.self.inside.channels;
       display = c.self.inside.display;
     } in

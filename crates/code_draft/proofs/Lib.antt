@@ -1,0 +1,3 @@
+pub mod Adds
+pub mod Makes
+pub mod Select

@@ -1,0 +1,5 @@
+pub mod Counted
+pub mod Stretch
+pub mod Adds
+pub mod Makes
+pub mod Steps

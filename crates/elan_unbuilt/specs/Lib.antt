@@ -1,4 +1,0 @@
-pub mod Names
-pub mod Types
-pub mod Operators
-pub mod NotBuilt

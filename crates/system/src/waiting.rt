@@ -1,0 +1,27 @@
+//! A task in its turn asks for what it may.
+ghost use Rattle.task_numbers.specs.declared.number.TaskNo.{TaskNo};
+ghost use Rattle.isolation.specs.Waits.{AreOrderly, HasTurn};
+ghost use Rattle.task_requests.specs.Below.source_machine.specs.Systems.{Moment};
+ghost use Rattle.task_requests.specs.Below.live_system.specs.Machines.{StandsAt};
+ghost use Rattle.system.specs.Keeping.{KeepsTurn, TurnBegins};
+
+use evaluation_law::steady;
+use isolation::turns_go_on;
+use task_requests::System;
+
+/// The first ready task has its turn.
+pub(crate) fn turn_begins(system: &System)
+    ensures { (m : Moment) → StandsAt system.now m → AreOrderly m.system → TurnBegins m.system.shared.ready m.system }
+{
+    system.law();
+    turns_go_on();
+}
+
+/// A task that has its turn asks for what it may, and has its turn still where it is answered.
+pub(crate) fn keeps_turn(system: &System)
+    ensures { (m : Moment) → StandsAt system.now m → (task : TaskNo) → HasTurn task m.system → KeepsTurn task m }
+{
+    system.law();
+    steady();
+    turns_go_on();
+}

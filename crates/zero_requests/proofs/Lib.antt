@@ -1,0 +1,4 @@
+pub mod Asking
+pub mod Sending
+pub mod Replying
+pub mod Receiving

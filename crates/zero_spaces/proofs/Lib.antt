@@ -1,0 +1,3 @@
+pub mod Looking
+pub mod Performing
+pub mod Assigning
