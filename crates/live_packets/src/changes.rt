@@ -5,7 +5,9 @@ ghost use Rattle.eu_base.specs.declared.value.Kind.{Kind};
 ghost use Rattle.cell_kinds.specs.Kinds.{packet_kinds};
 ghost use Rattle.task_tree.specs.Tree as tree;
 ghost use Rattle.elan_names.specs.declared.interface.Interface.{Interface};
+ghost use Rattle.eu_base.specs.Room.{cells_fit};
 ghost use Rattle.elan_types.specs.Eval.{World};
+ghost use Rattle.elan_types.specs.Typing.{all_packet_kinds};
 ghost use Rattle.task_desk.specs.Desks as desks;
 ghost use Rattle.live_tasks.specs.Below.source_machine.specs.Stores.{Store, heir, tidied};
 ghost use Rattle.live_tasks.specs.Below.source_machine.specs.Tasks.{Command, Own, Idle, Running, now, starting, store_in, with_doing};
@@ -53,8 +55,8 @@ pub fn start_unit(
     tasks.start(alloc, place, unit, code)
 }
 
-/// The packet that the command of a task inserted lives under the next number, and is one of the task's. The data spaces of the task go that
-/// nothing denotes.
+/// The packet that the command of a task inserted lives under the next number, and is one of the task's, where there is room for the variables of
+/// all. The data spaces of the task go that nothing denotes.
 pub fn install(
     alloc: Global,
     packets: &mut Packets,
@@ -66,6 +68,7 @@ pub fn install(
     requires shows { is_some unit.shown ≡ true }
     ensures { OnOk result ((i : Interface) (owns : Lists Own) (own : Own) (c : Command) (w : World) → unit.shown ≡ Some i → c.unit ≡ unit
         → AreNumbered packets.old → AreAllGiven packets.old.last owns → StandOver (kinds_in packets.old) tasks.old owns place c w → slice_get owns place ≡ Some own
+        → cells_fit (length (all_packet_kinds c.unit.core)) ≡ true
         → (packets.new ≡ installed unit i packets.old)
         × Stand (kinds_in packets.new) tasks.new (with_own place (λ o. with_packet (packets.old.last + 1) (with_doing (Idle (tidied (store_in w))) o)) owns)) }
 {

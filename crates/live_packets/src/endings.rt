@@ -1,6 +1,7 @@
 //! The tasks when a command is over. What nothing denotes of the task's data spaces goes.
-ghost use Rattle.std.specs.Prelude.{◌≡◌, ◌<◌, ◌++◌, ◌∷◌, [], ℕ, List, length, slice_get, None, Some, OnOk};
+ghost use Rattle.std.specs.Prelude.{◌≡◌, ◌<◌, ◌++◌, ◌∷◌, [], ℕ, List, length, slice_get, true, None, Some, OnOk};
 ghost use Rattle.eu_base.specs.declared.value.Kind.{Kind};
+ghost use Rattle.eu_base.specs.Room.{cells_fit};
 ghost use Rattle.cell_kinds.specs.Kinds.{packet_kinds};
 ghost use Rattle.elan_types.specs.Eval.{World};
 ghost use Rattle.live_tasks.specs.Below.source_machine.specs.Stores.{Store, tidied};
@@ -43,7 +44,7 @@ pub fn settle(alloc: Global, tasks: &mut Tasks, place: usize, unit: &Unit) -> Re
     Ok(())
 }
 
-/// The packet that the command of a task inserted becomes one of its packets, under a number.
+/// The packet that the command of a task inserted becomes one of its packets, under a number, where there is room for the variables of all.
 pub(crate) fn keep_inserted(
     alloc: Global,
     tasks: &mut Tasks,
@@ -54,6 +55,7 @@ pub(crate) fn keep_inserted(
     requires task { place < length tasks.old.tasks }
     ensures { OnOk result ((kinds_of later : List ℕ → List Kind) (owns : List Own) (own : Own) (c : Command) (w : World) →
         StandOver kinds_of tasks.old owns place c w → slice_get owns place ≡ Some own → c.unit ≡ unit.now → AgreeBut kinds_of later owns place →
+        cells_fit (length (kinds_of own.packets ++ c.unit.core.inserted)) ≡ true →
         later (own.packets ++ number ∷ []) ≡ kinds_of own.packets ++ c.unit.core.inserted →
         Stand later tasks.new (with_own place (λ o. with_packet number (with_doing (Idle (tidied (store_in w))) o)) owns)) }
 {

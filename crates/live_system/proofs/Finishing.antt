@@ -9,7 +9,9 @@ use Rattle.eu_base.specs.declared.stop.Stop.{Stop}
 use Rattle.eu_base.specs.declared.stop.Stop.TheVariants.{ManyPackets}
 use Rattle.eu_base.specs.declared.value.Kind.{Kind}
 use Rattle.elan_names.specs.declared.interface.Interface.{Interface}
+use Rattle.eu_base.specs.Room.{cells_fit}
 use Rattle.elan_types.specs.Eval.{World}
+use Rattle.elan_types.specs.Typing.{all_packet_kinds}
 use Rattle.live_packets.specs.Below.packet_store.specs.declared.unit.Compiled.{Compiled}
 use Rattle.live_packets.specs.Below.packet_store.specs.Library.{Library}
 use Rattle.live_packets.specs.Below.task_desk.specs.Desks.{Desk, moment, system}
@@ -22,7 +24,7 @@ use Rattle.live_packets.specs.Below.live_tasks.proofs.Standing.{with_own_twice}
 use Rattle.live_system.specs.Machines.{Machine, IsMachine, StandsAt, StandsOverAt}
 use Rattle.live_packets.specs.Below.source_machine.specs.Whole.{AreGiven, AreAllGiven, AreNumbered}
 use Rattle.live_packets.specs.Packets.{kinds_in}
-use Rattle.live_system.specs.Finishing.{insertion_leaves, leaves_by, finished, told_by}
+use Rattle.live_system.specs.Finishing.{insertion_leaves, leaves_by, finished, HasRoom, told_by}
 use Rattle.live_packets.specs.Packets.{insertion_told}
 use Rattle.live_packets.proofs.Owns.{length_with, found_with, given_with, all_later, push_given, there_is}
 use Rattle.live_packets.proofs.PacketKinds.{installed_numbered}
@@ -200,6 +202,12 @@ module _ (desk : Desk) (library : Library) (live : Live) (t : TaskNo) (c : Comma
       by None true e = absurd (none-some ManyPackets e)
       by None false e = refl
 
+-- where a packet is installed the command has ended
+room_there : (c : Command) (stop : Option Stop) (full : Bool) → None ≡ insertion_told stop full → HasRoom stop c
+    → cells_fit (length (all_packet_kinds c.unit.core)) ≡ true
+room_there c None full e room = room
+room_there c (Some stop) full e room = absurd (none-some stop e)
+
 -- ---- at the place that was looked up
 
 pub over_here : (desk : Desk) (library : Library) (live : Live) (was : Machine) → machine desk library live ≡ was → (t : TaskNo) (c : Command) (w : World) (m : Moment)
@@ -246,14 +254,17 @@ module _ (desk : Desk) (library : Library) (live : Live) (was : Machine) (is : m
       (settles_it (kinds_in library) h.owns own_k.0 c w over_k own_k.1 (sym same_unit)))
 
   -- a packet that is installed
-  pub inserted_at : (i : Interface) → unit.shown ≡ Some i → None ≡ insertion_told stop (is_full library) → (grown : Library) (later : Live)
+  pub inserted_at : HasRoom stop c → (i : Interface) → unit.shown ≡ Some i → None ≡ insertion_told stop (is_full library) → (grown : Library) (later : Live)
       → ((i : Interface) (owns : List Own) (own : Own) (c : Command) (w : World) → unit.shown ≡ Some i → c.unit ≡ unit → AreNumbered library
       → AreAllGiven library.last owns → StandOver (kinds_in library) live owns k c w → slice_get owns k ≡ Some own
+      → cells_fit (length (all_packet_kinds c.unit.core)) ≡ true
       → (grown ≡ installed unit i library)
       × Stand (kinds_in grown) later (with_own k (λ o. with_packet (library.last + 1) (with_doing (Idle (tidied (store_in w))) o)) owns))
       → (None ≡ told_by c.unit.shown stop m) × StandsAt (machine desk grown later) (finished stop t c w m)
-  inserted_at i shows told_is grown later installs =
-      let both = installs i h.owns own_k.0 c w shows (sym same_unit) h.machine.numbered h.machine.given over_k own_k.1 in
+  inserted_at room i shows told_is grown later installs =
+      let both =
+      installs i h.owns own_k.0 c w shows (sym same_unit) h.machine.numbered h.machine.given over_k own_k.1
+      (room_there c stop (is_full library) told_is room) in
       inserted_so desk library live t c w m h own_k.0 own_there stop i (sym (ap (λ (u : Compiled). u.shown) same_unit) ∙ shows) told_is grown
       (both.0 ∙ ap (λ (u : Compiled). installed u i library) same_unit) later
       (subst (λ (n : ℕ). Stand (kinds_in grown) later (with_own n (λ o. with_packet (library.last + 1) (with_doing (Idle (tidied (store_in w))) o)) h.owns)) place_is both.1)

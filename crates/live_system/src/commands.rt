@@ -89,7 +89,7 @@ impl System {
         finished: Finished,
     ) -> Result<Option<Stop>, NoMemory>
         ensures { IfOk result (λ stop. (m : Moment) (c : Command) (w : World) → finished.unit ≡ c.unit → StandsOverAt self.old task c w m
-            → (stop ≡ spec.told_by c.unit.shown finished.stop m) × StandsAt self.new (spec.finished finished.stop task c w m)) }
+            → spec.HasRoom finished.stop c → (stop ≡ spec.told_by c.unit.shown finished.stop m) × StandsAt self.new (spec.finished finished.stop task c w m)) }
     {
         let Finished { unit, stop } = finished;
         let Some(place) = place_of(&self.desk, &self.tasks, task) else {

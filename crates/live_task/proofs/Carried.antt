@@ -47,6 +47,7 @@ module _ (old new : Pages) (m : MemoryData) (bytes : KeepsBytes old new (roots m
 module _ (old new : Pages) (m : MemoryData) (bytes : KeepsBytes old new (roots m)) where
   pub keeps_carried : (kinds : List Kind) (store : Store) → Keeps kinds old m store → Keeps kinds new m store
   keeps_carried kinds store h = record {
+    fits = h.fits;
     cells = h.cells;
     holds = cells_carried old new m bytes h.cells h.holds;
     packets = h.packets;
@@ -58,6 +59,7 @@ module _ (old new : Pages) (m : MemoryData) (bytes : KeepsBytes old new (roots m
   leaves_carried kinds inserted store h = record {
     left =
         record {
+          fits = h.left.fits;
           cells = h.left.cells;
           holds = cells_carried old new m bytes h.left.cells h.left.holds;
           variables = h.left.variables;
@@ -72,6 +74,7 @@ module _ (old new : Pages) (m : MemoryData) (bytes : KeepsBytes old new (roots m
         record {
           unit = h.reaches.unit;
           kinds_are = h.reaches.kinds_are;
+          fits = h.reaches.fits;
           now = h.reaches.now;
           holds = cells_carried old new m bytes h.reaches.now h.reaches.holds;
           reaches = h.reaches.reaches;

@@ -235,6 +235,7 @@ new_stands pages task packets memory idle holds = record {
   does = (
     idle,
     record {
+      fits = refl;
       cells = λ _. Free;
       holds = holds;
       packets = no_variables Packets (λ _. Free) (λ x. refl);

@@ -1,7 +1,8 @@
 //! A task.
-ghost use Rattle.std.specs.Prelude.{◌≡◌, ◌≤◌, [], ◌∷◌, ◌++◌, List, length, IfOk, OnOk, OnErr, option_copied};
+ghost use Rattle.std.specs.Prelude.{◌≡◌, ◌≤◌, true, [], ◌∷◌, ◌++◌, List, length, IfOk, OnOk, OnErr, option_copied};
 ghost use Rattle.eu_base.specs.declared.value.Kind.{Kind};
 ghost use Rattle.eu_base.specs.Requests.{Answer};
+ghost use Rattle.eu_base.specs.Room.{cells_fit};
 ghost use Rattle.cell_kinds.specs.Kinds.{packet_kinds};
 ghost use Rattle.page_pool.specs.Pool.{Pages};
 ghost use Rattle.page_table.specs.Frames.{Frames, Stands};
@@ -213,10 +214,10 @@ impl Task {
         self.over(pool, Some(Stop::Halted))
     }
 
-    /// The packet that its command inserted becomes one of its packets, under a number. A refusal changes nothing.
+    /// The packet that its command inserted becomes one of its packets, under a number, where there is room for the variables of all. A refusal changes nothing.
     pub fn install(&mut self, number: u32) -> Result<(), NoMemory>
         ensures installed { OnOk result ((kinds : List Kind) (pages : Pages) (own : Own) (c : Command) (w : World) →
-            StandsOver kinds pages self.old own c w →
+            StandsOver kinds pages self.old own c w → cells_fit (length (kinds ++ c.unit.core.inserted)) ≡ true →
             StandsFor (kinds ++ c.unit.core.inserted) pages self.new (with_packet number (with_doing (Idles (store_in w)) own))) }
         ensures ok { OnOk result (self.new ≡ record self.old { packets = self.old.packets ++ number ∷ [] }) }
         ensures sound { IsSound self.old → IsSound self.new }

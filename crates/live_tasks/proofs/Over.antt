@@ -1,9 +1,10 @@
 -- A task of several whose command is over.
-use Rattle.std.proofs.Common.{◌≡◌, ◌≢◌, ◌≤◌, ℕ, List, [], ◌∷◌, ◌++◌, length, set, Option, Some, None, refl, sym, ap, ◌∙◌, subst, arith, length-set}
+use Rattle.std.proofs.Common.{◌≡◌, ◌≢◌, ◌≤◌, ℕ, List, [], ◌∷◌, ◌++◌, length, set, true, Option, Some, None, refl, sym, ap, ◌∙◌, subst, arith, length-set}
 use Rattle.std.specs.Prelude.{slice_get, Result, Ok, Err, OnOk, OnErr}
 use Rattle.std.specs.List.{AllZip, remove}
 use Rattle.std.proofs.lemmas.Option.{slice_get_within}
 use Rattle.eu_base.specs.declared.value.Kind.{Kind}
+use Rattle.eu_base.specs.Room.{cells_fit}
 use Rattle.page_pool.specs.Pool.{Pages}
 use Rattle.page_table.specs.Entries.{Names}
 use Rattle.space_memory.specs.Memories.{most_roots, MemoryFrames}
@@ -69,14 +70,14 @@ module _ (was now : Task) (number : ℕ) {E : Type 0} (result : Result (Unit {0}
 
 pub installs : (pages : Pages) (tasks : List Task) (k : ℕ) (task : Task) → slice_get tasks k ≡ Some task → (kinds_of later : List ℕ → List Kind)
     → (owns : List Own) (c : Command) (w : World) → StandOver kinds_of (record { pages = pages; tasks = tasks }) owns k c w → (own : Own) → slice_get owns k ≡ Some own
-    → AgreeBut kinds_of later owns k → (now : Task) (number : ℕ) → later (own.packets ++ number ∷ []) ≡ kinds_of own.packets ++ c.unit.core.inserted
-    → (StandsOver (kinds_of own.packets) pages task own c w
+    → AgreeBut kinds_of later owns k → cells_fit (length (kinds_of own.packets ++ c.unit.core.inserted)) ≡ true → (now : Task) (number : ℕ) → later (own.packets ++ number ∷ []) ≡ kinds_of own.packets ++ c.unit.core.inserted
+    → (StandsOver (kinds_of own.packets) pages task own c w → cells_fit (length (kinds_of own.packets ++ c.unit.core.inserted)) ≡ true
     → StandsFor (kinds_of own.packets ++ c.unit.core.inserted) pages now (with_packet number (with_doing (Idle (store_in w)) own)))
     → StandIn later pages (set tasks k now) (with_own k (λ o. with_packet number (with_doing (Idle (store_in w)) o)) owns)
-installs pages tasks k task at kinds_of later owns c w h own has agree now number is stands =
+installs pages tasks k task at kinds_of later owns c w h own has agree fits now number is stands =
     let f : Own → Own = λ o. with_packet number (with_doing (Idle (store_in w)) o) in
     subst (λ (os : List Own). StandIn later pages (set tasks k now) os) (sym (with_own_is owns k f own has))
     (zip_set (For later pages) tasks owns k now (f own) h.but.as_many
     (zip_change (For kinds_of pages) (For later pages) tasks owns k h.but.as_many
     (λ j task' own' ne there s. subst (λ (ks : List Kind). StandsFor ks pages task' own') (sym (agree j own' ne there)) s) h.but.others)
-    (subst (λ (ks : List Kind). StandsFor ks pages now (f own)) (sym is) (stands (h.over task own at has))))
+    (subst (λ (ks : List Kind). StandsFor ks pages now (f own)) (sym is) (stands (h.over task own at has) fits)))

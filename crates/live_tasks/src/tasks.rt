@@ -3,6 +3,7 @@ ghost use Rattle.std.specs.Prelude.{◌≡◌, ◌==◌, ◌<◌, ◌≤◌, ℕ
 ghost use Rattle.std.specs.List.{list_any};
 ghost use Rattle.eu_base.specs.declared.value.Kind.{Kind};
 ghost use Rattle.eu_base.specs.Requests.{plain, is_plain};
+ghost use Rattle.eu_base.specs.Room.{cells_fit};
 ghost use Rattle.cell_kinds.specs.Kinds.{packet_kinds};
 ghost use Rattle.code_gen.specs.Correct.{Behaves};
 ghost use Rattle.elan_types.specs.Eval.{World};
@@ -192,11 +193,12 @@ impl Tasks {
         task_tidy::tidy(task, alloc, &mut self.pool, packets, behind)
     }
 
-    /// The packet that the command of a task inserted becomes one of its packets, under a number.
+    /// The packet that the command of a task inserted becomes one of its packets, under a number, where there is room for the variables of all.
     pub fn install(&mut self, k: usize, number: u32) -> Result<(), NoMemory>
         requires task { k < length self.old.tasks }
         ensures { OnOk result ((kinds_of later : List ℕ → List Kind) (owns : List Own) (own : Own) (c : Command) (w : World) →
             StandOver kinds_of self.old owns k c w → slice_get owns k ≡ Some own → AgreeBut kinds_of later owns k →
+            cells_fit (length (kinds_of own.packets ++ c.unit.core.inserted)) ≡ true →
             later (own.packets ++ number ∷ []) ≡ kinds_of own.packets ++ c.unit.core.inserted →
             Stand later self.new (with_own k (λ o. with_packet number (with_doing (Idles (store_in w)) o)) owns)) }
     {

@@ -5,7 +5,6 @@ use Rattle.task_numbers.specs.declared.number.SpaceNo.{SpaceNo}
 use Rattle.eu_base.specs.declared.stop.Stop.{Stop}
 use Rattle.eu_base.specs.declared.stop.Stop.TheVariants.{BadName, ManySpaces, SpaceNumbers}
 use Rattle.eu_base.specs.declared.value.Value.TheVariants as values
-use Rattle.eu_base.specs.Room.{cells_fit}
 use Rattle.eu_base.specs.DataSpaces.{Space, Spaces, no_spaces, living, next_number, under, with_new, with_name, without_space}
 pub use Rattle.eu_base.specs.DataSpaces.{most_live, last_number}
 pub use Rattle.eu_base.specs.SpaceOperations.{is_name}
@@ -63,7 +62,6 @@ is_used n store = list_any (denotes n) store.variables || list_any (λ entry. en
 abbrev pub only_used : Store → Spaces
 only_used store = record store.spaces { live = filter (λ e. is_used e.0 store) store.spaces.live }
 
--- Without those that nothing denotes. Variables that have no room have no cells, and what they denote is not known: then all stay. No command
--- that ends leaves so many.
+-- without those that nothing denotes
 abbrev pub tidied : Store → Store
-tidied store = if cells_fit (length store.variables) then record store { spaces = only_used store } else store
+tidied store = record store { spaces = only_used store }

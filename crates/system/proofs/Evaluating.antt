@@ -1,10 +1,16 @@
 -- One evaluation in a slice, by how the task went on.
-use Rattle.std.proofs.Common.{◌≡◌, ℕ, Bool, true, false, List, Option, Some, None, refl, sym, subst}
+use Rattle.std.proofs.Common.{◌≡◌, ℕ, ◌+◌, Bool, true, false, List, length, Option, Some, None, refl, sym, ap, ◌∙◌, subst}
+use Rattle.std.specs.Prelude.{◌&&◌}
 use Rattle.task_numbers.specs.declared.number.TaskNo.{TaskNo}
 use Rattle.eu_base.specs.declared.request.Request.{Request}
+use Rattle.eu_base.specs.declared.stop.Stop.TheVariants.{CellRoom}
+use Rattle.eu_base.specs.Room.{cells_fit}
 use Rattle.elan_scope.specs.declared.env.Env.{Env}
 use Rattle.elan_types.specs.Eval.{World}
-use Rattle.elan_types.specs.Command.{Ending, Ended, Stopped, OutOfMarks, Asks}
+use Rattle.elan_types.specs.Eval as outcomes
+use Rattle.elan_types.specs.Typing.{all_packet_kinds}
+use Rattle.elan_types.specs.Command.{Ending, Ended, Stopped, OutOfMarks, Asks, start_kinds, at_start, start_fits, run_from}
+use Rattle.elan_types.specs.Command.{ending as command_ending}
 use Rattle.task_requests.specs.Below.source_machine.specs.Tasks.{Command, Running, ending, spent}
 use Rattle.task_requests.specs.Below.source_machine.specs.Systems.{Moment, command, does, given, on_system, back}
 use Rattle.task_requests.specs.Below.source_machine.specs.Serving.{Served, Replies, Rests, serve}
@@ -13,6 +19,7 @@ use Rattle.task_requests.specs.Below.source_machine.specs.Turns.{served, went, w
 use Rattle.task_requests.specs.Below.live_system.specs.declared.runs.Finished.{Finished}
 use Rattle.task_requests.specs.Below.live_system.specs.declared.runs.Went.TheVariants as hows
 use Rattle.task_requests.specs.Below.live_system.specs.Steps.{WentAs, WentOn}
+use Rattle.task_requests.specs.Below.live_system.specs.Finishing.{HasRoom}
 use Rattle.task_requests.specs.Below.live_system.specs.Machines.{Machine, StandsAt, StandsOverAt}
 use Rattle.task_requests.specs.Served.{IsAsking, GoesAs}
 use Rattle.system.specs.Keeping.{KeptBy, KeepsTurn}
@@ -29,6 +36,24 @@ served_so new t (Replies a m) goes more h kept =
     (record { moment = there; stands = h.1; known = kept; rest = refl })
 served_so new t (Rests m) goes more h kept =
     subst (λ b. Leads b (TurnGoes t b) new more m) (sym h.0) (record { moment = m; stands = h.1; known = kept; rest = refl })
+
+-- ---- room
+
+second_true : (a b : Bool) → (a && b) ≡ true → b ≡ true
+second_true true b e = e
+second_true false b e = absurd (cc e)
+
+-- a command ends only where the variables of all packets have room
+ended_room : (c : Command) (left : ℕ) (w : World) → ending c left ≡ Ended w → HasRoom None c
+ended_room c left w is = by (start_fits c.unit.core) refl
+  where
+    by : (b : Bool) → start_fits c.unit.core ≡ b → HasRoom None c
+    by true fits = second_true (cells_fit (length (start_kinds c.unit.core))) (cells_fit (length (all_packet_kinds c.unit.core))) fits
+    by false full =
+        let first = at_start c.unit.core c.before.variables c.before.spaces (c.marks + left) c.replies in
+        let stops : Stopped CellRoom first ≡ Ended w =
+        sym (ap (λ b. command_ending (outcomes.branch b (run_from c.unit.core.start c.unit.core (c.marks + left)) (outcomes.Stopped CellRoom) first)) full) ∙ is in
+        absurd (cc stops)
 
 -- ---- how a task went on
 
@@ -69,26 +94,30 @@ module _ (read : Env → Bool → List ℕ → Reading) (t : TaskNo) (left left'
 
   -- its command is over
   pub is_over : (finished : Finished) (o : Option Command) → WentOn o middle t left left' (hows.Over finished) m
-      → ((c : Command) (w : World) → finished.unit ≡ c.unit → StandsOverAt middle t c w m → StandsAt new (over read t c finished.stop w m))
+      → ((c : Command) (w : World) → finished.unit ≡ c.unit → StandsOverAt middle t c w m → HasRoom finished.stop c
+      → StandsAt new (over read t c finished.stop w m))
       → LeadsOn false (went_on read o left more t m)
   is_over finished None h f = absurd (cc h.0)
-  is_over finished (Some c) h f = by (ending c left) h
+  is_over finished (Some c) h f = by (ending c left) refl h
     where
-      by : (e : Ending) → WentAs e middle t left left' (hows.Over finished) c m → LeadsOn false (went read e left more t c m)
-      by (Ended w) h = record {
+      by : (e : Ending) → ending c left ≡ e → WentAs e middle t left left' (hows.Over finished) c m → LeadsOn false (went read e left more t c m)
+      by (Ended w) is h = record {
         moment = over read t c None w m;
-        stands = subst (λ stop. StandsAt new (over read t c stop w m)) h.1 (f c w h.0 h.2);
+        stands =
+            subst (λ stop. StandsAt new (over read t c stop w m)) h.1
+            (f c w h.0 h.2 (subst (λ stop. HasRoom stop c) (sym h.1) (ended_room c left w is)));
         known = tt;
         rest = refl;
       }
-      by (Stopped stop w) h = record {
+      by (Stopped stop w) is h = record {
         moment = over read t c (Some stop) w m;
-        stands = subst (λ stop. StandsAt new (over read t c stop w m)) h.1 (f c w h.0 h.2);
+        stands =
+            subst (λ stop. StandsAt new (over read t c stop w m)) h.1 (f c w h.0 h.2 (subst (λ stop. HasRoom stop c) (sym h.1) tt));
         known = tt;
         rest = refl;
       }
-      by (OutOfMarks w) h = absurd (cc h.0)
-      by (Asks q w) h = absurd (cc h.0)
+      by (OutOfMarks w) is h = absurd (cc h.0)
+      by (Asks q w) is h = absurd (cc h.0)
 
   -- it makes a request, which is served
   pub asks : (goes : Bool) (q : Request) (o : Option Command) → command t m.system ≡ o → WentOn o middle t left left' (hows.Asks q) m

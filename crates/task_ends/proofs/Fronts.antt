@@ -90,6 +90,7 @@ module _ (kinds inserted : List Kind) (old : Pages) (m : MemoryData) (store : St
   -- where all had no room, nothing stands there
   pub none_behind : cells_fit (length (kinds ++ inserted)) ≡ false → Keeps kinds old m (settled (length kinds) store)
   none_behind full = record {
+    fits = h.left.fits;
     cells = there;
     holds = h.left.holds;
     packets = front_stands kinds inserted store.variables there h.left.variables there (λ x lt. refl) (h.left.variables.bare full);
@@ -100,6 +101,7 @@ module _ (kinds inserted : List Kind) (old : Pages) (m : MemoryData) (store : St
   pub freed_behind : (new : Pages) (n : MemoryData) → cells_fit (length (kinds ++ inserted)) ≡ true → memory_heads n ≡ memory_heads m
       → HoldsAll new n (freed (length kinds) end there) → Keeps kinds new n (settled (length kinds) store)
   freed_behind new n room same holds = record {
+    fits = h.left.fits;
     cells = freed (length kinds) end there;
     holds = holds;
     packets =

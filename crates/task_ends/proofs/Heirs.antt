@@ -63,6 +63,7 @@ module _ (old new : Pages) (m : MemoryData) (k : KeepsBytes old new (roots m)) w
 
   idle_heir : (kinds : List Kind) (store : Store) → Keeps kinds old m store → Keeps kinds new (heir m) (stores.heir store)
   idle_heir kinds store h = record {
+    fits = h.fits;
     cells = left_alone h.cells;
     holds = heir_holds h.cells h.holds;
     packets = same_variables Packets kinds store.variables h.cells (left_alone h.cells) (λ x. refl) h.packets;
@@ -75,6 +76,7 @@ module _ (old new : Pages) (m : MemoryData) (k : KeepsBytes old new (roots m)) w
   running_heir kinds inserted store h = record {
     left =
         record {
+          fits = h.fits;
           cells = left_alone h.cells;
           holds = heir_holds h.cells h.holds;
           variables =

@@ -1,10 +1,11 @@
 -- What a memory keeps of variables and data spaces when the cells of the command are cleared.
-use Rattle.std.proofs.Common.{◌≡◌, ℕ, ◌≤◌, true, false, List, [], map, ◌++◌, arith, refl, sym, subst, true≢false}
+use Rattle.std.proofs.Common.{◌≡◌, ℕ, ◌≤◌, true, false, List, [], map, ◌++◌, length, arith, refl, sym, subst, true≢false}
 use Rattle.eu_base.specs.Values.{SpaceNo}
 use Rattle.eu_base.specs.declared.value.Kind.{Kind}
 use Rattle.eu_base.specs.declared.address.Area.{Area}
 use Rattle.eu_base.specs.declared.address.Area.TheVariants.{Run, Packets, Space}
 use Rattle.eu_base.specs.Spaces.{Content, IsKept}
+use Rattle.eu_base.specs.Room.{cells_fit}
 use Rattle.eu_base.specs.Cells.{Cell, Free, Cells, area_cell, space_cell}
 use Rattle.eu_base.specs.DataSpaces.{Heads, Spaces, heads_of, no_spaces, last_number}
 use Rattle.eu_base.specs.SpacePlaces.{kinds_of, values_of}
@@ -94,6 +95,7 @@ module _ (old new : Pages) (m n : MemoryData) (is : n ≡ record m { run = no_sp
   cleared kinds inserted store h = record {
     left =
         record {
+          fits = h.fits;
           cells = idle h.cells;
           holds = cleared_cells h.cells h.holds;
           variables = idle_behind kinds inserted store.variables h.cells h.variables;
@@ -104,8 +106,9 @@ module _ (old new : Pages) (m n : MemoryData) (is : n ≡ record m { run = no_sp
 
 -- the variables of a packet that was inserted are those of a packet of the task, as its others; and where none was inserted there are none
 pub inserted_keeps : (kinds inserted : List Kind) (pages : Pages) (memory : MemoryData) (store : Store) → Leaves kinds inserted pages memory store
-    → Keeps (kinds ++ inserted) pages memory store
-inserted_keeps kinds inserted pages memory store h = record {
+    → cells_fit (length (kinds ++ inserted)) ≡ true → Keeps (kinds ++ inserted) pages memory store
+inserted_keeps kinds inserted pages memory store h fits = record {
+  fits = fits;
   cells = h.left.cells;
   holds = h.left.holds;
   packets = h.left.variables.all;

@@ -84,6 +84,7 @@ module _ (kinds : List Kind) (pages : Pages) (memory : MemoryData) (job : Job) (
     -- and leaves what the command leaves that stops here
     pub left_now : Left kinds c.unit.core.inserted pages memory (store_in (world_of (ending c 0)))
     left_now = record {
+      fits = h.reaches.fits;
       cells = h.reaches.now;
       holds = h.reaches.holds;
       variables =
@@ -131,6 +132,7 @@ module _ (kinds : List Kind) (old new : Pages) (m n : MemoryData) (job : Job) (c
         record {
           unit = h.unit;
           kinds_are = h.kinds_are;
+          fits = h.fits;
           now = there.0.scene.mem.cells;
           holds = so.0;
           reaches =
@@ -160,6 +162,7 @@ module _ (kinds : List Kind) (old new : Pages) (m n : MemoryData) (job : Job) (c
 
   over : (w : World) → world_of (ending c left) ≡ w → Left kinds c.unit.core.inserted new n (store_in w)
   over w is = record {
+    fits = h.fits;
     cells = there.0.scene.mem.cells;
     holds = so.0;
     variables =
@@ -226,6 +229,7 @@ module _ (kinds : List Kind) (old new : Pages) (m n : MemoryData) (job : Job) (c
   takes_reply = record {
     unit = h.unit;
     kinds_are = h.kinds_are;
+    fits = h.fits;
     now = after.cells;
     holds = got.holds h.now h.holds;
     reaches =
@@ -244,6 +248,7 @@ starts old new m n unit code run store b h is put heads =
     record {
       unit = refl;
       kinds_are = refl;
+      fits = h.fits;
       now = made code h.cells;
       holds =
           put h.cells h.holds (can_be_made code store.variables store.spaces (memory_heads m) h.cells packets h.spaces h.command);

@@ -1,5 +1,5 @@
 -- What it means that a job, over the memory of its task, does what a command of the source machine does, and what a memory keeps.
-use Rattle.std.specs.Prelude.{◌≡◌, ℕ, ◌≤◌, false, List, ◌++◌, length, take}
+use Rattle.std.specs.Prelude.{◌≡◌, ℕ, ◌≤◌, true, false, List, ◌++◌, length, take}
 use Rattle.eu_base.specs.declared.value.Kind.{Kind}
 use Rattle.eu_base.specs.declared.address.Area.TheVariants.{Packets}
 use Rattle.eu_base.specs.Room.{cells_fit}
@@ -39,8 +39,9 @@ pub record HasBehind (kinds inserted : List Kind) (slots : List Slot) (cells : C
 abbrev pub KeepsSpaces : MemoryData → Spaces → Cells → Type 0
 KeepsSpaces memory spaces cells = HasSpaces spaces (mem_of (memory_heads memory) cells)
 
--- a task that runs no command has variables of these kinds and its data spaces, and nothing is known of the cells of a command
+-- a task that runs no command has variables of these kinds, for which there is room, and its data spaces, and nothing is known of the cells of a command
 pub record Keeps (kinds : List Kind) (pages : Pages) (memory : MemoryData) (store : Store) : Type 0 where
+  pub fits : cells_fit (length kinds) ≡ true
   pub cells : Cells
   pub holds : HoldsAll pages memory cells
   pub packets : HasVariables Packets kinds store.variables cells
@@ -49,6 +50,7 @@ pub record Keeps (kinds : List Kind) (pages : Pages) (memory : MemoryData) (stor
 
 -- what a command leaves that is over; then the cells of the command are cleared
 pub record Left (kinds inserted : List Kind) (pages : Pages) (memory : MemoryData) (store : Store) : Type 0 where
+  pub fits : cells_fit (length kinds) ≡ true
   pub cells : Cells
   pub holds : HoldsAll pages memory cells
   pub variables : HasBehind kinds inserted store.variables cells
@@ -64,6 +66,7 @@ pub record Leaves (kinds inserted : List Kind) (pages : Pages) (memory : MemoryD
 pub record ReachesFor (kinds : List Kind) (pages : Pages) (memory : MemoryData) (job : Job) (c : Command) : Type 0 where
   pub unit : job.unit ≡ c.unit
   pub kinds_are : packet_kinds c.unit.core.packets ≡ kinds
+  pub fits : cells_fit (length kinds) ≡ true
   pub now : Cells
   pub holds : HoldsAll pages memory now
   pub reaches : Reaches c.unit.core c.before.variables c.before.spaces c.marks c.replies job.code job.run (mem_of (memory_heads memory) now)

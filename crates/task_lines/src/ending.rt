@@ -6,6 +6,7 @@ ghost use Rattle.live_system.specs.Below.source_machine.specs.Tasks.{Command};
 ghost use Rattle.live_system.specs.Below.source_machine.specs.Systems.{Moment, tell};
 ghost use Rattle.live_system.specs.Below.source_machine.specs.Monitor as spec;
 ghost use Rattle.live_system.specs.Below.source_machine.specs.Readings.{IsReading};
+ghost use Rattle.live_system.specs.Finishing.{HasRoom};
 ghost use Rattle.live_system.specs.Machines.{StandsAt, StandsOverAt};
 
 use crate::queue::drain;
@@ -23,7 +24,7 @@ pub fn over(
     finished: Finished,
 ) -> Result<(), NoMemory>
     ensures { OnOk result ((read : Env → Bool → List ℕ → spec.Reading) → IsReading read → (m : Moment) (c : Command) (w : World) → finished.unit ≡ c.unit
-        → StandsOverAt system.old task c w m → StandsAt system.new (spec.over read task c finished.stop w m)) }
+        → StandsOverAt system.old task c w m → HasRoom finished.stop c → StandsAt system.new (spec.over read task c finished.stop w m)) }
 {
     let stop = system.finish(alloc, task, finished)?;
     rest_with(alloc, system, task, stop)

@@ -246,6 +246,7 @@ module _ (spaces : Spaces) (m : MemoryData) (cells : Cells) (h : KeepsSpaces m s
 pub forgets : (kinds : List Kind) (old new : Pages) (m : MemoryData) (store : Store) (s : SpaceNo) → KeepsBytes old new (roots (forgotten s.0 m))
     → Keeps kinds old m store → Keeps kinds new (forgotten s.0 m) (record store { spaces = data_spaces.without_space s store.spaces })
 forgets kinds old new m store s k h = record {
+  fits = h.fits;
   cells = with_area (areas.Space s) (λ x. Free) h.cells;
   holds = forgot_held old new m (forgotten s.0 m) s refl k (gone_there store.spaces m h.cells h.spaces s) h.cells h.holds;
   packets = same_variables Packets kinds store.variables h.cells (with_area (areas.Space s) (λ x. Free) h.cells) (λ x. refl) h.packets;
@@ -262,6 +263,7 @@ pub comes : (kinds : List Kind) (pages : Pages) (m : MemoryData) (store : Store)
     → length (shaped_kinds space.shape) ≤ CELLS → m.last < last_number → Keeps kinds pages m store
     → Keeps kinds pages (with_new d m) (record store { spaces = data_spaces.with_new space store.spaces })
 comes kinds pages m store d space own is fits left h = record {
+  fits = h.fits;
   cells = put store.spaces m h.cells h.spaces space d;
   holds = new_holds store.spaces m h.cells h.spaces space d pages own.holds h.holds;
   packets = same_variables Packets kinds store.variables h.cells (put store.spaces m h.cells h.spaces space d) (λ x. refl) h.packets;
@@ -275,6 +277,7 @@ pub gets_name : (kinds : List Kind) (pages : Pages) (m : MemoryData) (store : St
     → Keeps kinds pages m store
     → Keeps kinds pages (record m { names = directory.put name s m.names }) (record store { spaces = data_spaces.with_name name t store.spaces })
 gets_name kinds pages m store name s t same low h = record {
+  fits = h.fits;
   cells = h.cells;
   holds = named_still pages m (directory.put name s m.names) h.cells h.holds;
   packets = h.packets;

@@ -141,6 +141,7 @@ module _ (ks : List Kind) (pages : Pages) (m : MemoryData) (store : Store) (h : 
 pub still_keeps : (ks : List Kind) (old new : Pages) (m now : MemoryData) (store : Store) → memory_heads now ≡ memory_heads m
     → ((cells : Cells) → HoldsAll old m cells → HoldsAll new now cells) → Keeps ks old m store → Keeps ks new now store
 still_keeps ks old new m now store same kept h = record {
+  fits = h.fits;
   cells = h.cells;
   holds = kept h.cells h.holds;
   packets = h.packets;

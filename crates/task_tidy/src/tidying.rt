@@ -40,7 +40,7 @@ pub fn tidy(
     tidy_memory(alloc, &mut task.memory, pool, packets, behind)
 }
 
-// Variables that have no room have no cells: then nothing is forgotten.
+// Variables that stand in cells have room, so the rest is always reached.
 fn tidy_memory(
     alloc: Global,
     memory: &mut SpaceMemory,

@@ -1,9 +1,10 @@
-use Rattle.std.proofs.Common.{subst}
+use Rattle.std.proofs.Common.{sym, subst}
 use Rattle.message_wait.specs.Rendezvous.{left}
 use Rattle.slicer.specs.Rotation as rotation
 use Rattle.task_lines.specs.Below.source_machine.specs.Tasks.{ending, world_of}
 use Rattle.task_lines.specs.Below.source_machine.specs.Systems.{doing, on_ready, on_waits, on_system}
 use Rattle.task_lines.specs.Below.source_machine.specs.Monitor.{over}
+use Rattle.task_lines.specs.Below.live_system.specs.Finishing.{HasRoom}
 use Rattle.task_lines.specs.Below.live_system.specs.Machines.{StandsAt}
 use Rattle.supervisor.proofs.Halts.{halted_over, is_halted}
 use Rattle.supervisor.proofs.Kept.{on_ok}
@@ -18,7 +19,8 @@ returns-in-Some c =
     let w = world_of (ending command 0) in
     let done = halted_over c.halt.new.self c.in-Some.finished c.args.task command (doing c.args.task m.system) calm is
     (c.in-Some.ensures calm (c.stop_waiting.ensures out (c.leave.ensures m stands))) in
-    subst (λ stop. StandsAt c.over.new.system (over read c.args.task command stop w calm)) done.1 (h read reads calm command w done.0 done.2))
+    subst (λ stop. StandsAt c.over.new.system (over read c.args.task command stop w calm)) done.1 
+    (h read reads calm command w done.0 done.2 (subst (λ stop. HasRoom stop command) (sym done.1) tt)))
 
 pub returns-in-None : goal.returns-in-None
 returns-in-None c = λ read reads m command is stands.

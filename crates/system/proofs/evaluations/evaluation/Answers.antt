@@ -32,4 +32,4 @@ returns-in_ok-over-in-Over c = λ read reads m turn h more.
     is_over read c.args.task c.args.left.now c.go_on.new.marks m c.go_on.new.self c.over.new.system more (c.keeps_turn.ensures m h c.args.task turn)
     c.in-Over.finished (command c.args.task m.system)
     (subst (λ how. WentOn (command c.args.task m.system) c.go_on.new.self c.args.task c.args.left.now c.go_on.new.marks how m) c.in-Over.is
-    (c.in_ok-go_on.ensures.went m h)) (λ d w unit there. c.in_ok-over-in-Over.ensures read reads m d w unit there)
+    (c.in_ok-go_on.ensures.went m h)) (λ d w unit there room. c.in_ok-over-in-Over.ensures read reads m d w unit there room)

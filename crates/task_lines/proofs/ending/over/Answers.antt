@@ -5,6 +5,6 @@ use Rattle.task_lines.proofs.ending.over.Goals as goal
 pub returns : goal.returns
 returns c =
     on_ok c.rest_with.result c.rest_with.ensures
-    (λ h read reads m command w same stands.
+    (λ h read reads m command w same stands room.
     over_stands read c.args.task command c.finish.new.self c.rest_with.new.system c.args.finished.stop c.in_ok-stop.stop w m
-    (c.in_ok-stop.ensures m command w same stands) (h read reads))
+    (c.in_ok-stop.ensures m command w same stands room) (h read reads))

@@ -21,8 +21,8 @@ pub returns : goal.returns
 returns c =
     let at = reads c.self.inside.pool c.self.inside.tasks.items c.args.self.now c.args.k c.index_mut-task.result.now c.self.view_is c.requires.task
     c.index_mut-task.ensures.value in
-    on_ok_weaker c.install.result (λ stands kinds_of later owns own command w h has agree is.
+    on_ok_weaker c.install.result (λ stands kinds_of later owns own command w h has agree fits is.
     let all = overs kinds_of c.self.inside.pool c.self.inside.tasks.items c.args.self.now owns c.args.k c.self.view_is command w h in
-    installs c.self.inside.pool c.self.inside.tasks.items c.args.k c.index_mut-task.result.now at kinds_of later owns command w all own has agree
-    c.install.new.self c.args.number is (λ over. stands (kinds_of own.packets) c.self.inside.pool own command w over))
+    installs c.self.inside.pool c.self.inside.tasks.items c.args.k c.index_mut-task.result.now at kinds_of later owns command w all own has agree fits
+    c.install.new.self c.args.number is (λ over room. stands (kinds_of own.packets) c.self.inside.pool own command w over room))
     c.install.ensures.installed
