@@ -8,7 +8,6 @@ ghost use Rattle.live_tasks.specs.Below.source_machine.specs.Stores.{Store, tidi
 ghost use Rattle.live_tasks.specs.Below.source_machine.specs.Tasks.{Command, Own, Idle, own_variables, settled, store_in, with_doing};
 ghost use Rattle.live_tasks.specs.Below.source_machine.specs.Systems.{with_own};
 ghost use Rattle.live_tasks.specs.Below.source_machine.specs.Monitor.{with_packet};
-ghost use Rattle.live_tasks.specs.Below.task_tidy.specs.Tidied.{kinds_with};
 ghost use Rattle.live_tasks.specs.Tasks.{Stand, StandOver, AgreeBut};
 
 use cell_kinds::{CellKinds, Packet};
@@ -61,9 +60,8 @@ pub(crate) fn keep_inserted(
 {
     tasks.install(place, number)?;
     let compiled = unit.compiled();
-    tidy(
+    tasks.tidy(
         alloc,
-        tasks,
         place,
         compiled.core.packets.as_slice(),
         &compiled.core.inserted,
@@ -78,30 +76,12 @@ fn tidy_alone(
     place: usize,
     packets: &[Packet],
 ) -> Result<(), NoMemory>
+    requires task { place < length tasks.old.tasks }
     ensures { OnOk result ((kinds_of : List ℕ → List Kind) (owns : List Own) (own : Own) (store : Store) → Stand kinds_of tasks.old owns →
         slice_get owns place ≡ Some own → own.doing ≡ Idle store → packet_kinds packets.now ≡ kinds_of own.packets →
         Stand kinds_of tasks.new (with_own place (with_doing (Idle (tidied store))) owns)) }
 {
     let none = CellKinds::new(alloc);
-    tidy(alloc, tasks, place, packets, &none)?;
-    Ok(())
-}
-
-// There is a task at the place: that there are as many tasks as before is seen here.
-fn tidy(
-    alloc: Global,
-    tasks: &mut Tasks,
-    place: usize,
-    packets: &[Packet],
-    behind: &CellKinds,
-) -> Result<(), NoMemory>
-    ensures { OnOk result ((kinds_of : List ℕ → List Kind) (owns : List Own) (own : Own) (store : Store) → Stand kinds_of tasks.old owns →
-        slice_get owns place ≡ Some own → own.doing ≡ Idle store → kinds_with packets.now behind.now ≡ kinds_of own.packets →
-        Stand kinds_of tasks.new (with_own place (with_doing (Idle (tidied store))) owns)) }
-{
-    if place >= tasks.count() {
-        return Err(NoMemory);
-    }
-    tasks.tidy(alloc, place, packets, behind)?;
+    tasks.tidy(alloc, place, packets, &none)?;
     Ok(())
 }

@@ -167,9 +167,10 @@ impl Tasks {
     /// The command of a task is over and was no insertion that is kept: what it left behind the variables of the task's packets goes.
     pub fn settle(&mut self, alloc: Global, k: usize, unit: &Compiled) -> Result<(), NoMemory>
         requires task { k < length self.old.tasks }
-        ensures { OnOk result ((kinds_of : List ℕ → List Kind) (owns : List Own) (own : Own) (c : Command) (w : World) →
+        ensures settled { OnOk result ((kinds_of : List ℕ → List Kind) (owns : List Own) (own : Own) (c : Command) (w : World) →
             StandOver kinds_of self.old owns k c w → slice_get owns k ≡ Some own → c.unit ≡ unit.now →
             Stand kinds_of self.new (with_own k (with_doing (Idles (settled (own_variables c) (store_in w)))) owns)) }
+        ensures many { length self.new.tasks ≡ length self.old.tasks }
     {
         let task = &mut self.tasks[k];
         task_ends::settle(task, alloc, &mut self.pool, unit)
@@ -196,11 +197,12 @@ impl Tasks {
     /// The packet that the command of a task inserted becomes one of its packets, under a number, where there is room for the variables of all.
     pub fn install(&mut self, k: usize, number: u32) -> Result<(), NoMemory>
         requires task { k < length self.old.tasks }
-        ensures { OnOk result ((kinds_of later : List ℕ → List Kind) (owns : List Own) (own : Own) (c : Command) (w : World) →
+        ensures installed { OnOk result ((kinds_of later : List ℕ → List Kind) (owns : List Own) (own : Own) (c : Command) (w : World) →
             StandOver kinds_of self.old owns k c w → slice_get owns k ≡ Some own → AgreeBut kinds_of later owns k →
             cells_fit (length (kinds_of own.packets ++ c.unit.core.inserted)) ≡ true →
             later (own.packets ++ number ∷ []) ≡ kinds_of own.packets ++ c.unit.core.inserted →
             Stand later self.new (with_own k (λ o. with_packet number (with_doing (Idles (store_in w)) o)) owns)) }
+        ensures many { length self.new.tasks ≡ length self.old.tasks }
     {
         let task = &mut self.tasks[k];
         task.install(number)

@@ -12,4 +12,4 @@ returns c kinds_of owns own command w over has is =
     (λ ks os o store stand there idle kinds.
     c.in_ok-tidy_alone.ensures ks os o store stand there idle
     (ap (λ ps. packet_kinds ps) c.as_slice.ensures ∙ ap (λ (u : Compiled). packet_kinds u.core.packets) unit ∙ kinds))
-    (settled (own_variables command) (store_in w)) (c.in_ok-settle.ensures kinds_of owns own command w over has (is ∙ sym unit))
+    (settled (own_variables command) (store_in w)) (c.in_ok-settle.ensures.settled kinds_of owns own command w over has (is ∙ sym unit))

@@ -17,8 +17,8 @@ invariant_of-self c =
     let frames = installed_frames c.index_mut-task.result.now c.install.new.self c.args.number c.install.result c.install.ensures.ok c.install.ensures.err c.self.inside.pool in
     call_fits c.self.inside.pool c.self.inside.pool c.self.inside.tasks.items c.args.k c.index_mut-task.result.now at c.self.invariant c.install.new.self frames small (c.install.ensures.sound (call_sound c.self.inside.pool c.self.inside.pool c.self.inside.tasks.items c.args.k c.index_mut-task.result.now at c.self.invariant))
 
-pub returns : goal.returns
-returns c =
+pub returns-clause-installed : goal.returns-clause-installed
+returns-clause-installed c =
     let at = reads c.self.inside.pool c.self.inside.tasks.items c.args.self.now c.args.k c.index_mut-task.result.now c.self.view_is c.requires.task
     c.index_mut-task.ensures.value in
     on_ok_weaker c.install.result (λ stands kinds_of later owns own command w h has agree fits is.

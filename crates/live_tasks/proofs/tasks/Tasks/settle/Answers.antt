@@ -16,8 +16,8 @@ invariant_of-self c =
     c.index_mut-task.ensures.value in
     call_fits c.self.inside.pool c.settle.new.pool c.self.inside.tasks.items c.args.k c.index_mut-task.result.now at c.self.invariant c.settle.new.task c.settle.ensures.frames c.settle.ensures.few (c.settle.ensures.sound (call_sound c.self.inside.pool c.self.inside.pool c.self.inside.tasks.items c.args.k c.index_mut-task.result.now at c.self.invariant))
 
-pub returns : goal.returns
-returns c =
+pub returns-clause-settled : goal.returns-clause-settled
+returns-clause-settled c =
     let at = reads c.self.inside.pool c.self.inside.tasks.items c.args.self.now c.args.k c.index_mut-task.result.now c.self.view_is c.requires.task
     c.index_mut-task.ensures.value in
     on_ok_weaker c.settle.result (λ settles kinds_of owns own command w h has is.
