@@ -181,3 +181,91 @@ FEHLER : kein ELAN-Text (Zeile 1, Stelle 9)
 > BOUND ROW 129 ROW 128 INT VAR a
 FEHLER : zu gross (Zeile 1, Stelle 7)
 ";
+
+/// Each call on data spaces and their names with each of its stops.
+pub const SPACE_STOPS: &str = "\
+> DATASPACE VAR d := new (\"\")
+FEHLER : falscher Name
+> DATASPACE VAR d := new (61 * \"a\")
+FEHLER : falscher Name
+> DATASPACE VAR d := new (60 * \"a\"); IF exists (60 * \"a\") THEN put (1) FI
+1 
+> DATASPACE VAR d := new (\"a\"); d := new (\"a\")
+FEHLER : Datenraum existiert schon
+> INT VAR i; FOR i UPTO 16 REP BOUND INT VAR b :: new (text (i)) PER; put (1); BOUND INT VAR c :: new (\"1\")
+1 
+FEHLER : Datenraum existiert schon
+> INT VAR i; FOR i UPTO 16 REP BOUND INT VAR b :: new (text (i)) PER; put (1); BOUND INT VAR c :: new (\"17\")
+1 
+FEHLER : zu viele Datenraeume
+> INT VAR i; FOR i UPTO 15 REP BOUND INT VAR b :: new (text (i)) PER; put (1); DATASPACE VAR d :: nilspace; put (2); DATASPACE VAR e :: d
+1 2 
+FEHLER : zu viele Datenraeume
+> INT VAR i; FOR i UPTO 15 REP BOUND INT VAR b :: new (text (i)) PER; DATASPACE VAR d; put (1); DATASPACE VAR e :: d
+1 
+FEHLER : Datenraum existiert nicht
+> INT VAR i; FOR i UPTO 16 REP BOUND INT VAR b :: new (text (i)) PER; DATASPACE VAR d; put (1); d := nilspace
+1 
+FEHLER : zu viele Datenraeume
+> INT VAR i; FOR i UPTO 16 REP BOUND INT VAR b :: new (text (i)) PER; put (type (old (\"3\"))); DATASPACE VAR d; put (type (d))
+0 
+FEHLER : Datenraum existiert nicht
+> put (type (nilspace)); type (nilspace, 1)
+0 
+FEHLER : Datenraum existiert nicht
+> DATASPACE VAR d :: nilspace; type (d, 32767); put (type (d)); type (d, -7); put (type (d)); forget (d); type (d, 1)
+32767 -7 
+FEHLER : Datenraum existiert nicht
+> DATASPACE VAR d; forget (d); forget (nilspace); d := nilspace; forget (d); forget (d); put (1); put (type (d))
+1 
+FEHLER : Datenraum existiert nicht
+> DATASPACE VAR d; DATASPACE VAR e :: d
+FEHLER : Datenraum existiert nicht
+> BOUND INT VAR b; DATASPACE VAR d; b := d
+FEHLER : Datenraum existiert nicht
+> DATASPACE VAR d :: nilspace; BOUND INT VAR b :: d; BOUND INT VAR c :: d; c := 3; put (b); BOUND ROW 1 INT VAR r :: d
+3 
+FEHLER : falscher Datenraumtyp
+> BOUND ROW 2 INT VAR r :: new (\"r\"); r [1] := 1; BOUND STRUCT (INT a, b) VAR s :: old (\"r\")
+FEHLER : falscher Datenraumtyp
+> BOUND INT VAR b :: new (\"b\"); b := 5; forget (\"b\"); IF NOT exists (\"b\") THEN put (1) FI; put (b)
+1 
+FEHLER : Datenraum existiert nicht
+> put (type (old (\"a\")))
+FEHLER : Datenraum gibt es nicht
+> forget (\"a\")
+FEHLER : Datenraum gibt es nicht
+> forget (\"\")
+FEHLER : Datenraum gibt es nicht
+> rename (\"a\", \"b\")
+FEHLER : Datenraum gibt es nicht
+> BOUND INT VAR b :: new (\"a\"); b := 2; rename (\"a\", \"\")
+FEHLER : falscher Name
+> BOUND INT VAR b :: new (\"a\"); rename (\"a\", \"a\")
+FEHLER : Datenraum existiert schon
+> BOUND INT VAR b :: new (\"a\"); BOUND INT VAR c :: new (\"b\"); rename (\"a\", \"b\")
+FEHLER : Datenraum existiert schon
+> BOUND INT VAR b :: new (\"a\"); b := 2; rename (\"a\", \"c\"); BOUND INT VAR c :: old (\"c\"); c := 3; put (b); rename (\"a\", \"d\")
+3 
+FEHLER : Datenraum gibt es nicht
+> copy (\"a\", \"b\")
+FEHLER : Datenraum gibt es nicht
+> BOUND INT VAR b :: new (\"a\"); copy (\"a\", \"\")
+FEHLER : falscher Name
+> BOUND INT VAR b :: new (\"a\"); copy (\"a\", \"a\")
+FEHLER : Datenraum existiert schon
+> INT VAR i; FOR i UPTO 16 REP BOUND INT VAR b :: new (text (i)) PER; put (1); copy (\"1\", \"2\")
+1 
+FEHLER : Datenraum existiert schon
+> INT VAR i; FOR i UPTO 16 REP BOUND INT VAR b :: new (text (i)) PER; put (1); copy (\"1\", \"17\")
+1 
+FEHLER : zu viele Datenraeume
+> BOUND INT VAR b :: new (\"a\"); b := 2; copy (\"a\", \"c\"); BOUND INT VAR c :: old (\"c\"); put (c); c := 3; put (b); copy (\"b\", \"\")
+2 2 
+FEHLER : Datenraum gibt es nicht
+> DATASPACE VAR d :: nilspace; PROC p (DATASPACE CONST e): forget (d); put (type (e)) END PROC p; p (d)
+FEHLER : Datenraum existiert nicht
+> BOUND ROW 2 TEXT VAR t :: new (\"t\"); t [2] := \"x\"; PROC p (TEXT VAR s): forget (\"t\"); s CAT \"y\" END PROC p; put (t [2]); p (t [2])
+x 
+FEHLER : Datenraum existiert nicht
+";

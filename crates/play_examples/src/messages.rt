@@ -300,3 +300,391 @@ pub const MESSAGES: &str = "\
 1:Tasks 3 Datenraeume 0 Pakete 0
 1:gib supervisor kommando :
 ";
+
+/// Who is ready to receive, in each state that a task can be in; a call that answers a call; callers that are halted; tasks that end over three
+/// generations, and in which order those are told that wait for them; variables in data spaces that are gone; and names of what is sent.
+pub const RENDEZVOUS: &str = "\
+# 64 0 0 play
+> 1>begin (\"boss\")
+> 1>enter (\"post\")
+> 1>PACKET post DEFINES try, ask, serve, hold:
+> 1>PROC try (TEXT CONST n): DATASPACE VAR d :: nilspace; INT VAR r; send (task (n), 1, d, r); put (r) END PROC try;
+> 1>PROC ask (TEXT CONST n): DATASPACE VAR d :: nilspace; INT VAR r; call (task (n), 2, d, r); put (r) END PROC ask;
+> 1>PROC serve (INT CONST n): DATASPACE VAR d; INT VAR c; TASK VAR t; wait (d, c, t); put (c); put (name (t)); send (t, n, d, c); put (c) END PROC serve;
+> 1>PROC hold (INT CONST n): DATASPACE VAR d; INT VAR c; TASK VAR t; TEXT VAR s; wait (d, c, t); getline (s); send (t, n, d, c); put (c) END PROC hold
+> 1>END PACKET post
+> 1>.
+> 1>insert (\"post\")
+> *1
+> 2>begin (\"x\", \"boss\")
+> 1>try (\"x\")
+> *1
+> 2>enter (\"t\")
+> 1>try (\"x\")
+> *1
+> 2>.
+> 2>REP PER
+> 1>try (\"x\")
+> *4
+> 2^
+> 2>halt
+> 2>INT VAR i; get (i); put (i)
+> *1
+> 1>try (\"x\")
+> *1
+> 2>5
+> *1
+> 2>put (4)
+> 2^
+> *1
+> 1>try (\"x\")
+> *1
+> 2>continue (\"x\")
+> *1
+> 2>ask (\"boss\")
+> *1
+> 1>try (\"x\")
+> *1
+> 2^
+> 2>halt
+> 2>serve (7)
+> *1
+> 1>try (\"x\"); try (\"x\")
+> *2
+> 1>try (\"boss\"); try (\"nobody\"); ask (\"boss\"); ask (\"nobody\")
+> *1
+> 2>end
+> *1
+> 1>try (\"x\")
+> *1
+1:gib kommando :
+1:gib kommando :
+1:gib kommando :
+2:gib kommando :
+1,-2 
+1:gib kommando :
+1,-2 
+1:gib kommando :
+2:gib kommando :
+1,-2 
+1:gib kommando :
+2:gib supervisor kommando :
+2:FEHLER : halt vom Terminal
+2:gib kommando :
+1,-2 
+1:gib kommando :
+2,5 
+2:gib kommando :
+2:gib supervisor kommando :
+1,-2 
+1:gib kommando :
+2,4 
+2:gib kommando :
+1,-2 
+1:gib kommando :
+2:gib supervisor kommando :
+2:FEHLER : halt vom Terminal
+2:gib kommando :
+1,0 -2 
+1:gib kommando :
+2,1 boss -2 
+2:gib kommando :
+1,-2 -1 -2 -1 
+1:gib kommando :
+2:gib supervisor kommando :
+1,-1 
+1:gib kommando :
+# 64 0 0 play
+> 1>begin (\"boss\")
+> 1>enter (\"post\")
+> 1>PACKET post DEFINES try, ask, serve, hold:
+> 1>PROC try (TEXT CONST n): DATASPACE VAR d :: nilspace; INT VAR r; send (task (n), 1, d, r); put (r) END PROC try;
+> 1>PROC ask (TEXT CONST n): DATASPACE VAR d :: nilspace; INT VAR r; call (task (n), 2, d, r); put (r) END PROC ask;
+> 1>PROC serve (INT CONST n): DATASPACE VAR d; INT VAR c; TASK VAR t; wait (d, c, t); put (c); put (name (t)); send (t, n, d, c); put (c) END PROC serve;
+> 1>PROC hold (INT CONST n): DATASPACE VAR d; INT VAR c; TASK VAR t; TEXT VAR s; wait (d, c, t); getline (s); send (t, n, d, c); put (c) END PROC hold
+> 1>END PACKET post
+> 1>.
+> 1>insert (\"post\")
+> *1
+> 2>begin (\"x\", \"boss\")
+> 3>begin (\"y\", \"boss\")
+> 2>hold (9)
+> *1
+> 1>ask (\"x\")
+> *2
+> 3>try (\"boss\")
+> *1
+> 1^
+> 1>task info
+> 2>on
+> *1
+> 1>continue (\"boss\")
+> *2
+1:gib kommando :
+1:gib kommando :
+1:gib kommando :
+2:gib kommando :
+3:gib kommando :
+3,-2 
+3:gib kommando :
+1:gib supervisor kommando :
+1:UR frei
+1:  PUBLIC frei
+1:    boss wartet
+1:      x wartet Kanal 2
+1:      y frei Kanal 3
+1:gib supervisor kommando :
+2,0 
+2:gib kommando :
+1,9 
+1:gib kommando :
+# 64 0 0 play
+> 1>begin (\"boss\")
+> 1>enter (\"post\")
+> 1>PACKET post DEFINES try, ask, serve, hold:
+> 1>PROC try (TEXT CONST n): DATASPACE VAR d :: nilspace; INT VAR r; send (task (n), 1, d, r); put (r) END PROC try;
+> 1>PROC ask (TEXT CONST n): DATASPACE VAR d :: nilspace; INT VAR r; call (task (n), 2, d, r); put (r) END PROC ask;
+> 1>PROC serve (INT CONST n): DATASPACE VAR d; INT VAR c; TASK VAR t; wait (d, c, t); put (c); put (name (t)); send (t, n, d, c); put (c) END PROC serve;
+> 1>PROC hold (INT CONST n): DATASPACE VAR d; INT VAR c; TASK VAR t; TEXT VAR s; wait (d, c, t); getline (s); send (t, n, d, c); put (c) END PROC hold
+> 1>END PACKET post
+> 1>.
+> 1>insert (\"post\")
+> *1
+> 2>begin (\"x\", \"boss\")
+> 3>begin (\"y\", \"boss\")
+> 2>DATASPACE VAR d; INT VAR c; TASK VAR t; wait (d, c, t); put (c); call (t, 5, d, c); put (c)
+> *1
+> 3>ask (\"x\")
+> *3
+> 3>try (\"x\")
+> *3
+1:gib kommando :
+1:gib kommando :
+1:gib kommando :
+2:gib kommando :
+3:gib kommando :
+2,2 
+3,5 
+3:gib kommando :
+3,0 
+3:gib kommando :
+2,1 
+2:gib kommando :
+# 64 0 0 play
+> 1>begin (\"boss\")
+> 1>enter (\"post\")
+> 1>PACKET post DEFINES try, ask, serve, hold:
+> 1>PROC try (TEXT CONST n): DATASPACE VAR d :: nilspace; INT VAR r; send (task (n), 1, d, r); put (r) END PROC try;
+> 1>PROC ask (TEXT CONST n): DATASPACE VAR d :: nilspace; INT VAR r; call (task (n), 2, d, r); put (r) END PROC ask;
+> 1>PROC serve (INT CONST n): DATASPACE VAR d; INT VAR c; TASK VAR t; wait (d, c, t); put (c); put (name (t)); send (t, n, d, c); put (c) END PROC serve;
+> 1>PROC hold (INT CONST n): DATASPACE VAR d; INT VAR c; TASK VAR t; TEXT VAR s; wait (d, c, t); getline (s); send (t, n, d, c); put (c) END PROC hold
+> 1>END PACKET post
+> 1>.
+> 1>insert (\"post\")
+> *1
+> 2>begin (\"x\", \"boss\")
+> 3>begin (\"y\", \"boss\")
+> 2>ask (\"y\")
+> *1
+> 2^
+> 2>halt
+> 3>hold (1)
+> *1
+> 2>ask (\"y\")
+> *1
+> 2^
+> 2>halt
+> 3>on
+> *1
+> 1^
+> 1>task info
+1:gib kommando :
+1:gib kommando :
+1:gib kommando :
+2:gib kommando :
+3:gib kommando :
+2:gib supervisor kommando :
+2:FEHLER : halt vom Terminal
+2:gib kommando :
+2:gib supervisor kommando :
+2:FEHLER : halt vom Terminal
+2:gib kommando :
+3,-2 
+3:gib kommando :
+1:gib supervisor kommando :
+1:UR frei
+1:  PUBLIC frei
+1:    boss frei
+1:      x frei Kanal 2
+1:      y frei Kanal 3
+1:gib supervisor kommando :
+# 64 0 0 play
+> 1>begin (\"boss\")
+> 1>enter (\"post\")
+> 1>PACKET post DEFINES try, ask, serve, hold:
+> 1>PROC try (TEXT CONST n): DATASPACE VAR d :: nilspace; INT VAR r; send (task (n), 1, d, r); put (r) END PROC try;
+> 1>PROC ask (TEXT CONST n): DATASPACE VAR d :: nilspace; INT VAR r; call (task (n), 2, d, r); put (r) END PROC ask;
+> 1>PROC serve (INT CONST n): DATASPACE VAR d; INT VAR c; TASK VAR t; wait (d, c, t); put (c); put (name (t)); send (t, n, d, c); put (c) END PROC serve;
+> 1>PROC hold (INT CONST n): DATASPACE VAR d; INT VAR c; TASK VAR t; TEXT VAR s; wait (d, c, t); getline (s); send (t, n, d, c); put (c) END PROC hold
+> 1>END PACKET post
+> 1>.
+> 1>insert (\"post\")
+> *1
+> 1^
+> 1>begin (\"a\", \"boss\")
+> 2>begin (\"b\", \"a\")
+> 3>begin (\"c\", \"b\")
+> 4>begin (\"d\")
+> 4>DATASPACE VAR d :: nilspace; INT VAR r; call (task (\"c\"), 3, d, r); put (r); put (type (d))
+> *1
+> 4^
+> 4>begin (\"e\")
+> 4>DATASPACE VAR d :: nilspace; INT VAR r; call (task (\"a\"), 4, d, r); put (r); put (type (d))
+> *1
+> 2>hold (1)
+> *1
+> 4^
+> 4>begin (\"f\")
+> 4>DATASPACE VAR d :: nilspace; INT VAR r; call (task (\"b\"), 5, d, r); put (r); put (type (d))
+> *2
+> 1>end
+> *2
+> 3>task info
+> 1>continue (\"d\")
+> 2>continue (\"e\")
+> *4
+> 1^
+> 1>storage info
+1:gib kommando :
+1:gib kommando :
+1:gib kommando :
+1:gib supervisor kommando :
+1:gib kommando :
+2:gib kommando :
+3:gib kommando :
+4:gib kommando :
+4:gib supervisor kommando :
+4:gib kommando :
+4:gib supervisor kommando :
+4:gib kommando :
+3:gib supervisor kommando :
+2:gib supervisor kommando :
+1:gib supervisor kommando :
+3:UR frei
+3:  PUBLIC frei
+3:    boss frei
+3:    d wartet
+3:    e rechnet
+3:    f rechnet Kanal 4
+3:gib supervisor kommando :
+1,-1 
+4,-1 
+4:FEHLER : Datenraum existiert nicht
+4:gib kommando :
+2,-1 0 
+2:gib kommando :
+1,0 
+1:gib kommando :
+1:gib supervisor kommando :
+1:Tasks 6 Datenraeume 1 Pakete 1
+1:gib supervisor kommando :
+# 64 0 0 play
+> 1>begin (\"boss\")
+> 1>enter (\"post\")
+> 1>PACKET post DEFINES try, ask, serve, hold:
+> 1>PROC try (TEXT CONST n): DATASPACE VAR d :: nilspace; INT VAR r; send (task (n), 1, d, r); put (r) END PROC try;
+> 1>PROC ask (TEXT CONST n): DATASPACE VAR d :: nilspace; INT VAR r; call (task (n), 2, d, r); put (r) END PROC ask;
+> 1>PROC serve (INT CONST n): DATASPACE VAR d; INT VAR c; TASK VAR t; wait (d, c, t); put (c); put (name (t)); send (t, n, d, c); put (c) END PROC serve;
+> 1>PROC hold (INT CONST n): DATASPACE VAR d; INT VAR c; TASK VAR t; TEXT VAR s; wait (d, c, t); getline (s); send (t, n, d, c); put (c) END PROC hold
+> 1>END PACKET post
+> 1>.
+> 1>insert (\"post\")
+> *1
+> 1^
+> 1>begin (\"v\", \"boss\")
+> 2>begin (\"p\", \"boss\")
+> 3>begin (\"q\", \"boss\")
+> 4>begin (\"r\", \"boss\")
+> 4>ask (\"v\")
+> *1
+> 1>DATASPACE VAR d; INT VAR c; TASK VAR t; wait (d, c, t); put (name (t)); wait (d, c, t); put (name (t)); TEXT VAR s; getline (s); end
+> *1
+> 2>ask (\"v\")
+> *1
+> 3>ask (\"v\")
+> *2
+> 1>go
+> *4
+1:gib kommando :
+1:gib kommando :
+1:gib kommando :
+1:gib supervisor kommando :
+1:gib kommando :
+2:gib kommando :
+3:gib kommando :
+4:gib kommando :
+1,r 
+1,p 
+1:gib supervisor kommando :
+2,-1 
+2:gib kommando :
+4,-1 
+4:gib kommando :
+3,-1 
+3:gib kommando :
+# 64 0 0 play
+> 1>begin (\"a\")
+> 2>begin (\"b\")
+> 1>DATASPACE VAR d :: nilspace, e :: nilspace; BOUND STRUCT (INT c, TASK t) VAR s :: e; forget (e); put (1); wait (d, s.c, s.t); put (2)
+> *1
+> 2>DATASPACE VAR d :: nilspace; INT VAR r; send (task (\"a\"), 3, d, r); put (r)
+> *2
+> 1>DATASPACE VAR d :: nilspace, e :: nilspace; BOUND INT VAR c :: e; INT VAR r; forget (e); put (1); send (task (\"b\"), 3, d, c); put (2)
+> *2
+> 2^
+> 2>storage info
+1:gib kommando :
+2:gib kommando :
+1,1 
+2,0 
+2:gib kommando :
+1:FEHLER : Datenraum existiert nicht
+1:gib kommando :
+1,1 
+1:FEHLER : Datenraum existiert nicht
+1:gib kommando :
+2:gib supervisor kommando :
+2:Tasks 4 Datenraeume 0 Pakete 0
+2:gib supervisor kommando :
+# 64 0 0 play
+> 1>begin (\"a\")
+> 2>begin (\"b\")
+> 1>BOUND INT VAR c :: new (\"c\"); c := 7
+> *1
+> 2>BOUND INT VAR c; DATASPACE VAR d; INT VAR i; TASK VAR t; wait (d, i, t); c := d; put (c)
+> *1
+> 1>DATASPACE VAR d := old (\"c\"); INT VAR r; send (task (\"b\"), 3, d, r); put (r)
+> *2
+> 1>list
+> 2>BOUND INT VAR c; DATASPACE VAR d; INT VAR i; TASK VAR t; wait (d, i, t); c := d; put (c); put (i)
+> *1
+> 1>PROC p (DATASPACE VAR d): INT VAR r; send (task (\"b\"), 6, d, r); put (r) END PROC p; BOUND INT VAR b :: new (\"x\"); b := 3; DATASPACE VAR d := old (\"x\"); p (d); b := 4; put (b)
+> *3
+> 1>list
+1:gib kommando :
+2:gib kommando :
+1:gib kommando :
+1,0 
+1:gib kommando :
+2,7 
+2:gib kommando :
+1:c
+1:gib kommando :
+1,0 4 
+1:gib kommando :
+2,3 6 
+2:gib kommando :
+1:c
+1:x
+1:gib kommando :
+";

@@ -13,6 +13,8 @@ fn wrong_table(alloc: Global) -> &'static str {
         "queues"
     } else if !is_right(alloc, messages::MESSAGES) {
         "messages"
+    } else if !is_right(alloc, messages::RENDEZVOUS) {
+        "rendezvous"
     } else if !is_right(alloc, endings::ENDS) {
         "ends"
     } else if !is_right(alloc, endings::STOPS) {
