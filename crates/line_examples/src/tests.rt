@@ -64,6 +64,8 @@ fn wrong_lines(alloc: Global) -> &'static str {
         "tasks"
     } else if !is_right(alloc, spaces::SPACES, how) {
         "data spaces"
+    } else if !is_right(alloc, spaces::SPACE_STOPS, how) {
+        "stops of data spaces"
     } else if !is_right(alloc, table::EXAMPLES, how) {
         "examples"
     } else {
