@@ -688,3 +688,78 @@ pub const RENDEZVOUS: &str = "\
 1:x
 1:gib kommando :
 ";
+
+/// The session of the README, and that of the lesson on messages.
+pub const LESSONS: &str = "\
+# 64 0 0 play
+> 1>begin (\"klasse\")
+> 1>enter (\"wuerfel\")
+> 1>PACKET wuerfel DEFINES wurf: INT VAR zahl :: 4;
+> 1>INT PROC wurf: zahl := (5 * zahl + 3) MOD 7; 1 + zahl MOD 6 END PROC wurf END PACKET wuerfel
+> 1>.
+> 1>insert (\"wuerfel\")
+> *1
+> 2>begin (\"ben\", \"klasse\")
+> 1>INT VAR i; FOR i UPTO 5 REP put (wurf) PER
+> 2>TEXT VAR who; putline (\"Who rolls?\"); getline (who); put (who + \":\"); put (wurf)
+> *1
+> 2>Ben
+> *2
+> 1>REP put (\"and again\") PER
+> *1
+> 1^
+> 3>task info
+> 1>halt
+> .
+1:gib kommando :
+1:gib kommando :
+1:gib kommando :
+2:gib kommando :
+1,3 1 6 1 4 
+1:gib kommando :
+2:Who rolls?
+2,Ben: 3 
+2:gib kommando :
+1,and again and again and again and again and again and again and again and again and again and again and again and again and again and again and again and again and again and again and again and again and again and again and again and again and again and again and again and again and again and again and again and again and again 
+1:gib supervisor kommando :
+3:UR frei
+3:  PUBLIC frei
+3:    klasse rechnet
+3:      ben frei Kanal 2
+3:gib supervisor kommando :
+1:FEHLER : halt vom Terminal
+1:gib kommando :
+! fixpoint
+# 64 0 0 play
+> 1>begin (\"bank\")
+> 2>begin (\"anna\")
+> 3>begin (\"ben\")
+> 1>BOUND INT VAR i; DATASPACE VAR d; INT VAR c, sum; TASK VAR t; REP wait (d, c, t); i := d; sum INCR i; i := sum; putline (name (t)); send (t, 0, d, c) PER
+> 2>DATASPACE VAR d :: nilspace; BOUND INT VAR i :: d; INT VAR r; i := 30; call (task (\"bank\"), 1, d, r); i := d; put (i)
+> 3>DATASPACE VAR d :: nilspace; BOUND INT VAR i :: d; INT VAR r; i := 12; call (task (\"bank\"), 1, d, r); i := d; put (i)
+> *9
+> 1^
+> 1>halt
+> 2>DATASPACE VAR d :: nilspace; INT VAR r; send (task (\"bank\"), 1, d, r); put (r); call (task (\"bank\"), 1, d, r); put (r)
+> *1
+> 1>end
+> *2
+> .
+1:gib kommando :
+2:gib kommando :
+3:gib kommando :
+1:anna
+1:ben
+2,30 
+2:gib kommando :
+3,42 
+3:gib kommando :
+1:gib supervisor kommando :
+1:FEHLER : halt vom Terminal
+1:gib kommando :
+2,-2 
+1:gib supervisor kommando :
+2,-1 
+2:gib kommando :
+! fixpoint
+";

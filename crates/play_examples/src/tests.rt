@@ -15,6 +15,8 @@ fn wrong_table(alloc: Global) -> &'static str {
         "messages"
     } else if !is_right(alloc, messages::RENDEZVOUS) {
         "rendezvous"
+    } else if !is_right(alloc, messages::LESSONS) {
+        "lessons"
     } else if !is_right(alloc, endings::ENDS) {
         "ends"
     } else if !is_right(alloc, endings::STOPS) {

@@ -19,7 +19,7 @@ returns-in-Some c =
     let w = world_of (ending command 0) in
     let done = halted_over c.halt.new.self c.in-Some.finished c.args.task command (doing c.args.task m.system) calm is
     (c.in-Some.ensures calm (c.stop_waiting.ensures out (c.leave.ensures m stands))) in
-    subst (λ stop. StandsAt c.over.new.system (over read c.args.task command stop w calm)) done.1 
+    subst (λ stop. StandsAt c.over.new.system (over read c.args.task command stop w calm)) done.1
     (h read reads calm command w done.0 done.2 (subst (λ stop. HasRoom stop command) (sym done.1) tt)))
 
 pub returns-in-None : goal.returns-in-None
