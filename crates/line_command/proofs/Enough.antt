@@ -98,7 +98,7 @@ reply_owes (replies.Stopped stop) c = refl
 reply_owes _ c = refl
 
 answered_owes : (q : Request) (r : Reply) (c : Position) → then_asked q r ≡ None → owed (answered q r c).waits ≡ 0
-answered_owes q r c none = ap (λ (o : Option Request). owed (answered_by o r c).waits) none ∙ reply_owes r c
+answered_owes q r c final = ap (λ (o : Option Request). owed (answered_by o r c).waits) final ∙ reply_owes r c
 
 stage_pays : (p : Program) (w : Waits) (c : Position) (s : Scene) → AreFinal s.replies → Pays (s.marks + owed w) (length s.replies) (stage_at w p c s)
 stage_pays p Nothing c s final = move_pays (step p c s.mem) (free c) s final

@@ -11,8 +11,8 @@ returns-clause-some c = an_output (λ text. c.one_meaning.ensures.some nothing n
 pub returns-clause-one : goal.returns-clause-one
 returns-clause-one c = one_output (record {
   one_meaning = λ text a b m n. c.one_meaning.ensures.one nothing false text a b m n;
-  not_both = λ text a r m f. c.one_meaning.ensures.not_both nothing none false text a r m f;
-  one_refusal = λ text q r f g. c.one_meaning.ensures.one_refusal nothing none false text q r f g;
+  not_both = λ text a r m f. c.one_meaning.ensures.not_both nothing false text a r m f;
+  one_refusal = λ text q r f g. c.one_meaning.ensures.one_refusal nothing false text q r f g;
 })
 
 pub returns-clause-enough : goal.returns-clause-enough
