@@ -14,7 +14,7 @@ returns-in_ok-install-in-Ok c i owns own command w shows is numbered given over 
     installs_so c.args.unit c.args.packets.now c.install.new.self i owns c.args.place own command w
     (subst (λ (u : Compiled). IsUnit u) c.parts-unit.ensures.compiled c.parts-unit.ensures.unit) shows is numbered given c.args.tasks.now over has
     (subst (λ (u : Compiled). IsInstalled c.args.packets.now u c.install.new.self) unit c.in_ok-install-in-Ok.ensures.installed)
-    c.in-Some.number c.in-Some.ensures c.keep_inserted.new.tasks
+    c.in-Some.number c.in-Some.ensures.some c.keep_inserted.new.tasks
     (λ later agree kinds. c.in-Ok.ensures (kinds_in c.args.packets.now) later owns own command w over has (is ∙ sym unit) agree
     (ap (λ (ks : List Kind). cells_fit (length (ks ++ command.unit.core.inserted)))
     (sym (over_kinds (kinds_in c.args.packets.now) c.args.tasks.now owns c.args.place command w over own has)) ∙ fits) kinds)
