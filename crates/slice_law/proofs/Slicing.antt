@@ -49,7 +49,7 @@ follows_answer (requests.Call to code space) _ x e = absurd (none-some x e)
 follows_answer _ reply x e = absurd (none-some x e)
 
 -- what a task has for itself that does this
-own_doing : (t : TaskNo) (s : System) (d : Doing) → doing t s ≡ Some d → (o : Own) × (own t s ≡ Some o) × (o.doing ≡ d)
+pub own_doing : (t : TaskNo) (s : System) (d : Doing) → doing t s ≡ Some d → (o : Own) × (own t s ≡ Some o) × (o.doing ≡ d)
 own_doing t s d is = by (own t s) is
   where
     by : (p : Option Own) → option_map (λ (o : Own). o.doing) p ≡ Some d → (o : Own) × (p ≡ Some o) × (o.doing ≡ d)
