@@ -324,7 +324,7 @@ fn put_refusal(alloc: Global, out: &mut Bytes, cause: CompileError) {
 }
 
 // A task: the live packets, and the numbers of its own in order.
-#[derive(Drop)]
+// What has parts of many kinds is let go by its own call, so that the crate proves nothing of these parts.
 struct Task {
     library: Library,
     packets: Vec<u32>,
@@ -350,6 +350,7 @@ impl Task {
     // Installs a unit, where it is a packet; its number.
     fn install(&mut self, alloc: Global, unit: Unit) -> Result<u32, InstallError> {
         if unit.compiled().shown.is_none() {
+            unit.let_go();
             return Err(InstallError::NoMemory);
         }
         let number = self.library.install(alloc, unit)?;
@@ -471,4 +472,9 @@ pub fn answer(alloc: Global, out: &mut Bytes, row: &str) {
         put(out, b"\n");
         task.step(alloc, out, step, &mut lent);
     }
+    let Task {
+        library,
+        packets: _,
+    } = task;
+    library.let_go();
 }
