@@ -1,42 +1,11 @@
 //! Sessions over objects in memory.
 
-use edge::{MemDisk, MemSink, MemSource};
-use eu_base::{Bytes, List};
-use eumel_top::{Ending, Status, eumel, run_play};
+use crate::outside::{add_word, fails, number, run_words};
+use crate::rows::put;
+use edge::{MemSink, MemSource};
+use eu_base::Bytes;
+use eumel_top::{Ending, run_play};
 use std::alloc::Global;
-
-// Where memory is refused, the answer is not the one that a row tells, so nothing else has to say it.
-fn put(out: &mut Bytes, bytes: &[u8]) {
-    let _put = out.append(bytes).is_ok();
-}
-
-fn number(text: Option<&str>) -> u32 {
-    text.unwrap_or("").parse().unwrap_or(0)
-}
-
-fn fails(alloc: Global, call: u32) -> List<u32> {
-    let mut calls = List::new(alloc);
-    let _put = calls.push(call).is_ok();
-    calls
-}
-
-fn add_word(alloc: Global, words: &mut Vec<String>, word: &str) {
-    if let Ok(word) = String::from_str(alloc, word) {
-        let _put = words.push(word).is_ok();
-    }
-}
-
-fn told(status: Status) -> &'static [u8] {
-    match status {
-        Status::Done => b"",
-        Status::BadWords => b"!BadWords\n",
-        Status::SourceFault => b"!SourceFault\n",
-        Status::SinkFault => b"!SinkFault\n",
-        Status::BadLine(2) => b"!BadLine(2)\n",
-        Status::BadLine(3) => b"!BadLine(3)\n",
-        _ => b"?\n",
-    }
-}
 
 // A session in the plain form, which no command runs yet.
 fn run_plain(alloc: Global, source: &mut MemSource, sink: &mut MemSink) -> &'static [u8] {
@@ -45,17 +14,6 @@ fn run_plain(alloc: Global, source: &mut MemSource, sink: &mut MemSink) -> &'sta
         Ok(Ending::BadLine(3)) => b"!BadLine(3)\n",
         _ => b"?\n",
     }
-}
-
-// A session that the words ask for.
-fn run_words(
-    alloc: Global,
-    words: &[String],
-    source: &mut MemSource,
-    sink: &mut MemSink,
-) -> &'static [u8] {
-    let mut disk = MemDisk::new(alloc, List::new(alloc));
-    told(eumel(alloc, words, &mut disk, source, sink))
 }
 
 // Adds what is shown in a session with this input, and how it ends: `how` has the numbers and the words of the row.
@@ -99,7 +57,7 @@ fn input_of(alloc: Global, out: &mut Bytes, row: &str) -> Bytes {
 
 /// Whether each session of a table, which stands behind `# `, shows what stands behind it: with what its sessions show the table is
 /// made again.
-pub fn is_right(alloc: Global, table: &str) -> bool {
+pub fn shows(alloc: Global, table: &str) -> bool {
     let mut out = Bytes::new(alloc);
     for row in table.split("\n# ") {
         let row = row.strip_prefix("# ").unwrap_or(row);

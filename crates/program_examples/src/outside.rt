@@ -98,17 +98,20 @@ FEHLER : kein ELAN-Text (Zeile 1, Stelle 1)
 7 
 ";
 
-fn number(text: Option<&str>) -> u32 {
+/// A number of a row; 0 where none stands there.
+pub fn number(text: Option<&str>) -> u32 {
     text.unwrap_or("").parse().unwrap_or(0)
 }
 
-fn fails(alloc: Global, call: u32) -> List<u32> {
+/// The one call that fails.
+pub fn fails(alloc: Global, call: u32) -> List<u32> {
     let mut calls = List::new(alloc);
     let _put = calls.push(call).is_ok();
     calls
 }
 
-fn add_word(alloc: Global, words: &mut Vec<String>, word: &str) {
+/// Adds a word of a row.
+pub fn add_word(alloc: Global, words: &mut Vec<String>, word: &str) {
     if let Ok(word) = String::from_str(alloc, word) {
         let _put = words.push(word).is_ok();
     }
@@ -121,8 +124,21 @@ fn told(status: Status) -> &'static [u8] {
         Status::SourceFault => b"!SourceFault\n",
         Status::SinkFault => b"!SinkFault\n",
         Status::BadLine(1) => b"!BadLine(1)\n",
+        Status::BadLine(2) => b"!BadLine(2)\n",
+        Status::BadLine(3) => b"!BadLine(3)\n",
         _ => b"?\n",
     }
+}
+
+/// What the words ask for is done; how it ends.
+pub fn run_words(
+    alloc: Global,
+    words: &[String],
+    source: &mut MemSource,
+    sink: &mut MemSink,
+) -> &'static [u8] {
+    let mut disk = MemDisk::new(alloc, List::new(alloc));
+    told(eumel(alloc, words, &mut disk, source, sink))
 }
 
 /// Adds what is written for this input, and how that ends: `how` has the numbers and the words of a row.
@@ -133,14 +149,13 @@ pub fn run(alloc: Global, out: &mut Bytes, how: &str, input: Bytes) {
     let sink_fails = fails(alloc, number(parts.next()));
     let mut source = MemSource::new(input, piece as usize, source_fails);
     let mut sink = MemSink::new(alloc, 1, sink_fails);
-    let mut disk = MemDisk::new(alloc, List::new(alloc));
     let mut words = Vec::new(alloc);
     for word in parts {
         add_word(alloc, &mut words, word);
     }
-    let status = eumel(alloc, words.as_slice(), &mut disk, &mut source, &mut sink);
+    let end = run_words(alloc, words.as_slice(), &mut source, &mut sink);
     put(out, sink.bytes());
-    put(out, told(status));
+    put(out, end);
 }
 
 /// The same where the words stand before the first bar of a row, and each later bar is a line end.

@@ -1,9 +1,11 @@
 //! Programs, among them the examples of the documents, each with what it writes: through the whole program, or as they go on
-//! with lines that are typed.
+//! with lines that are typed; and sessions, each with what the terminals show.
 #![tactic(auto)]
 
 #[cfg(test)]
 mod code;
+#[cfg(test)]
+mod endings;
 #[cfg(test)]
 mod lets;
 #[cfg(test)]
@@ -11,15 +13,21 @@ mod lines;
 #[cfg(test)]
 mod meanings;
 #[cfg(test)]
+mod messages;
+#[cfg(test)]
 mod outside;
 #[cfg(test)]
 mod packets;
+#[cfg(test)]
+mod played;
 #[cfg(test)]
 mod row_sizes;
 #[cfg(test)]
 mod row_values;
 #[cfg(test)]
 mod rows;
+#[cfg(test)]
+mod sessions;
 #[cfg(test)]
 mod spaces;
 #[cfg(test)]

@@ -1,9 +1,10 @@
 //! The first table that is not right.
 
+use crate::played::shows;
 use crate::rows::{Asked, add, is_right, put};
 use crate::{
-    code, lets, lines, meanings, outside, packets, row_sizes, row_values, spaces, structures,
-    table, tasks, texts, typed, types,
+    code, endings, lets, lines, meanings, messages, outside, packets, row_sizes, row_values,
+    sessions, spaces, structures, table, tasks, texts, typed, types,
 };
 use eu_base::Bytes;
 use eumel_top::{Status, one_output};
@@ -73,10 +74,44 @@ fn wrong_lines(alloc: Global) -> &'static str {
     }
 }
 
+// The first table of sessions that is not right.
+fn wrong_sessions(alloc: Global) -> &'static str {
+    if !shows(alloc, sessions::ROWS) {
+        "rows of sessions"
+    } else if !shows(alloc, sessions::SUPERVISOR) {
+        "supervisor"
+    } else if !shows(alloc, sessions::QUEUES) {
+        "queues"
+    } else if !shows(alloc, messages::MESSAGES) {
+        "messages"
+    } else if !shows(alloc, messages::RENDEZVOUS) {
+        "rendezvous"
+    } else if !shows(alloc, messages::LESSONS) {
+        "lessons"
+    } else if !shows(alloc, endings::ENDS) {
+        "ends"
+    } else if !shows(alloc, endings::STOPS) {
+        "stops"
+    } else if !shows(alloc, endings::PACKETS) {
+        "packets in sessions"
+    } else if !shows(alloc, endings::FORMS) {
+        "forms"
+    } else if !shows(alloc, endings::PLAIN) {
+        "plain"
+    } else if !shows(alloc, endings::FAULTS) {
+        "faults"
+    } else {
+        ""
+    }
+}
+
 fn wrong_table(alloc: Global) -> &'static str {
     let lines = wrong_lines(alloc);
+    let sessions = wrong_sessions(alloc);
     if !lines.is_empty() {
         lines
+    } else if !sessions.is_empty() {
+        sessions
     } else if !writes_until_spent(alloc) {
         "endless"
     } else if !is_right(alloc, lines::LISTINGS, Asked::Listing) {
