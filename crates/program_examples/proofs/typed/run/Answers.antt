@@ -1,6 +1,6 @@
 use Rattle.std.proofs.Common.{None, [], ◌∷◌, arith}
 use Rattle.page_table.proofs.Framing.{nil_agree, stands_of}
-use Rattle.line_examples.proofs.typed.run.Goals as goal
+use Rattle.program_examples.proofs.typed.run.Goals as goal
 
 pub over-lent-requires : goal.over-lent-requires
 over-lent-requires c = rw (c.new-pool.ensures, c.new-memory.ensures.empty) (record {

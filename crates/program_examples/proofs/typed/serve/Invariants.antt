@@ -1,5 +1,5 @@
 use Rattle.code_form.specs.Valid.{Fits}
-use Rattle.line_examples.proofs.typed.serve.Given as goal
+use Rattle.program_examples.proofs.typed.serve.Given as goal
 
 -- the command can go on
 abbrev pub invariant-loop : goal.invariant-loop
