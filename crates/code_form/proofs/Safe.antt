@@ -1,12 +1,12 @@
 -- A step from a state that fits can be made, and leads to one that fits. One induction over the instructions, so it stands in one file.
 use Rattle.std.proofs.Common.{◌≡◌, ℕ, suc, ◌+◌, ◌-◌, ◌*◌, ◌<◌, ◌≤◌, ◌%◌, List, [], ◌∷◌, ◌++◌, map, length, Option, Some, None, Bool, true, false, cond, refl, sym}
 use Rattle.std.proofs.Common.{ap, ◌∙◌, subst, arith, length-append, append_assoc, append-nil}
-use Rattle.std.specs.Prelude.{slice_get, take, drop, flat_map, Ok, Err}
+use Rattle.std.specs.Prelude.{slice_get, take, drop, flat_map, nat_lt, Ok, Err}
 use Rattle.std.specs.Ordering.{int_eq}
 use Rattle.std.specs.List.{AllByRecursion}
 use Rattle.std.proofs.lemmas.List.{length-map, take-map, drop-map}
 use Rattle.std.proofs.lemmas.Option.{slice_get_within}
-use Rattle.std.proofs.lemmas.Bool.{leb-true}
+use Rattle.std.proofs.lemmas.Bool.{leb-true, ltb-true}
 use Rattle.eu_base.specs.declared.address.Addr.{Addr}
 use Rattle.eu_base.specs.declared.address.TheConstants.{CELLS}
 use Rattle.eu_base.specs.declared.value.Kind.{Kind}
@@ -18,7 +18,7 @@ use Rattle.eu_base.specs.declared.stop.Stop.TheVariants.{CellRoom, OperandRoom, 
 use Rattle.eu_base.specs.Values.{SpaceNo, kind_of, number_of, truth_of, space_of, blank_of, number_in, truth_in, task_in, space_in}
 use Rattle.eu_base.specs.DataSpaces.{SpaceChange}
 use Rattle.eu_base.specs.SpaceOperations.{space_operand_kinds, space_result_kind, Plan, planned, copy_plan, bind_plan}
-use Rattle.eu_base.specs.SpacePlaces.{is_in}
+use Rattle.eu_base.specs.SpacePlaces.{lies_in}
 use Rattle.eu_base.specs.declared.shape.Shape.{Shape}
 use Rattle.eu_base.specs.declared.shape.Shape.TheVariants.{Cell as OneCell}
 use Rattle.eu_base.specs.Shapes.{cell_kinds}
@@ -53,7 +53,7 @@ use Rattle.code_form.specs.Machine.{receives_at, receives, last_made, puts_reply
 use Rattle.code_form.specs.Machine.{Frame, Position, free, To, Stops, Unsaid, Move, Goes, Spends, operand_of, least_bytes, operand_bytes, bytes_on, bytes_of, base_of, at}
 use Rattle.code_form.specs.Machine.{using, goes, pushes, on_value, on_all, on_place, on_values, on_operands, on_result, or_halt, on_word, on_cell, on_cells, is_free, are_free}
 use Rattle.code_form.specs.Machine.{limit_cell, held_cells, frame_contents, link_contents, written_from, enters, calls_to, call_move, refer_move}
-use Rattle.code_form.specs.Machine.{on_item, further, next, takes, puts, written_all, takes_all, puts_all, content_blocks, is_framed, Unknown, goes, Halts, back_into, back_to, out_to, limit_to, instruction, step}
+use Rattle.code_form.specs.Machine.{on_item, further, on_further, next, takes, puts, written_all, takes_all, puts_all, content_blocks, is_framed, Unknown, goes, Halts, back_into, back_to, out_to, limit_to, instruction, step}
 use Rattle.code_form.specs.Valid.{Next, cell_value, cell_place, pushed_kinds, pushed_operands, with_answer, with_result, HasResult, IsRefinement, IsCalled, IsReferred, IsFine, IsValid, FitsKind}
 use Rattle.code_form.specs.Valid.{is_ask, is_asking, request_operands, FitsKinds, MadeSo, FitsFrames, Fits}
 use Rattle.code_form.specs.Runs.{IsSafe, StaysFit}
@@ -175,7 +175,7 @@ module _ (p : Program) (valid : IsValid p) (pc : ℕ) (ops : List Operand) (used
         (λ e. fit (pc + 1) (k ∷ ks) (o ∷ r) next ((is, f), e)) tt
 
     there_safe : (ks : List Kind) (a : Addr) (u : Mem) (move : Move) → Safe move → Safe (if_there ks a u move)
-    there_safe ks a u move x = cond_safe (is_in ks a.area a.cell u.heads) move (Halts NoSpace) (λ _. x) tt
+    there_safe ks a u move x = cond_safe (lies_in ks a.area a.cell u.heads) move (Halts NoSpace) (λ _. x) tt
 
     push_safe : (o : Operand) (k : OperandKind) (r : List Operand) (ks : List OperandKind) → FitsKind o k → Next p.lines (pc + 1) (k ∷ ks) m → FitsKinds r ks
         → Safe (pushes now o r mem)
@@ -220,10 +220,10 @@ module _ (p : Program) (valid : IsValid p) (pc : ℕ) (ops : List Operand) (used
     item_safe (Some n) go h = h n refl
 
     further_safe : (a : Addr) (n : ℕ) (k : Shape) (r : List Operand) (ks : List OperandKind) → Next p.lines (pc + 1) (AtKind k ∷ ks) m → FitsKinds r ks
-        → Safe (pushes now (At (further a n)) r mem)
+        → Safe (on_further a n (λ to. pushes now (At to) r mem))
     further_safe a n k r ks next f =
-        let small : (a.cell + n) % CELLS < CELLS = omega arith in
-        push_safe (At (further a n)) (AtKind k) r ks small next f
+        cond_safe (nat_lt (a.cell + n) CELLS) (pushes now (At (further a n)) r mem) (Halts NoSpace)
+        (λ e. push_safe (At (further a n)) (AtKind k) r ks (ltb-true (a.cell + n) CELLS e) next f) tt
 
     -- so many cells of a value are pushed in its stead
     part_safe : (from size : ℕ) (vs : List Value) (s t : Shape) (r : List Operand) (ks : List OperandKind) → map kind_of vs ≡ cell_kinds s
@@ -301,7 +301,7 @@ module _ (p : Program) (valid : IsValid p) (pc : ℕ) (ops : List Operand) (used
         (
           floor,
           (
-            record { number = n; is = refl; entry = e; has = has; pc = pc; rest = rest; back = refl; used = used_is; operands = f.0; made = so },
+            record { number = n; is = refl; named = refl; entry = e; has = has; pc = pc; rest = rest; back = refl; used = used_is; operands = f.0; made = so },
             made,
           ),
         ),
@@ -517,7 +517,7 @@ module _ (p : Program) (valid : IsValid p) (pc : ℕ) (ops : List Operand) (used
         let a = x.0 in
         let now' = λ (held : Value). without_held (space_of held) (with_cells (written u.cells a (held_of e.1)) u) in
         subst (λ (o : Option Operand). Safe (receives_at now r o e.1 u (receives now r os es))) (sym x.1)
-        (cond_safe (is_in (kind_of e.1 ∷ []) a.area a.cell u.heads) _ _
+        (cond_safe (lies_in (kind_of e.1 ∷ []) a.area a.cell u.heads) _ _
         (λ _. cell_safe (kind_of e.1) (u.cells a) (λ held. cond (takes (held_of e.1) (u.cells a)) (receives now r os es (now' held)) Unknown)
         (λ held _. cond_safe (takes (held_of e.1) (u.cells a)) (receives now r os es (now' held)) Unknown
         (λ _. receives_safe ks os es rest r (now' held) is suits.1 next g) tt))
@@ -544,7 +544,7 @@ module _ (p : Program) (valid : IsValid p) (pc : ℕ) (ops : List Operand) (used
         by : (places : List Operand) → Safe (Spends (asks_with q (map value_in os) places now mem))
         by [] = tt
         by (Of v ∷ r) = tt
-        by (At a ∷ r) = looked (is_in (kinds.Space ∷ []) a.area a.cell mem.heads) (mem.cells a)
+        by (At a ∷ r) = looked (lies_in (kinds.Space ∷ []) a.area a.cell mem.heads) (mem.cells a)
         by (Aggregate vs ∷ r) = tt
 
     -- what a request does with its reply

@@ -2,7 +2,7 @@
 use Rattle.std.proofs.Common.{◌++◌, ◌≡◌, ℕ, zero, suc, ◌+◌, ◌-◌, ◌*◌, ◌%◌, ◌<◌, ◌≤◌, List, [], ◌∷◌, length, Option, Some, None, Bool, true, false, cond, refl, sym}
 use Rattle.std.proofs.Common.{ap}
 use Rattle.std.proofs.Common.{◌∙◌, subst, arith, ⊎_elim}
-use Rattle.std.specs.Prelude.{slice_get, take, drop, map, Ok, Err}
+use Rattle.std.specs.Prelude.{slice_get, take, drop, map, nat_lt, Ok, Err}
 use Rattle.std.specs.Ordering.{int_eq}
 use Rattle.std.proofs.lemmas.Option.{slice_get_within}
 use Rattle.std.proofs.lemmas.Bool.{cases_lt}
@@ -20,7 +20,7 @@ use Rattle.eu_base.specs.declared.value.Value.{Value}
 use Rattle.eu_base.specs.declared.value.Value.TheVariants as item
 use Rattle.eu_base.specs.Values.{SpaceNo, number_of, truth_of, space_of, kind_of, number_in, truth_in, task_in, space_in}
 use Rattle.eu_base.specs.SpaceOperations.{space_operand_kinds, Plan, planned, copy_plan, bind_plan}
-use Rattle.eu_base.specs.SpacePlaces.{is_in}
+use Rattle.eu_base.specs.SpacePlaces.{lies_in}
 use Rattle.eu_base.specs.Operations.{Given, operand_kinds, result_of, change_kind, changed, is_past, has_reached}
 use Rattle.eu_base.specs.declared.request.Reply.{Reply}
 use Rattle.eu_base.specs.Requests.{request_kinds, request_result, request_size, is_message, sends, request_of, read_as, answer_of, message_values}
@@ -38,7 +38,7 @@ use Rattle.code_form.specs.Program.{Program, instr_of}
 use Rattle.code_form.specs.Machine.{Frame, Position, Control, After, To, Asks, Stops, Unsaid, Move, Mem, with_cells, Scene, Stage, On, Over, Lost, Rest, operand_bytes}
 use Rattle.code_form.specs.Machine.{operand_of, least_bytes, bytes_on, bytes_of, base_of, pushes, on_value, on_all, on_place, on_values, on_operands, on_result, or_halt, on_word, on_cell, on_cells, is_free}
 use Rattle.eu_base.specs.Operations.{in_row}
-use Rattle.code_form.specs.Machine.{on_item, further, next, takes, puts, written_all, takes_all, puts_all, content_blocks, is_framed, back_into, Goes, Unknown, goes, Halts, are_free, limit_cell, frame_contents}
+use Rattle.code_form.specs.Machine.{on_item, further, on_further, next, takes, puts, written_all, takes_all, puts_all, content_blocks, is_framed, back_into, Goes, Unknown, goes, Halts, are_free, limit_cell, frame_contents}
 use Rattle.code_form.specs.Machine.{if_there, takes_number, content_at, mem_after, changes, answers, keeps_space, without_held, copies, can_all_change, fills, binds}
 use Rattle.code_form.specs.Machine.{link_contents, written_from, enters, calls_to, call_move, refer_move, back_to}
 use Rattle.code_form.specs.Machine.{value_in, after_word, asks_with, asks_for, receives_at, receives, last_made, puts_reply}
@@ -131,7 +131,7 @@ module _ (p : Program) (valid : IsValid p) where
         by : (places : List Operand) → Deeper (asks_with q (map value_in os) places c s.mem)
         by [] = tt
         by (Of v ∷ r) = tt
-        by (At a ∷ r) = looked a (is_in (kinds.Space ∷ []) a.area a.cell s.mem.heads) (s.mem.cells a)
+        by (At a ∷ r) = looked a (lies_in (kinds.Space ∷ []) a.area a.cell s.mem.heads) (s.mem.cells a)
         by (Aggregate vs ∷ r) = tt
 
     go : (pc : ℕ) → ahead p.lines pc < ahead p.lines c.pc → steps_left p.lines s.marks depth pc < steps_left p.lines s.marks depth c.pc
@@ -279,8 +279,13 @@ module _ (p : Program) (valid : IsValid p) where
         → Near (pushes c o ops s.mem)
     push_near l e is o ops = push_on l e is o ops s.mem
 
+    further_near : (l : Line) → slice_get p.lines c.pc ≡ Some l → is_mark (Some l.instr) ≡ false → (a : Addr) (n : ℕ) (ops : List Operand)
+        → Near (on_further a n (λ to. pushes c (At to) ops s.mem))
+    further_near l e is a n ops =
+        near_if (nat_lt (a.cell + n) CELLS) (pushes c (At (further a n)) ops s.mem) (Halts NoSpace) (push_near l e is (At (further a n)) ops) tt
+
     near_there : (ks : List Kind) (a : Addr) (m : Mem) (move : Move) → Near move → Near (if_there ks a m move)
-    near_there ks a m move x = near_if (is_in ks a.area a.cell m.heads) move (Halts NoSpace) x tt
+    near_there ks a m move x = near_if (lies_in ks a.area a.cell m.heads) move (Halts NoSpace) x tt
 
     -- a value is put into a cell
     put_near : (l : Line) → slice_get p.lines c.pc ≡ Some l → is_mark (Some l.instr) ≡ false → (a : Addr) (v : Value) (ops : List Operand)
@@ -355,8 +360,8 @@ module _ (p : Program) (valid : IsValid p) where
         near_word _ (λ n. push_near l e (ap (λ i. is_mark (Some i)) is) (At (place_in n)) c.ops) (s.mem.cells (run_cell (base_of c.frames + x)))
     at_instr l e (Index n size) is f =
         near_value _ (λ v r. near_place _
-        (λ a r. near_item _ (λ k. push_near l e (ap (λ i. is_mark (Some i)) is) (At (further a (k * size))) r) (in_row n (number_of v))) r) c.ops
-    at_instr l e (Field n) is f = near_place _ (λ a r. push_near l e (ap (λ i. is_mark (Some i)) is) (At (further a n)) r) c.ops
+        (λ a r. near_item _ (λ k. further_near l e (ap (λ i. is_mark (Some i)) is) a (k * size) r) (in_row n (number_of v))) r) c.ops
+    at_instr l e (Field n) is f = near_place _ (λ a r. further_near l e (ap (λ i. is_mark (Some i)) is) a n r) c.ops
     at_instr l e Content is f =
         near_place _ (λ a r. near_there (kinds.Space ∷ []) a s.mem _
         (near_word _ (λ n. push_near l e (ap (λ i. is_mark (Some i)) is) (At (content_at (space_in n))) r) (s.mem.cells a))) c.ops
@@ -430,7 +435,7 @@ module _ (p : Program) (valid : IsValid p) where
         by more (Some (Of v)) = tt
         by more (Some (At a)) =
             let now = λ (held : Value). without_held (space_of held) (with_cells (written m.cells a (held_of x.1)) m) in
-            near_if (is_in (kind_of x.1 ∷ []) a.area a.cell m.heads) _ _
+            near_if (lies_in (kind_of x.1 ∷ []) a.area a.cell m.heads) _ _
             (near_cell (λ held. cond (takes (held_of x.1) (m.cells a)) (receives c r os es (now held)) Unknown)
             (λ held. near_if (takes (held_of x.1) (m.cells a)) (receives c r os es (now held)) Unknown (more (now held)) tt)
             (kind_of x.1) (m.cells a))

@@ -1,6 +1,6 @@
 -- What the machine does with a list of instructions, one by one.
 use Rattle.std.specs.Prelude.{ℕ, zero, suc, ◌+◌, ◌-◌, Bool, true, false, ◌&&◌, cond, List, [], ◌∷◌, ◌++◌, map, flat_map, length, take, drop, Option, Some, None, Ok, Err}
-use Rattle.std.specs.Prelude.{ℤ, pos, ◌*◌, ◌%◌, slice_get}
+use Rattle.std.specs.Prelude.{ℤ, pos, ◌*◌, ◌%◌, nat_lt, slice_get}
 use Rattle.std.specs.Ordering.{int_eq}
 use Rattle.eu_base.specs.declared.address.Area.{Area}
 use Rattle.eu_base.specs.declared.address.Area.TheVariants as areas
@@ -29,7 +29,7 @@ use Rattle.eu_base.specs.Cells.{AreBare, area_blocks, blocks_in}
 use Rattle.eu_base.specs.DataSpaces.{Heads, SpaceChange, Fills, heads_by}
 use Rattle.eu_base.specs.SpaceOperations.{space_operand_kinds, Plan, planned, copy_plan, bind_plan, forgetting}
 use Rattle.eu_base.specs.SpaceCells.{cells_by}
-use Rattle.eu_base.specs.SpacePlaces.{is_in}
+use Rattle.eu_base.specs.SpacePlaces.{lies_in}
 use Rattle.eu_base.specs.declared.address.TheConstants.{CELLS}
 use Rattle.code_form.specs.declared.operand.Operand.{Operand}
 use Rattle.code_form.specs.declared.operand.Operand.TheVariants.{Value as Of, Place as At, Aggregate}
@@ -206,16 +206,21 @@ on_cell kinds.Text cell go = on_text cell (λ t. go (item.Text t))
 on_cell kinds.Task cell go = on_word cell (λ n. go (item.Task (task_in n)))
 on_cell kinds.Space cell go = on_word cell (λ n. go (item.Space (space_in n)))
 
--- the place so many cells further on in its area
+-- the place so many cells further on
 abbrev pub further : Addr → ℕ → Addr
-further a n = area_cell a.area ((a.cell + n) % CELLS)
+further a n = area_cell a.area (a.cell + n)
 
+-- goes on with it, where its area has such a cell
+abbrev pub on_further : Addr → ℕ → (Addr → Move) → Move
+on_further a n go = cond (nat_lt (a.cell + n) CELLS) (go (further a n)) (Halts NoSpace)
+
+-- the next cell. Behind the last of an area none is looked at, so it does not matter that the first one stands for it
 abbrev pub next : Addr → Addr
-next a = further a 1
+next a = area_cell a.area ((a.cell + 1) % CELLS)
 
--- goes on where cells of these kinds stand at a place. A data space is looked at in each access: it may be gone
+-- goes on where cells of these kinds stand at a place, within its area. A data space is looked at in each access: it may be gone
 abbrev pub if_there : List Kind → Addr → Mem → Move → Move
-if_there ks a m move = cond (is_in ks a.area a.cell m.heads) move (Halts NoSpace)
+if_there ks a m move = cond (lies_in ks a.area a.cell m.heads) move (Halts NoSpace)
 
 -- the values of these kinds in the cells from a place on
 abbrev pub on_cells : List Kind → Addr → Cells → (List Value → Move) → Move
@@ -454,7 +459,7 @@ without_held held m = mem_after (forgetting held m.heads) m
 -- stops behind the request
 abbrev pub receives_in : Position → List Operand → Addr → Value → Mem → (Mem → Move) → Move
 receives_in c ops a v m go =
-    cond (is_in (kind_of v ∷ []) a.area a.cell m.heads)
+    cond (lies_in (kind_of v ∷ []) a.area a.cell m.heads)
     (on_cell (kind_of v) (m.cells a) (λ held.
     cond (takes (held_of v) (m.cells a)) (go (without_held (space_of held) (with_cells (written m.cells a (held_of v)) m))) Unknown))
     (Refuses NoSpace (at c (c.pc + 1) ops) m)
@@ -498,7 +503,7 @@ after_word Free go = Unsaid
 -- a request that sends a data space is made with the one in its first variable
 abbrev pub asks_with : RequestName → List Value → List Operand → Position → Mem → After
 asks_with name vs (At a ∷ os) c m =
-    cond (is_in (kinds.Space ∷ []) a.area a.cell m.heads)
+    cond (lies_in (kinds.Space ∷ []) a.area a.cell m.heads)
     (after_word (m.cells a) (λ n. Asks c (request_of name (item.Space (space_in n) ∷ vs)) m))
     (Stops NoSpace)
 asks_with _ vs _ c m = Unsaid
@@ -557,8 +562,8 @@ instruction p (Some (Packet k)) c m = pushes c (At (packet_cell (k % CELLS))) c.
 instruction p (Some (Local k)) c m = pushes c (At (run_cell (base_of c.frames + k))) c.ops m
 instruction p (Some (Param k)) c m = on_word (m.cells (run_cell (base_of c.frames + k))) (λ n. pushes c (At (place_in n)) c.ops m)
 instruction p (Some (Index n size)) c m =
-    on_value c.ops (λ v ops. on_place ops (λ a ops. on_item (in_row n (number_of v)) (λ k. pushes c (At (further a (k * size))) ops m)))
-instruction p (Some (Field n)) c m = on_place c.ops (λ a ops. pushes c (At (further a n)) ops m)
+    on_value c.ops (λ v ops. on_place ops (λ a ops. on_item (in_row n (number_of v)) (λ k. on_further a (k * size) (λ to. pushes c (At to) ops m))))
+instruction p (Some (Field n)) c m = on_place c.ops (λ a ops. on_further a n (λ to. pushes c (At to) ops m))
 instruction p (Some Content) c m =
     on_place c.ops (λ a ops. if_there (kinds.Space ∷ []) a m (on_word (m.cells a) (λ n. pushes c (At (content_at (space_in n))) ops m)))
 instruction p (Some (Pick n size)) c m =

@@ -263,6 +263,7 @@ MadeSo p _ n pc rest m f floor below =
 pub record IsMade (p : Program) (f : Frame) (body : Option ℕ) (floor below : ℕ) (m : Spot) (floor_below : ℕ) : Type 0 where
   pub number : ℕ
   pub is : body ≡ Some number
+  pub named : f.body ≡ number
   pub entry : Entry
   pub has : slice_get p.bodies number ≡ Some entry
   pub pc : ℕ

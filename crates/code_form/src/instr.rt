@@ -23,9 +23,9 @@ pub enum Instr {
     /// Pushes the place that a cell of the frame holds, by its number there.
     Param(usize),
     /// Takes a number i and the place below it, where a row of so many items of so many cells begins, and pushes the place of item i.
-    /// Where i is none of 1 to the number of items, the command stops.
+    /// Where i is none of 1 to the number of items, or the area has no such cell, the command stops.
     Index(u16, u16),
-    /// Takes a place, and pushes the place so many cells further on.
+    /// Takes a place, and pushes the place so many cells further on. Where the area has no such cell, the command stops.
     Field(u16),
     /// Takes the place of a BOUND variable, and pushes the place where the content of its data space begins.
     Content,

@@ -6,7 +6,7 @@ use Rattle.std.proofs.lemmas.List.{length-append, get_or_read}
 use Rattle.std.specs.List.{flat_map, remove}
 use Rattle.std.specs.Option.{ForSome}
 use Rattle.eu_base.specs.Spaces.{IsKept}
-use Rattle.page_pool.specs.Pool.{Pages}
+use Rattle.page_table.specs.Frames.{Over as Pages}
 use Rattle.page_table.specs.Entries.{Names}
 use Rattle.page_table.specs.Frames.{content_at, Frames, Framed, Stands}
 use Rattle.page_table.specs.Sharing.{occ, Agree, most_spaces}
@@ -106,23 +106,23 @@ module _ {T : Type 0} (roots : T → Names) (none : T) where
 
   -- an owner that stands at k, with names in hand
   module _ (pages : Pages) (hand : Names) (ts : List T) (k : ℕ) (t : T) (low : k < length ts) (read : t ≡ get_or ts k t)
-      (some : ∥ Agree pages (hand ++ all ts) ∥₁) where
+      (some : ∥ Agree pages.pool (hand ++ all ts) ∥₁) where
     pub apart : Same (hand ++ all ts) ((hand ++ roots t) ++ all (without k ts))
     apart =
         subst (λ (l : List T). Same (hand ++ all l) ((hand ++ roots t) ++ all (without k ts)))
         (subst (λ (u : T). set ts k u ≡ ts) (sym (get_or_read ts k t low read none)) (set_get ts k low)) (in_hand hand ts k t low)
 
-    pub own : Stands pages (hand ++ roots t) 0
-    own = record { some = ∥∥₁_map some (λ a. (all (without k ts), reorder pages _ _ apart a, omega (arith, a.few, apart.long))) }
+    pub own : Stands pages.pool (hand ++ roots t) 0
+    own = record { some = ∥∥₁_map some (λ a. (all (without k ts), reorder pages.pool _ _ apart a, omega (arith, a.few, apart.long))) }
 
     -- A call on it turns its names, and those in hand before, into others. Afterwards the spaces are those of the others, and these.
     module _ (new : Pages) (mine later : Names) (frames : Frames pages new (hand ++ roots t) mine) (same : Same (mine ++ all (without k ts)) later)
         (fits : length (hand ++ all ts) ≤ most_spaces → length later ≤ most_spaces) where
-      framed : Agree pages (hand ++ all ts) → Framed pages new mine (all (without k ts))
-      framed a = frames.frame (all (without k ts)) (reorder pages _ _ apart a) (omega (arith, fits a.few, same.long))
+      framed : Agree pages.pool (hand ++ all ts) → Framed pages new mine (all (without k ts))
+      framed a = frames.frame (all (without k ts)) (reorder pages.pool _ _ apart a) (omega (arith, fits a.few, same.long))
 
-      pub agree_one : ∥ Agree new later ∥₁
-      agree_one = ∥∥₁_map some (λ a. reorder new _ _ same (framed a).agrees)
+      pub agree_one : ∥ Agree new.pool later ∥₁
+      agree_one = ∥∥₁_map some (λ a. reorder new.pool _ _ same (framed a).agrees)
 
       others_keep : (j : ℕ) → j < length ts → j ≢ k → Keeps roots pages new (get_or ts j none)
       others_keep j there ne i n =
@@ -137,7 +137,7 @@ module _ {T : Type 0} (roots : T → Names) (none : T) where
   left ts k low = subst (λ (l : List T). Same (all (without k ts)) (all l)) (without_is ts k low) (same_self _)
 
   module _ (old new : Pages) (hand : Names) (ts : List T) (k : ℕ) (t : T) (low : k < length ts) (read : t ≡ get_or ts k t)
-      (some : ∥ Agree old (hand ++ all ts) ∥₁) where
+      (some : ∥ Agree old.pool (hand ++ all ts) ∥₁) where
     -- owner k is another one, which has the names in hand
     module _ (u : T) (fewer : length (roots u) ≤ length (hand ++ roots t)) (frames : Frames old new (hand ++ roots t) (roots u)) where
       set_fits : length (hand ++ all ts) ≤ most_spaces → length (all (set ts k u)) ≤ most_spaces
@@ -152,7 +152,7 @@ module _ {T : Type 0} (roots : T → Names) (none : T) where
             length-append (roots u) (all (without k ts)),
           )
 
-      pub set_agree : ∥ Agree new (all (set ts k u)) ∥₁
+      pub set_agree : ∥ Agree new.pool (all (set ts k u)) ∥₁
       set_agree = agree_one old hand ts k t low read some new (roots u) _ frames (put_back ts k u low) set_fits
 
       pub set_changes : ChangesOwner roots none old new ts (set ts k u) k
@@ -166,30 +166,30 @@ module _ {T : Type 0} (roots : T → Names) (none : T) where
       gone_fits : length (hand ++ all ts) ≤ most_spaces → length (all (remove ts k)) ≤ most_spaces
       gone_fits few = omega (arith, few, (apart old hand ts k t low read some).long, length-append (hand ++ roots t) (all (without k ts)), (left ts k low).long)
 
-      pub gone_agree : ∥ Agree new (all (remove ts k)) ∥₁
+      pub gone_agree : ∥ Agree new.pool (all (remove ts k)) ∥₁
       gone_agree = agree_one old hand ts k t low read some new [] _ frames (left ts k low) gone_fits
 
       pub gone_loses : LosesOwner roots none old new ts (remove ts k) k
       gone_loses = record { list = refl; others = others_keep old hand ts k t low read some new [] _ frames (left ts k low) gone_fits }
 
   -- a copy of a space of owner k, its first, is in hand
-  module _ (old : Pages) (ts : List T) (k : ℕ) (t : T) (low : k < length ts) (read : t ≡ get_or ts k t) (some : ∥ Agree old (all ts) ∥₁)
+  module _ (old : Pages) (ts : List T) (k : ℕ) (t : T) (low : k < length ts) (read : t ≡ get_or ts k t) (some : ∥ Agree old.pool (all ts) ∥₁)
       (mine : Option ℕ) (more : Names) (has : roots t ≡ mine ∷ more) (room : length (all ts) < most_spaces) where
     split : Same (all ts) (mine ∷ (more ++ all (without k ts)))
     split = subst (λ (l : Names). Same (all ts) (l ++ all (without k ts))) has (apart old [] ts k t low read some)
 
-    pub copy_stands : Stands old (mine ∷ []) 1
-    copy_stands = stands_of old (mine ∷ []) (more ++ all (without k ts)) 1 (omega (arith, room, split.long)) (agree_same old _ _ split some)
+    pub copy_stands : Stands old.pool (mine ∷ []) 1
+    copy_stands = stands_of old.pool (mine ∷ []) (more ++ all (without k ts)) 1 (omega (arith, room, split.long)) (agree_same old.pool _ _ split some)
 
     module _ (new : Pages) (frames : Frames old new (mine ∷ []) (mine ∷ mine ∷ [])) (shows : IsKept (content_at old mine) (content_at new mine)) where
-      pub copy_agree : (copy : Option ℕ) → copy ≡ mine → ∥ Agree new (copy ∷ all ts) ∥₁
-      copy_agree copy is = subst (λ (o : Option ℕ). ∥ Agree new (o ∷ all ts) ∥₁) (sym is)
-          (agree_same new _ _ (record { long = omega (arith, split.long); occs = λ p. omega (arith, split.occs p) })
+      pub copy_agree : (copy : Option ℕ) → copy ≡ mine → ∥ Agree new.pool (copy ∷ all ts) ∥₁
+      copy_agree copy is = subst (λ (o : Option ℕ). ∥ Agree new.pool (o ∷ all ts) ∥₁) (sym is)
+          (agree_same new.pool _ _ (record { long = omega (arith, split.long); occs = λ p. omega (arith, split.occs p) })
           (agree_after old new (mine ∷ []) (mine ∷ mine ∷ []) (more ++ all (without k ts)) (omega (arith, room, split.long)) frames
-          (agree_same old _ _ split some)))
+          (agree_same old.pool _ _ split some)))
 
       pub copy_keeps : (j : ℕ) → j < length ts → Keeps roots old new (get_or ts j none)
       copy_keeps j there i =
           let named = nth_named (roots (get_or ts j none)) i in
-          all_keep old new mine _ (more ++ all (without k ts)) frames shows (agree_same old _ _ split some) (omega (arith, room, split.long)) _
+          all_keep old new mine _ (more ++ all (without k ts)) frames shows (agree_same old.pool _ _ split some) (omega (arith, room, split.long)) _
           (λ (x : ℕ) (e : get_or (roots (get_or ts j none)) i None ≡ Some x). omega (arith, named x e, in_all ts j x there, split.occs x))

@@ -2,7 +2,7 @@
 use Rattle.std.specs.Prelude.{◌≡◌, ◌≢◌, ◌<◌, ℕ, List, length, None, slice_set, slice_index_or}
 use Rattle.std.specs.List.{remove}
 use Rattle.eu_base.specs.Spaces.{IsKept}
-use Rattle.page_pool.specs.Pool.{Pages}
+use Rattle.page_table.specs.Frames.{Over as Pages}
 use Rattle.page_table.specs.Entries.{Names}
 use Rattle.page_table.specs.Frames.{content_at}
 

@@ -1,5 +1,5 @@
 -- What stands where in data spaces.
-use Rattle.std.specs.Prelude.{ℕ, Bool, true, false, ◌&&◌, List, [], ◌∷◌, drop, Option, Some, None}
+use Rattle.std.specs.Prelude.{ℕ, ◌+◌, Bool, true, false, ◌&&◌, List, [], ◌∷◌, length, drop, Option, Some, None}
 use Rattle.eu_base.specs.declared.address.Area.{Area}
 use Rattle.eu_base.specs.declared.address.Area.TheVariants as areas
 use Rattle.eu_base.specs.declared.value.Kind.{Kind}
@@ -7,6 +7,7 @@ use Rattle.eu_base.specs.declared.value.Value.{Value}
 use Rattle.eu_base.specs.declared.shape.Shape.{Shape}
 use Rattle.eu_base.specs.Shapes.{cell_kinds}
 use Rattle.eu_base.specs.Values.{SpaceNo, same_kind}
+use Rattle.eu_base.specs.Room.{cells_fit}
 use Rattle.eu_base.specs.DataSpaces.{Spaces, Heads, is_live, the_space, the_head, with_other}
 
 -- the kinds of the cells of a data space. One in which nothing stands, or that does not live, has none
@@ -36,3 +37,7 @@ abbrev pub is_in : List Kind → Area → ℕ → Heads → Bool
 is_in ks areas.Run x heads = true
 is_in ks areas.Packets x heads = true
 is_in ks (areas.Space s) x heads = is_live s heads && begin_with ks (drop x (kinds_of s heads))
+
+-- and they are all among the cells that an area has. The machine asks for this; where code knows the cells, it is the same
+abbrev pub lies_in : List Kind → Area → ℕ → Heads → Bool
+lies_in ks area x heads = cells_fit (x + length ks) && is_in ks area x heads

@@ -3,12 +3,14 @@
 #![tactic(auto)]
 
 mod address;
+mod backing;
 mod cells;
 mod law;
 mod number;
 mod operand;
 mod operation;
 mod request;
+mod revive;
 mod set;
 mod shape;
 mod space;
@@ -18,6 +20,7 @@ mod text_operation;
 mod value;
 
 pub use address::{Addr, Area, CELLS};
+pub use backing::{Backing, Nowhere};
 pub use cells::{MemFault, Memory};
 pub use containers::{Boxed, Bytes, List, NoMemory, Shared};
 pub use law::data_spaces_stay_sound;
@@ -25,6 +28,7 @@ pub use number::decimal;
 pub use operand::{number_at, space_at, text_at};
 pub use operation::{Change, Operation, Way};
 pub use request::{Reply, Request, RequestName};
+pub use revive::ReviveError;
 pub use set::Set;
 pub use shape::Shape;
 pub use space::{SPACE_BYTES, Space};

@@ -315,6 +315,23 @@ module _ (core : Core) (packets : List Slot) (spaces : Spaces) where
       ∙ (ap (λ (rs : List Answer). let x : World = record v { marks = 0; replies = rs } in x) (sym (append-nil v.replies))
       ∙ ap (λ (x : World). let y : World = record x { marks = 0 } in y) (sym world)))
 
+  -- what is asked for with more marks costs one of those
+  asks_late : (n k : ℕ) (as' : List Answer) (q : Request) (w : World) → ((r : Request) (v : World) → evaluate core packets spaces n as' ≡ Asks r v → ⊥)
+      → evaluate core packets spaces (n + k) as' ≡ Asks q w → w.marks + 1 ≤ k
+  asks_late n k as' q w nothing e =
+      by (outcome n as') refl
+      (subst (λ (rs : List Answer). Two k None (outcome n as') (outcome (n + k) rs)) (append-nil as') (both k None n as'))
+    where
+      is : outcome (n + k) as' ≡ outcomes.Asks q w
+      is = asked_so (outcome (n + k) as') q w e
+
+      by : (o : Outcome (Unit {0})) → outcome n as' ≡ o → Two k None o (outcome (n + k) as') → w.marks + 1 ≤ k
+      by (outcomes.Gives a v) at two = let f : outcomes.Asks q w ≡ outcomes.Gives a (up k None v) = sym is ∙ two in absurd (cc f)
+      by (outcomes.Left x y v) at two = let f : outcomes.Asks q w ≡ outcomes.Left x y (up k None v) = sym is ∙ two in absurd (cc f)
+      by (outcomes.Stopped s v) at two = let f : outcomes.Asks q w ≡ outcomes.Stopped s (up k None v) = sym is ∙ two in absurd (cc f)
+      by (outcomes.OutOfMarks v) at two = let less = subst (λ (o : Outcome (Unit {0})). Late k o) is two in omega (arith, less)
+      by (outcomes.Asks r v) at two = absurd (nothing r v (ap ending at))
+
   pub is_steady : IsSteady core packets spaces
   is_steady = record {
     more = λ n k as' q w e. ap ending (asks_more n k as' q w e);
@@ -349,4 +366,8 @@ module _ (core : Core) (packets : List Slot) (spaces : Spaces) where
     costs = λ n k as' q r w v a e none f. (later_asks n k as' q r w v a e none f).0;
     first = λ n of v e.
         (subst (λ (o : Outcome (Unit {0})). Later (n + 0) o) (asked_so (outcome n []) (requests.Answer of) v e) ((alone n []).later refl)).1;
+    pays = λ n q v e.
+        let costs = (subst (λ (o : Outcome (Unit {0})). Later (n + 0) o) (asked_so (outcome n []) q v e) ((alone n []).later refl)).0 in
+        omega (arith, costs);
+    late = λ n k as' q w nothing e. asks_late n k as' q w nothing e;
   }

@@ -4,6 +4,7 @@ use Rattle.std.specs.Prelude.{option_map, option_and_then}
 use Rattle.std.specs.List.{AllByRecursion, list_any}
 use Rattle.std.proofs.lemmas.Bool.{false≢true, cases_lt, or_left, or_right}
 use Rattle.std.proofs.lemmas.Option.{none-some, same_Some}
+use Rattle.std.proofs.lemmas.Slice.Eq.{bytes_eq-Decides}
 use Rattle.task_numbers.specs.declared.number.TaskNo.{TaskNo}
 use Rattle.task_numbers.specs.Numbers.{is_task}
 use Rattle.eu_base.specs.declared.request.Request.{Request}
@@ -18,6 +19,7 @@ use Rattle.elan_types.specs.Command.{OutOfMarks, Asks}
 use Rattle.message_wait.specs.declared.waits.Caller.{Caller}
 use Rattle.message_wait.specs.declared.waits.Receiver.{Receiver}
 use Rattle.message_wait.specs.Rendezvous.{is_waiting}
+use Rattle.task_tree.specs.declared.task.Task.{Task}
 use Rattle.task_tree.specs.Tree as tree
 use Rattle.task_tree.specs.Tree.{Tree, with_number}
 use Rattle.task_tree.specs.Trees.{IsTree}
@@ -26,17 +28,19 @@ use Rattle.output_pieces.specs.Display.{close_all}
 use Rattle.source_machine.specs.Below.packet_store.specs.declared.unit.Compiled.{Compiled}
 use Rattle.source_machine.specs.Tasks.{Command, Doing, Idle, Entering, Running, Own, starting, ending, spent, request_in, request_of, command_of, with_doing, replied}
 use Rattle.source_machine.specs.Systems.{Shared, System, Moment, own, doing, requested, kept, command, does, given, sharing, back, on_ready, on_channels, on_system, on_display, say}
-use Rattle.source_machine.specs.Serving.{Served, Replies, Rests, serve, number}
+use Rattle.source_machine.specs.Serving.{Served, Replies, Rests, named_or, serve, number}
 use Rattle.source_machine.specs.Monitor.{Reading, installed, with_packet, inserted}
 use Rattle.source_machine.specs.Turns.{slice, turn, turn_of, turn_marks, most_evaluations}
 use Rattle.source_machine.specs.Whole.{IsSystem, IsReceiver, WaitsFor, AreWaits}
 use Rattle.isolation.specs.Own.{own_of}
-use Rattle.isolation.specs.Others.{sends_to, Reaches, Beside, OthersStay}
+use Rattle.isolation.specs.Others as others
+use Rattle.isolation.specs.Others.{Reaches, Beside, OthersStay}
 use Rattle.isolation.specs.Told.{asked, asked_first, turn_asked}
 use Rattle.evaluation_law.specs.Steady.{AreSteady}
 use Rattle.isolation.specs.Waits.{AsksNoAnswer, IsFree, AreOrderly, AsksAnswer, HasTurn}
 use Rattle.isolation.proofs.Finding.{living, none_finds, some_lives}
-use Rattle.isolation.proofs.Trees.{grown_same, in_family, numbered}
+pub use Rattle.isolation.proofs.Trees.{IsAsked}
+use Rattle.isolation.proofs.Trees.{IsEnded, IsBegun, grown_same, in_family, numbered}
 use Rattle.isolation.proofs.Steps.{CanWait, waits_behind, can_wait, something_of, quiet_ready, quiet_does, quiet_given, quiet_channels, quiet_installed, quiet_inserted, own_changed, once}
 use Rattle.isolation.proofs.Lists.{all_map, all_none}
 use Rattle.isolation.proofs.Rights.{CallsSo, Right, right_in, absent, not_waiting, waits_of, rooms_of, lives_asking, nothing_done}
@@ -103,15 +107,12 @@ does_so u d other s is = ap (option_map (λ (o : Own). o.doing)) (own_changed u 
 
 -- ---- a moment of a turn, beside itself
 
--- the requests that send something are among those that were asked
-abbrev pub IsAsked : List Request → Request → Type 0
-IsAsked asked q = (t : TaskNo) → sends_to t q ≡ true → list_any (sends_to t) asked ≡ true
-
-pub each_in : (asked qs : List Request) → ((t : TaskNo) → list_any (sends_to t) qs ≡ true → list_any (sends_to t) asked ≡ true) → AllByRecursion (IsAsked asked) qs
+-- each of these requests is among those that were asked
+pub each_in : (asked qs : List Request) → ((p : Request → Bool) → list_any p qs ≡ true → list_any p asked ≡ true) → AllByRecursion (IsAsked asked) qs
 each_in asked [] all = tt
 each_in asked (q ∷ qs) all = (
-  λ t e. all t (or_left (sends_to t q) (list_any (sends_to t) qs) e),
-  each_in asked qs (λ t e. all t (or_right (sends_to t q) (list_any (sends_to t) qs) e)),
+  λ p e. all p (or_left (p q) (list_any p qs) e),
+  each_in asked qs (λ p e. all p (or_right (p q) (list_any p qs) e)),
 )
 
 pub record Alone (u : TaskNo) (asked : List Request) (first : System) (m n : Moment) : Type 0 where
@@ -323,16 +324,30 @@ beside u t asked first s is live other h = record {
       as_kept still (h.others t other (numbered first.shared.tree t found.0 is.tree found.1).given);
   ended = λ before dead.
       let found = living t first.shared.tree.tasks before in
-      in_family first.shared.tree u t is.tree live (h.tree.gone t found.0 found.1 (none_finds t s.shared.tree.tasks dead));
+      as_ended (h.tree.gone t found.0 found.1 (none_finds t s.shared.tree.tasks dead));
   begun = λ before still.
       let found = living t s.shared.tree.tasks still in
       let late : first.shared.tree.last < t.0 = ⊎_elim
       (λ later. later)
       (λ early. absurd (false≢true (sym before ∙ some_lives t first.shared.tree.tasks found.0 (h.tree.old t found.0 early found.1))))
       (cases_lt first.shared.tree.last t.0) in
-      (late, ap tree.father_of found.1 ∙ h.tree.new t found.0 found.1 late);
+      let new = h.tree.new t found.0 found.1 late in
+      (late, ap tree.father_of found.1 ∙ new.0, as_begun found.0 found.1 new.1);
 }
   where
+    as_ended : IsEnded u asked first.shared.tree t
+        → (others.is_of_family t u first.shared.tree ≡ true) × (list_any (others.ends u t first.shared.tree) asked ≡ true)
+    as_ended e = (
+      in_family first.shared.tree u t is.tree live e.own,
+      e.asks (others.ends u t first.shared.tree) (in_family first.shared.tree (named_or e.named u) t is.tree e.live e.under),
+    )
+
+    as_begun : (x : Task) → with_number t s.shared.tree ≡ Some x → IsBegun asked x.name
+        → list_any (others.begins (tree.name t s.shared.tree)) asked ≡ true
+    as_begun x at b =
+        subst (λ (name : List ℕ). list_any (others.begins name) asked ≡ true) (sym (ap tree.name_of at))
+        (b.asks (others.begins x.name) ((bytes_eq-Decides x.name x.name).1 refl))
+
     as_kept : tree.lives t s.shared.tree ≡ true → Lasts u t asked first s → (own_of t s ≡ own_of t first) ⊎ Reaches u t asked first s
     as_kept live' (stays e) = inl e
     as_kept live' (gone none) = absurd (something_of t s h.sound live' none)

@@ -27,7 +27,7 @@ use Rattle.evaluation_law.specs.Steady.{AreSteady}
 use Rattle.isolation.specs.Waits.{IsFree}
 use Rattle.isolation.proofs.Found.{same_task}
 use Rattle.isolation.proofs.Finding.{living, some_lives}
-use Rattle.isolation.proofs.Trees.{Grown, grown_on, IsUnder, grown_ended}
+use Rattle.isolation.proofs.Trees.{Grown, grown_on, IsEnded, grown_ended}
 use Rattle.isolation.proofs.Steps.{nothing_of, left, removed_is, removed_others, removed_sound, dead, lives_on, waits_sound, quiet_woken, all_woken, all_woken_tree, all_woken_others}
 use Rattle.isolation.proofs.Lists.{turned, all_map, all_where, none_all, all_none, all_both, all_filter, all_append, none_filter, none_append, none_left, away, once_filter, all_mapped, all_passing, once_other, once_both}
 use Rattle.isolation.proofs.Rights.{CallsSo, caller_number, receiver_number, Absent, absent, not_waiting, caller_waits_not, receiver_calls_not, right_gone}
@@ -37,7 +37,7 @@ use Rattle.isolation.proofs.Since.{AreKnown, IsKnown, Since, StayGone, same_doin
 -- what serving a request has left: of the tree since then, and of the task that makes it, which is not ready
 pub record Serving (u : TaskNo) (asked : List Request) (first at s : System) : Type 0 where
   pub since : Since u asked first s
-  pub grown : Grown u at.shared.tree s.shared.tree
+  pub grown : Grown u asked at.shared.tree s.shared.tree
   pub mine : (own_of u s ≡ own_of u at) ⊎ (own_of u s ≡ None)
   pub out : list_any (λ t. is_task t u) s.shared.ready ≡ false
 
@@ -105,8 +105,8 @@ module _ (steady : AreSteady) (u : TaskNo) (asked : List Request) (first : Syste
 
   -- ---- a task is gone
 
-  module _ (w : TaskNo) (at s : System) (is_at : IsTree at.shared.tree) (before : Grown u first.shared.tree at.shared.tree) (h : Serving u asked first at s)
-      (under : IsUnder at.shared.tree w u) (can : CanEnd w s.shared.tree) where
+  module _ (w : TaskNo) (at s : System) (is_at : IsTree at.shared.tree) (before : Grown u asked first.shared.tree at.shared.tree) (h : Serving u asked first at s)
+      (ends : IsEnded u asked at.shared.tree w) (can : CanEnd w s.shared.tree) where
     -- without it, and nobody waits for it
     abbrev later : System
     later = on_waits (released w) (left w s)
@@ -168,13 +168,13 @@ module _ (steady : AreSteady) (u : TaskNo) (asked : List Request) (first : Syste
         by true is = inr (inl (subst (λ (x : TaskNo). own_of x later ≡ None) (sym (same_task t w is)) itself))
         by false is = inl (others t is)
 
-    grown : Grown u at.shared.tree later.shared.tree
-    grown = grown_ended u w at.shared.tree s.shared.tree h.grown under
+    grown : Grown u asked at.shared.tree later.shared.tree
+    grown = grown_ended u asked w at.shared.tree s.shared.tree h.grown ends
 
     since : Since u asked first later
     since =
         since_on u asked first is_first s later h.since (waits_sound (released w) (left w s) sound)
-        (grown_on u first.shared.tree at.shared.tree later.shared.tree is_first is_at before grown) still (λ t other low. moves t) order known
+        (grown_on u asked first.shared.tree at.shared.tree later.shared.tree is_first is_at before grown) still (λ t other low. moves t) order known
 
     -- ---- those that waited for it
 
@@ -349,7 +349,7 @@ module _ (steady : AreSteady) (u : TaskNo) (asked : List Request) (first : Syste
     serving = record {
       since = all_freed (waiting_for w (rendezvous.left w s.shared.waits)) later since once pending;
       grown =
-          subst (λ (x : Tree). Grown u at.shared.tree x)
+          subst (λ (x : Tree). Grown u asked at.shared.tree x)
           (sym (all_woken_tree no_task (waiting_for w (rendezvous.left w s.shared.waits)) later since.sound)) grown;
       mine = by mine;
       out =

@@ -40,14 +40,14 @@ use Rattle.source_machine.specs.Stores.{is_name, heir}
 use Rattle.source_machine.specs.Tasks.{Doing, Running, Own, starting, command_of, with_doing, replied}
 use Rattle.source_machine.specs.Systems.{System, Moment, doing, requested, packets, kept, given, woken, back, can_be_ready, on_ready, on_waits, on_channels, uncouple_at}
 use Rattle.source_machine.specs.Ends.{number_refusal, next, begun, removed, no_task, freed_by, ended, ended_with_descendants}
-use Rattle.source_machine.specs.Serving.{son_begins, begin_refusal, is_first, may_end}
+use Rattle.source_machine.specs.Serving.{son_begins, begin_refusal, is_first, may_end, named_or}
 use Rattle.source_machine.specs.Whole.{IsSystem}
 use Rattle.isolation.specs.Own.{own_of}
 use Rattle.evaluation_law.specs.Steady.{AreSteady}
 use Rattle.isolation.specs.Waits.{AsksNoAnswer, IsFree}
 use Rattle.isolation.proofs.Found.{same_task, itself, own_found, found_last}
 use Rattle.isolation.proofs.Finding.{has, living}
-use Rattle.isolation.proofs.Trees.{IsUnder, under_under, under_from, numbered, Grown, grown_on, grown_begun}
+use Rattle.isolation.proofs.Trees.{IsUnder, under_under, under_from, numbered, IsAsked, IsBegun, IsEnded, Grown, grown_on, grown_begun}
 use Rattle.isolation.proofs.Steps.{removed_is, channels_changed, all_woken, all_woken_others, quiet_channels, quiet_back, free_stays, begun_others, begun_sound, removed_tree, removed_sound, waits_sound, all_woken_sound, all_woken_tree}
 use Rattle.isolation.proofs.Lists.{neither, none_append, none_filter, none_left, none_mapped}
 use Rattle.isolation.proofs.Rights.{caller_number, receiver_number, Right, Absent, absent, absent_callers, absent_receivers, Awaits, calling, waiting, answering, waiting_asks, lives_asking}
@@ -300,14 +300,14 @@ son_free steady name u unit s is = λ c at.
 module _ (steady : AreSteady) (u : TaskNo) (asked : List Request) (first : System) (is_first : IsTree first.shared.tree)
     (low : u.0 ≤ first.shared.tree.last) where
   -- the task has no number that is new
-  given_in : (s : System) → Grown u first.shared.tree s.shared.tree → u.0 ≤ s.shared.tree.last
+  given_in : (s : System) → Grown u asked first.shared.tree s.shared.tree → u.0 ≤ s.shared.tree.last
   given_in s grown = let more = grown.last in omega (arith, low, more)
 
   pub son_serving : (name : List ℕ) (unit : Compiled) (s : System) → IsSystem s → tree.lives u s.shared.tree ≡ true → CanBegin name s.shared.tree
-      → Serving u asked first s s → Serving u asked first s (son_begins name u unit s)
-  son_serving name unit s is live can h = record {
+      → IsBegun asked name → Serving u asked first s s → Serving u asked first s (son_begins name u unit s)
+  son_serving name unit s is live can said h = record {
     since = since_back u asked first is_first (next s) son since (unborn s is.tree h.since.order.right) (son_free steady name u unit s is);
-    grown = subst (λ (x : Tree). Grown u s.shared.tree x) (sym (back_tree (next s) son)) (grown_begun u name s.shared.tree is.tree);
+    grown = subst (λ (x : Tree). Grown u asked s.shared.tree x) (sym (back_tree (next s) son)) (grown_begun u asked name s.shared.tree is.tree said);
     mine = inl (back_same (next s) u son ∙ begun_others name u doing' s is u (given_in s h.since.tree));
     out = back_out u (next s) son (ne_eqb (s.shared.tree.last + 1) u.0 (λ e. let less = given_in s h.since.tree in omega (arith, e, less))) h.out;
   }
@@ -328,7 +328,7 @@ module _ (steady : AreSteady) (u : TaskNo) (asked : List Request) (first : Syste
       since =
           since_on u asked first is_first s (begun name u (Running (starting unit (heir (kept u s)))) s) h.since
           (begun_sound name u (Running (starting unit (heir (kept u s)))) s is grown_tree)
-          (grown_on u first.shared.tree s.shared.tree (tree.begun name u s.shared.tree) is_first is.tree h.since.tree (grown_begun u name s.shared.tree is.tree))
+          (grown_on u asked first.shared.tree s.shared.tree (tree.begun name u s.shared.tree) is_first is.tree h.since.tree (grown_begun u asked name s.shared.tree is.tree said))
           (λ v less dead.
           none_append (has_number v) s.shared.tree.tasks (tree.task (tree.next s.shared.tree) name u) dead
           (ne_eqb (s.shared.tree.last + 1) v.0 (λ e. omega (arith, e, less))))
@@ -355,28 +355,36 @@ module _ (steady : AreSteady) (u : TaskNo) (asked : List Request) (first : Syste
 
   -- ---- tasks end, one after another
 
-  ends_at : (at : System) → IsTree at.shared.tree → Grown u first.shared.tree at.shared.tree → (w : TaskNo) (m : Moment) → Serving u asked first at m.system
-      → IsUnder at.shared.tree w u → CanEnd w m.system.shared.tree → Serving u asked first at (ended m w).system
-  ends_at at is_at before w m h under can = by (channels.channel_of w m.system.shared.channels)
+  ends_at : (at : System) → IsTree at.shared.tree → Grown u asked first.shared.tree at.shared.tree → (w : TaskNo) (m : Moment) → Serving u asked first at m.system
+      → IsEnded u asked at.shared.tree w → CanEnd w m.system.shared.tree → Serving u asked first at (ended m w).system
+  ends_at at is_at before w m h ends can = by (channels.channel_of w m.system.shared.channels)
     where
       by : (c : Option ℕ) → Serving u asked first at (freed_by w (removed w (uncouple_at c m).system))
-      by None = gone_serving steady u asked first is_first w at m.system is_at before h under can
+      by None = gone_serving steady u asked first is_first w at m.system is_at before h ends can
       by (Some c) =
-          gone_serving steady u asked first is_first w at (on_channels (channels.uncoupled c) m.system) is_at before (serving_uncoupled at (Some c) m h) under can
+          gone_serving steady u asked first is_first w at (on_channels (channels.uncoupled c) m.system) is_at before (serving_uncoupled at (Some c) m h) ends can
 
-  all_end : (at : System) → IsTree at.shared.tree → Grown u first.shared.tree at.shared.tree → (ts : List TaskNo) (m : Moment) → Serving u asked first at m.system
-      → ((w : TaskNo) → has w ts ≡ true → IsUnder at.shared.tree w u) → EndInTurn ts m.system.shared.tree → Serving u asked first at (fold ended m ts).system
-  all_end at is_at before [] m h under turn = h
-  all_end at is_at before (w ∷ ts) m h under turn =
+  all_end : (at : System) → IsTree at.shared.tree → Grown u asked first.shared.tree at.shared.tree → (ts : List TaskNo) (m : Moment) → Serving u asked first at m.system
+      → ((w : TaskNo) → has w ts ≡ true → IsEnded u asked at.shared.tree w) → EndInTurn ts m.system.shared.tree → Serving u asked first at (fold ended m ts).system
+  all_end at is_at before [] m h ends turn = h
+  all_end at is_at before (w ∷ ts) m h ends turn =
       all_end at is_at before ts (ended m w)
-      (ends_at at is_at before w m h (under w (or_left (is_task w w) (has w ts) (itself w))) turn.0)
-      (λ v one. under v (or_right (is_task w v) (has v ts) one))
+      (ends_at at is_at before w m h (ends w (or_left (is_task w w) (has w ts) (itself w))) turn.0)
+      (λ v one. ends v (or_right (is_task w v) (has v ts) one))
       (subst (EndInTurn ts) (sym (ended_tree w m h.since.sound turn.0)) turn.1)
 
-  pub family_serving : (v : TaskNo) (m : Moment) → MayEnd u v m.system.shared.tree → Serving u asked first m.system m.system
-      → Serving u asked first m.system (ended_with_descendants v m).system
-  family_serving v m can h =
-      all_end m.system h.since.sound.tree h.since.tree (family v m.system.shared.tree) m h
+  pub family_serving : (of : Option ℕ) (m : Moment) → IsAsked asked (End of) → tree.lives (named_or of u) m.system.shared.tree ≡ true
+      → MayEnd u (named_or of u) m.system.shared.tree → Serving u asked first m.system m.system
+      → Serving u asked first m.system (ended_with_descendants (named_or of u) m).system
+  family_serving of m sent live can h =
+      all_end m.system h.since.sound.tree h.since.tree (family (named_or of u) m.system.shared.tree) m h
       (λ w one.
-      under_under m.system.shared.tree w v u (under_from m.system.shared.tree h.since.sound.tree TASKS v w one) can.under)
+      let inside = under_from m.system.shared.tree h.since.sound.tree TASKS (named_or of u) w one in
+      record {
+        own = under_under m.system.shared.tree w (named_or of u) u inside can.under;
+        named = of;
+        asks = sent;
+        live = live;
+        under = inside;
+      })
       can.turn

@@ -37,7 +37,7 @@ use Rattle.isolation.specs.Others.{sends_to, called, sends, called_it}
 use Rattle.evaluation_law.specs.Steady.{AreSteady}
 use Rattle.isolation.specs.Waits.{AsksAnswer}
 use Rattle.isolation.proofs.Found.{same_task, place_in, changed_owns, changed_is}
-use Rattle.isolation.proofs.Trees.{Grown}
+use Rattle.isolation.proofs.Trees.{IsAsked, Grown}
 use Rattle.isolation.proofs.Steps.{Quiet, quiet_given, quiet_woken, waits_sound}
 use Rattle.isolation.proofs.Lists.{turned, all_map, all_where, none_all, all_both, all_filter, all_remove, all_insert, all_at, none_left, some_of, some_at, once_at, FirstPlace, at_none, at_one, first_place}
 use Rattle.isolation.proofs.Rights.{CallsSo, caller_number, Right, AreCalm, waits_of, rooms_of, Absent, absent, not_waiting, caller_waits_not, receiver_calls_not, right_same, right_receivers, right_removed, right_called, right_entered, absent_receivers, absent_removed, absent_called, absent_entered}
@@ -98,31 +98,33 @@ module _ (steady : AreSteady) (u : TaskNo) (asked : List Request) (first : Syste
         λ r e. absurd (none-some r e),
       )
 
-  begin_after : (name : List ℕ) (start : ℕ) (unit : Option Compiled) → tree.lives u m.system.shared.tree ≡ true → (stop : Option Stop)
+  begin_after : (name : List ℕ) (start : ℕ) (unit : Option Compiled) → IsAsked asked (Begin name start) → tree.lives u m.system.shared.tree ≡ true
+      → (stop : Option Stop)
       → begin_refusal name m.system ≡ stop → AfterServed u asked first (Begin name start) m.system (begin_with stop unit name u m)
-  begin_after name start unit live (Some stop) e = (h, λ r e. absurd (none-some r e))
-  begin_after name start None live None e = (h, λ r e. absurd (none-some r e))
-  begin_after name start (Some unit) live None e = (
-    son_serving steady u asked first is_first low name unit m.system h.since.sound live (can_begin name m.system e) h,
+  begin_after name start unit sent live (Some stop) e = (h, λ r e. absurd (none-some r e))
+  begin_after name start None sent live None e = (h, λ r e. absurd (none-some r e))
+  begin_after name start (Some unit) sent live None e = (
+    son_serving steady u asked first is_first low name unit m.system h.since.sound live (can_begin name m.system e)
+        (record { start = start; asks = sent }) h,
     λ r e. absurd (none-some r e),
   )
 
-  end_after : (of : Option ℕ) (v : TaskNo) (live : Bool) → tree.lives v m.system.shared.tree ≡ live
-      → AfterServed u asked first (End of) m.system (end_living live u v m)
-  end_after of v false e = (h, λ r e. absurd (none-some r e))
-  end_after of v true live = by (may_end u v m.system) refl
+  end_after : (of : Option ℕ) → IsAsked asked (End of) → (live : Bool) → tree.lives (named_or of u) m.system.shared.tree ≡ live
+      → AfterServed u asked first (End of) m.system (end_living live u (named_or of u) m)
+  end_after of sent false e = (h, λ r e. absurd (none-some r e))
+  end_after of sent true live = by (may_end u (named_or of u) m.system) refl
     where
-      which : (b : Bool) → Serving u asked first m.system (ended_with_descendants v m).system
+      which : (b : Bool) → Serving u asked first m.system (ended_with_descendants (named_or of u) m).system
           → AfterServed u asked first (End of) m.system
-          (if b then Rests (ended_with_descendants v m) else Replies (plain replies.Done) (ended_with_descendants v m))
-      which true later = over u asked first (ended_with_descendants v m).system later.since
+          (if b then Rests (ended_with_descendants (named_or of u) m) else Replies (plain replies.Done) (ended_with_descendants (named_or of u) m))
+      which true later = over u asked first (ended_with_descendants (named_or of u) m).system later.since
       which false later = (later, λ r e. absurd (none-some r e))
 
-      by : (b : Bool) → may_end u v m.system ≡ b → AfterServed u asked first (End of) m.system (end_allowed b u v m)
+      by : (b : Bool) → may_end u (named_or of u) m.system ≡ b → AfterServed u asked first (End of) m.system (end_allowed b u (named_or of u) m)
       by false e = (h, λ r e. absurd (none-some r e))
       by true e =
-          which (is_task u v)
-          (family_serving steady u asked first is_first low v m (may u v m.system h.since.sound.tree live e) h)
+          which (is_task u (named_or of u))
+          (family_serving steady u asked first is_first low of m sent live (may u (named_or of u) m.system h.since.sound.tree live e) h)
 
   -- ---- a receiver that is ready takes a message
 
@@ -201,7 +203,7 @@ module _ (steady : AreSteady) (u : TaskNo) (asked : List Request) (first : Syste
         subst (λ (x : System). Serving u asked first m.system x) (sym as_handed)
         (record {
           since = since_then receiver.0.of waits_for;
-          grown = subst (λ (x : Tree). Grown u m.system.shared.tree x) (sym quiet.tree) h.grown;
+          grown = subst (λ (x : Tree). Grown u asked m.system.shared.tree x) (sym quiet.tree) h.grown;
           mine = inl (quiet.others u (turned (number to) u other));
           out =
               woken_out u (number to) (message code u x (number to) m.system) (on_waits (received (number to)) m.system) other h.out;
@@ -465,7 +467,7 @@ module _ (steady : AreSteady) (u : TaskNo) (asked : List Request) (first : Syste
         subst (λ (x : System). Serving u asked first m.system x) (sym as_answering)
         (record {
           since = since_entered;
-          grown = subst (λ (x : Tree). Grown u m.system.shared.tree x) (sym quiet_told.tree) h.grown;
+          grown = subst (λ (x : Tree). Grown u asked m.system.shared.tree x) (sym quiet_told.tree) h.grown;
           mine = inl (quiet_told.others u (turned c.from u another));
           out = subst (λ (ready : List TaskNo). list_any (λ t. is_task t u) ready ≡ false) (sym ready_told) h.out;
         })
@@ -491,29 +493,28 @@ module _ (steady : AreSteady) (u : TaskNo) (asked : List Request) (first : Syste
 
   -- ---- each request
 
-  -- what the request sends is known, and an answer is asked for only where it may be
+  -- the request is among those that were asked, and an answer is asked for only where it may be
   pub serve_after : (q : Request) → requested u m.system ≡ Some q → tree.lives u m.system.shared.tree ≡ true
-      → ((t : TaskNo) → sends_to t q ≡ true → list_any (sends_to t) asked ≡ true)
-      → ((of : ℕ) → q ≡ requests.Answer of
+      → IsAsked asked q → ((of : ℕ) → q ≡ requests.Answer of
       → (tree.lives (number of) m.system.shared.tree ≡ true) × (room_refusal (heads_of (kept u m.system).spaces) ≡ None))
       → AfterServed u asked first q m.system (serve u q m)
-  serve_after (Out bytes ends) asks live reached may' = put_after bytes ends (channels.channel_of u m.system.shared.channels)
-  serve_after Input asks live reached may' = input_after (channels.channel_of u m.system.shared.channels)
-  serve_after (Begin name start) asks live reached may' =
-      begin_after name start (started_at m.system.shared.library (packets u m.system) start) live (begin_refusal name m.system) refl
-  serve_after Myself asks live reached may' = (h, λ r e. absurd (none-some r e))
-  serve_after (Father of) asks live reached may' = (h, λ r e. absurd (none-some r e))
-  serve_after (Son of) asks live reached may' = (h, λ r e. absurd (none-some r e))
-  serve_after (Brother of) asks live reached may' = (h, λ r e. absurd (none-some r e))
-  serve_after (Named name) asks live reached may' = (h, λ r e. absurd (none-some r e))
-  serve_after (Name of) asks live reached may' = (h, λ r e. absurd (none-some r e))
-  serve_after (Exists of) asks live reached may' = (h, λ r e. absurd (none-some r e))
-  serve_after (End of) asks live reached may' = end_after of (named_or of u) (tree.lives (named_or of u) m.system.shared.tree) refl
-  serve_after Break asks live reached may' = (
+  serve_after (Out bytes ends) asks live sent may' = put_after bytes ends (channels.channel_of u m.system.shared.channels)
+  serve_after Input asks live sent may' = input_after (channels.channel_of u m.system.shared.channels)
+  serve_after (Begin name start) asks live sent may' =
+      begin_after name start (started_at m.system.shared.library (packets u m.system) start) sent live (begin_refusal name m.system) refl
+  serve_after Myself asks live sent may' = (h, λ r e. absurd (none-some r e))
+  serve_after (Father of) asks live sent may' = (h, λ r e. absurd (none-some r e))
+  serve_after (Son of) asks live sent may' = (h, λ r e. absurd (none-some r e))
+  serve_after (Brother of) asks live sent may' = (h, λ r e. absurd (none-some r e))
+  serve_after (Named name) asks live sent may' = (h, λ r e. absurd (none-some r e))
+  serve_after (Name of) asks live sent may' = (h, λ r e. absurd (none-some r e))
+  serve_after (Exists of) asks live sent may' = (h, λ r e. absurd (none-some r e))
+  serve_after (End of) asks live sent may' = end_after of sent (tree.lives (named_or of u) m.system.shared.tree) refl
+  serve_after Break asks live sent may' = (
     serving_uncoupled steady u asked first is_first low m.system (channels.channel_of u m.system.shared.channels) m h,
     λ r e. absurd (none-some r e),
   )
-  serve_after (Send to code space) asks live reached may' = send_after to code space (reached (number to) (eq-eqb to to refl))
-  serve_after Wait asks live reached may' = wait_after asks
-  serve_after (Call to code space) asks live reached may' = call_after to code space asks (reached (number to) (eq-eqb to to refl))
-  serve_after (requests.Answer of) asks live reached may' = let fits = may' of refl in answer_after of asks fits.0 fits.1
+  serve_after (Send to code space) asks live sent may' = send_after to code space (sent (sends_to (number to)) (eq-eqb to to refl))
+  serve_after Wait asks live sent may' = wait_after asks
+  serve_after (Call to code space) asks live sent may' = call_after to code space asks (sent (sends_to (number to)) (eq-eqb to to refl))
+  serve_after (requests.Answer of) asks live sent may' = let fits = may' of refl in answer_after of asks fits.0 fits.1

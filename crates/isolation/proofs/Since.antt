@@ -46,7 +46,7 @@ pub data Lasts (u t : TaskNo) (asked : List Request) (first s : System) : Type 0
 -- what a turn of u has left since it began, and those that wait do so rightly
 pub record Since (u : TaskNo) (asked : List Request) (first s : System) : Type 0 where
   pub sound : IsSystem s
-  pub tree : Grown u first.shared.tree s.shared.tree
+  pub tree : Grown u asked first.shared.tree s.shared.tree
   pub others : (t : TaskNo) → is_task t u ≡ false → t.0 ≤ first.shared.tree.last → Lasts u t asked first s
   pub order : Order u s
   pub known : AreKnown first.shared.tree.last s.shared.waits
@@ -54,7 +54,7 @@ pub record Since (u : TaskNo) (asked : List Request) (first s : System) : Type 0
 -- and where it is over
 pub record Over (u : TaskNo) (asked : List Request) (first s : System) : Type 0 where
   pub sound : IsSystem s
-  pub tree : Grown u first.shared.tree s.shared.tree
+  pub tree : Grown u asked first.shared.tree s.shared.tree
   pub others : (t : TaskNo) → is_task t u ≡ false → t.0 ≤ first.shared.tree.last → Lasts u t asked first s
   pub orderly : AreOrderly s
 
@@ -92,7 +92,7 @@ module _ (u : TaskNo) (asked : List Request) (first : System) where
   abbrev pub Moves : TaskNo → System → System → Type 0
   Moves t s later = (own_of t later ≡ own_of t s) ⊎ ((own_of t later ≡ None) ⊎ Reaches u t asked first later)
 
-  pub reaches_on : (t : TaskNo) (s later : System) → IsTree first.shared.tree → Grown u first.shared.tree s.shared.tree → StayGone s later → Reaches u t asked first s
+  pub reaches_on : (t : TaskNo) (s later : System) → IsTree first.shared.tree → Grown u asked first.shared.tree s.shared.tree → StayGone s later → Reaches u t asked first s
       → Reaches u t asked first later
   reaches_on t s later is grown still (sends e) = sends e
   reaches_on t s later is grown still (called_it e) = called_it e
@@ -102,7 +102,7 @@ module _ (u : TaskNo) (asked : List Request) (first : System) where
       let more = grown.last in
       called_one v e live (still v (omega (arith, low, more)) dead)
 
-  pub lasts_on : (t : TaskNo) (s later : System) → IsTree first.shared.tree → Grown u first.shared.tree s.shared.tree → StayGone s later → Lasts u t asked first s
+  pub lasts_on : (t : TaskNo) (s later : System) → IsTree first.shared.tree → Grown u asked first.shared.tree s.shared.tree → StayGone s later → Lasts u t asked first s
       → Moves t s later → Lasts u t asked first later
   lasts_on t s later is grown still (stays a) (inl e) = stays (e ∙ a)
   lasts_on t s later is grown still (gone a) (inl e) = gone (e ∙ a)
@@ -118,7 +118,7 @@ module _ (u : TaskNo) (asked : List Request) (first : System) where
   reach v s q is (reached r) new = r
 
   module _ (is_first : IsTree first.shared.tree) where
-    pub since_on : (s later : System) → Since u asked first s → IsSystem later → Grown u first.shared.tree later.shared.tree → StayGone s later
+    pub since_on : (s later : System) → Since u asked first s → IsSystem later → Grown u asked first.shared.tree later.shared.tree → StayGone s later
         → ((t : TaskNo) → is_task t u ≡ false → t.0 ≤ first.shared.tree.last → Moves t s later) → Order u later
         → AreKnown first.shared.tree.last later.shared.waits → Since u asked first later
     since_on s later h sound grown still moves order known = record {
@@ -133,7 +133,7 @@ module _ (u : TaskNo) (asked : List Request) (first : System) where
     pub since_quiet : (s later : System) → Since u asked first s → Quiet u s later → Order u later → later.shared.waits ≡ s.shared.waits
         → Since u asked first later
     since_quiet s later h quiet order same =
-        since_on s later h quiet.sound (subst (λ (x : Tree). Grown u first.shared.tree x) (sym quiet.tree) h.tree) (same_gone s later quiet.tree)
+        since_on s later h quiet.sound (subst (λ (x : Tree). Grown u asked first.shared.tree x) (sym quiet.tree) h.tree) (same_gone s later quiet.tree)
         (λ t other low. inl (quiet.others t other)) order (subst (AreKnown first.shared.tree.last) (sym same) h.known)
 
     -- fewer wait, or others
@@ -147,7 +147,7 @@ module _ (u : TaskNo) (asked : List Request) (first : System) where
     pub since_given : (v : TaskNo) (a : Answer) (s : System) → Since u asked first s → is_task v u ≡ false
         → (v.0 ≤ first.shared.tree.last → Reaches u v asked first s) → Order u (given v a s) → Since u asked first (given v a s)
     since_given v a s h other reaches order =
-        since_on s later h quiet.sound (subst (λ (x : Tree). Grown u first.shared.tree x) (sym quiet.tree) h.tree) (same_gone s later quiet.tree)
+        since_on s later h quiet.sound (subst (λ (x : Tree). Grown u asked first.shared.tree x) (sym quiet.tree) h.tree) (same_gone s later quiet.tree)
         moves order
         (subst (λ (x : Shared). AreKnown first.shared.tree.last x.waits) (sym (shared_changed v (λ (o : Own). with_doing (replied a o.doing) o) s)) h.known)
       where

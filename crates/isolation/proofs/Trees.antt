@@ -1,18 +1,21 @@
 -- The descendants of a task, and what a turn of it does to the tree.
 use Rattle.std.proofs.Common.{◌≡◌, ℕ, zero, suc, ◌+◌, ◌<◌, ◌≤◌, Bool, true, false, List, [], ◌∷◌, Option, Some, None, refl, sym, ap, ◌∙◌, subst, ⊎_elim, arith}
-use Rattle.std.specs.List.{flat_map}
+use Rattle.std.specs.List.{flat_map, list_any}
 use Rattle.std.proofs.lemmas.Bool.{false≢true, cases_lt, ne_eqb}
 use Rattle.std.proofs.lemmas.List.Elements.{recursion_from_All}
 use Rattle.std.proofs.lemmas.Option.{none-some, same_Some}
 use Rattle.task_numbers.specs.declared.limits.TheConstants.{TASKS}
 use Rattle.task_numbers.specs.declared.number.TaskNo.{TaskNo}
 use Rattle.task_numbers.specs.Numbers.{is_task}
+use Rattle.eu_base.specs.declared.request.Request.{Request}
+use Rattle.eu_base.specs.declared.request.Request.TheVariants.{Begin, End}
 use Rattle.task_tree.specs.declared.task.Task.{Task}
 use Rattle.task_tree.specs.Tree.{Tree, has_number, with_number, lives, sons, next, begun, ended, task}
 use Rattle.task_tree.specs.Trees.{IsTree, IsGiven, IsYoungerThanFather}
 use Rattle.task_walks.specs.Families.{descent, family}
+use Rattle.source_machine.specs.Serving.{named_or}
 use Rattle.isolation.proofs.Found.{same_task}
-use Rattle.isolation.proofs.Finding.{Son, has, find_holds, number_is, some_lives, find_rest, find_gone, find_before, find_last, sons_are, is_son, in_one, in_first, in_all, is_last, is_one, part, from, from-le-length, fewer_beyond}
+use Rattle.isolation.proofs.Finding.{Son, has, living, find_holds, number_is, some_lives, find_rest, find_gone, find_before, find_last, sons_are, is_son, in_one, in_first, in_all, is_last, is_one, part, from, from-le-length, fewer_beyond}
 
 -- what a number tells
 pub record Numbered (s : Tree) (t : TaskNo) : Type 0 where
@@ -75,14 +78,33 @@ in_family s u t tree live under =
 
 -- ---- what a turn of a task does to the tree
 
--- Numbers that were given stay with their tasks, those that are gone were of its family, and those that are new are its sons.
-pub record Grown (u : TaskNo) (before after : Tree) : Type 0 where
+-- this request is among those that were asked: what is so of it is so of one of them
+abbrev pub IsAsked : List Request → Request → Type 0
+IsAsked asked q = (p : Request → Bool) → p q ≡ true → list_any p asked ≡ true
+
+-- t is of the family of u, which asked for the end of a task of whose family t is
+pub record IsEnded (u : TaskNo) (asked : List Request) (s : Tree) (t : TaskNo) : Type 0 where
+  pub own : IsUnder s t u
+  pub named : Option ℕ
+  pub asks : IsAsked asked (End named)
+  pub live : lives (named_or named u) s ≡ true
+  pub under : IsUnder s t (named_or named u)
+
+-- u asked that a task of this name begin
+pub record IsBegun (asked : List Request) (name : List ℕ) : Type 0 where
+  pub start : ℕ
+  pub asks : IsAsked asked (Begin name start)
+
+-- Numbers that were given stay with their tasks, those that are gone were of its family, and ended by it, and those that are new are its sons, and
+-- begun by it.
+pub record Grown (u : TaskNo) (asked : List Request) (before after : Tree) : Type 0 where
   pub last : before.last ≤ after.last
   pub old : (t : TaskNo) (x : Task) → t.0 ≤ before.last → with_number t after ≡ Some x → with_number t before ≡ Some x
-  pub gone : (t : TaskNo) (x : Task) → with_number t before ≡ Some x → with_number t after ≡ None → IsUnder before t u
-  pub new : (t : TaskNo) (x : Task) → with_number t after ≡ Some x → before.last < t.0 → x.father ≡ u
+  pub gone : (t : TaskNo) (x : Task) → with_number t before ≡ Some x → with_number t after ≡ None → IsEnded u asked before t
+  pub new : (t : TaskNo) (x : Task) → with_number t after ≡ Some x → before.last < t.0
+      → (x.father ≡ u) × IsBegun asked x.name
 
-pub grown_same : (u : TaskNo) (s : Tree) → IsTree s → Grown u s s
+pub grown_same : {asked : List Request} (u : TaskNo) (s : Tree) → IsTree s → Grown u asked s s
 grown_same u s tree = record {
   last = omega arith;
   old = λ t x low at. at;
@@ -91,17 +113,33 @@ grown_same u s tree = record {
 }
 
 -- a chain of fathers was the same before, where its last task was there
-under_before : (u : TaskNo) (before after : Tree) → Grown u before after → IsTree after → (t v : TaskNo) → t.0 ≤ before.last → IsUnder after t v
-    → IsUnder before t v
-under_before u before after grown tree t v low same = same
-under_before u before after grown tree t v low (below w son rest) =
+under_before : (u : TaskNo) (asked : List Request) (before after : Tree) → Grown u asked before after → IsTree after → (t v : TaskNo) → t.0 ≤ before.last
+    → IsUnder after t v → IsUnder before t v
+under_before u asked before after grown tree t v low same = same
+under_before u asked before after grown tree t v low (below w son rest) =
     let less = not_younger after t w tree rest in
     below w
     (record { task = son.task; at = grown.old w son.task (omega (arith, low, less)) son.at; father = son.father })
-    (under_before u before after grown tree t w low rest)
+    (under_before u asked before after grown tree t w low rest)
 
-pub grown_on : (u : TaskNo) (first second third : Tree) → IsTree first → IsTree second → Grown u first second → Grown u second third → Grown u first third
-grown_on u first second third tree trees grown more = record {
+-- and so one that ends now was ended by what was asked, as the tree was before
+ended_before : (u : TaskNo) (asked : List Request) (before after : Tree) → Grown u asked before after → IsTree after → (t : TaskNo) → t.0 ≤ before.last
+    → IsEnded u asked after t → IsEnded u asked before t
+ended_before u asked before after grown tree t low e =
+    let v = named_or e.named u in
+    let older = not_younger after t v tree e.under in
+    let found = living v after.tasks e.live in
+    record {
+      own = under_before u asked before after grown tree t u low e.own;
+      named = e.named;
+      asks = e.asks;
+      live = some_lives v before.tasks found.0 (grown.old v found.0 (omega (arith, low, older)) found.1);
+      under = under_before u asked before after grown tree t v low e.under;
+    }
+
+pub grown_on : (u : TaskNo) (asked : List Request) (first second third : Tree) → IsTree first → IsTree second → Grown u asked first second
+    → Grown u asked second third → Grown u asked first third
+grown_on u asked first second third tree trees grown more = record {
   last = let a = grown.last in let b = more.last in omega (arith, a, b);
   old = λ t x low at. let a = grown.last in grown.old t x low (more.old t x (omega (arith, low, a)) at);
   gone = λ t x at none. gone t x at none (with_number t second) refl;
@@ -111,14 +149,15 @@ grown_on u first second third tree trees grown more = record {
       (cases_lt second.last t.0);
 }
   where
-    gone : (t : TaskNo) (x : Task) → with_number t first ≡ Some x → with_number t third ≡ None → (o : Option Task) → with_number t second ≡ o → IsUnder first t u
+    gone : (t : TaskNo) (x : Task) → with_number t first ≡ Some x → with_number t third ≡ None → (o : Option Task) → with_number t second ≡ o
+        → IsEnded u asked first t
     gone t x at none None is = grown.gone t x at is
     gone t x at none (Some y) is =
-        under_before u first second grown trees t u (numbered first t x tree at).given (more.gone t y is none)
+        ended_before u asked first second grown trees t (numbered first t x tree at).given (more.gone t y is none)
 
 -- a son begins
-pub grown_begun : (u : TaskNo) (name : List ℕ) (s : Tree) → IsTree s → Grown u s (begun name u s)
-grown_begun u name s tree = record {
+pub grown_begun : (u : TaskNo) (asked : List Request) (name : List ℕ) (s : Tree) → IsTree s → IsBegun asked name → Grown u asked s (begun name u s)
+grown_begun u asked name s tree said = record {
   last = omega arith;
   old = λ t x low at. sym (early t low) ∙ at;
   gone = λ t x at none. absurd (none-some x (sym none ∙ (early t (numbered s t x tree at).given ∙ at)));
@@ -129,14 +168,17 @@ grown_begun u name s tree = record {
     early t low = find_before t (task (next s) name u) (ne_eqb (s.last + 1) t.0 (λ e. omega (arith, low, e))) s.tasks
 
     new : (t : TaskNo) (x : Task) → with_number t (begun name u s) ≡ Some x → s.last < t.0 → (o : Option Task) → with_number t s ≡ o → (b : Bool)
-        → has_number t (task (next s) name u) ≡ b → x.father ≡ u
+        → has_number t (task (next s) name u) ≡ b → (x.father ≡ u) × IsBegun asked x.name
     new t x at high (Some y) is b e = let low = (numbered s t y tree is).given in absurd (omega (arith, low, high))
-    new t x at high None is true e = ap (λ (y : Task). y.father) (sym (same_Some _ _ (sym (find_last t (task (next s) name u) e s.tasks is) ∙ at)))
+    new t x at high None is true e =
+        let same : task (next s) name u ≡ x = same_Some (task (next s) name u) x (sym (find_last t (task (next s) name u) e s.tasks is) ∙ at) in
+        (sym (ap (λ (y : Task). y.father) same), subst (λ (y : Task). IsBegun asked y.name) same said)
     new t x at high None is false e = absurd (none-some x (sym is ∙ (sym (find_before t (task (next s) name u) e s.tasks) ∙ at)))
 
 -- a task of the family ends
-pub grown_ended : (u w : TaskNo) (before s : Tree) → Grown u before s → IsUnder before w u → Grown u before (ended w s)
-grown_ended u w before s grown under = record {
+pub grown_ended : (u : TaskNo) (asked : List Request) (w : TaskNo) (before s : Tree) → Grown u asked before s → IsEnded u asked before w
+    → Grown u asked before (ended w s)
+grown_ended u asked w before s grown ends = record {
   last = grown.last;
   old = λ t x low at. grown.old t x low (still t x at (is_task t w) refl);
   gone = λ t x at none. gone t x at none (is_task t w) refl;
@@ -148,6 +190,7 @@ grown_ended u w before s grown under = record {
         absurd (none-some x (sym (find_gone w s.tasks) ∙ (ap (λ (v : TaskNo). with_number v (ended w s)) (sym (same_task t w is)) ∙ at)))
     still t x at false is = sym (find_rest t w is s.tasks) ∙ at
 
-    gone : (t : TaskNo) (x : Task) → with_number t before ≡ Some x → with_number t (ended w s) ≡ None → (b : Bool) → is_task t w ≡ b → IsUnder before t u
-    gone t x at none true is = subst (λ v. IsUnder before v u) (sym (same_task t w is)) under
+    gone : (t : TaskNo) (x : Task) → with_number t before ≡ Some x → with_number t (ended w s) ≡ None → (b : Bool) → is_task t w ≡ b
+        → IsEnded u asked before t
+    gone t x at none true is = subst (λ v. IsEnded u asked before v) (sym (same_task t w is)) ends
     gone t x at none false is = grown.gone t x at (sym (find_rest t w is s.tasks) ∙ none)

@@ -9,7 +9,6 @@ use Rattle.source_machine.specs.Systems.{System, Moment, does, given, on_ready, 
 use Rattle.source_machine.specs.Serving.{Served, Replies, Rests, serve}
 use Rattle.source_machine.specs.Whole.{IsSystem, AreWaits}
 use Rattle.evaluation_law.specs.Steady.{AreSteady}
-use Rattle.isolation.specs.Others.{sends_to}
 use Rattle.isolation.specs.Waits.{AreOrderly, HasTurn, Asking, GoesOn}
 use Rattle.isolation.proofs.Finding.{living}
 use Rattle.isolation.proofs.Trees.{numbered}
@@ -38,7 +37,7 @@ module _ (steady : AreSteady) (u : TaskNo) (q : Request) (m now : Moment) (is : 
       (now_sound steady u (q ∷ []) m.system is.tree low at.command at.left q at.world m at.has at.asks turning)
 
   sent : IsAsked (q ∷ []) q
-  sent = λ t e. or_left (sends_to t q) (list_any (sends_to t) []) e
+  sent = λ p e. or_left (p q) (list_any p []) e
 
   -- and behind the request
   pub serves_rightly : GoesOn u (serve u q now)

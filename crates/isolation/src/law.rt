@@ -17,8 +17,9 @@ use evaluation_law::steady;
 
 /// A turn of a task leaves all that is the own of each other that it does not reach: one that lives before it and behind it has the same name, the
 /// same packets, which mean the same, the same variables and data spaces, and does the same. It reaches those to which the task sends a message in
-/// it, and those whose call names the task, or one that ends. One that lives no more was of the family of the task that has the turn,
-/// and one that is new is a son of it. And what holds of every system holds behind the turn.
+/// it, and those whose call names the task, or one that ends. One that lives no more was of the family of the task that has the turn, which asked in it
+/// for the end of that one or of an ancestor of it; and one that is new is a son of it, and it asked in it that a task of this name begin. And what
+/// holds of every system holds behind the turn.
 pub fn others_stay()
     ensures others { (read : Env → Bool → List ℕ → Reading) → (m : Moment) → IsSystem m.system → AreOrderly m.system
         → OthersStay m.system.shared.ready (turn_asked m) m.system (turn read m).system }

@@ -1,6 +1,6 @@
 -- What is known of the cells of a command at its start: its variables hold their first values, of other cells nothing is known, and there are no data spaces.
 use Rattle.std.proofs.Common.{◌≡◌, ℕ, zero, suc, ◌+◌, ◌<◌, ◌≤◌, Bool, true, false, cond, List, [], ◌∷◌, ◌++◌, map, length, None, Some, refl, sym, ap, ◌∙◌, subst, arith}
-use Rattle.std.specs.Prelude.{slice_get, ◌&&◌, ◌==◌}
+use Rattle.std.specs.Prelude.{slice_get, replicate, ◌&&◌, ◌==◌}
 use Rattle.std.proofs.lemmas.Bool.{eq-eqb}
 use Rattle.std.proofs.lemmas.List.{length-map}
 use Rattle.eu_base.specs.declared.address.Area.{Area}
@@ -20,6 +20,7 @@ use Rattle.elan_types.specs.Eval.{Slot}
 use Rattle.elan_types.specs.Command as command
 use Rattle.elan_types.specs.Command.{blanks}
 use Rattle.place_gen.specs.Correct.{StandsFor, HasVariables, HasSpaces, HasSlots}
+use Rattle.page_pool.specs.Pool.{Pages, Tell, Known}
 use Rattle.page_table.proofs.Framing.{nil_agree, stands_of}
 use Rattle.space_memory.specs.Memories.{StandsWhole, roots, new_memory}
 use Rattle.zero_calls.proofs.Written.{at_other, behind}
@@ -166,9 +167,19 @@ pub holds_begun : (p : Program) (before after : Cells → Type 0) → before non
     → after (begun p).cells
 holds_begun p before after nothing put = put none nothing ((λ k le lt. refl), (λ k le lt. refl))
 
--- a pool without pages has room for all spaces of a new memory
-pub new_whole : StandsWhole [] (roots new_memory)
+-- a pool without pages, over what reads as zeros
+abbrev pub empty : Pages
+empty = record { slots = []; clean = [] }
+
+abbrev pub zeros : Tell
+zeros = Some (λ block. replicate 512 0)
+
+pub new_known : (pages : Pages) → pages ≡ empty → Known zeros pages
+new_known pages is = subst (Known zeros) (sym is) (record { told = refl; kept = λ p block bytes home has. absurd (cc home) })
+
+-- it has room for all spaces of a new memory
+pub new_whole : StandsWhole empty (roots new_memory)
 new_whole = record {
   few = omega arith;
-  stands = stands_of [] (None ∷ None ∷ []) [] 16 (omega arith) ∣ nil_agree (None ∷ None ∷ []) (λ p. omega arith) (omega arith) ∣₁;
+  stands = stands_of empty (None ∷ None ∷ []) [] 16 (omega arith) ∣ nil_agree (None ∷ None ∷ []) (λ p. omega arith) (omega arith) ∣₁;
 }

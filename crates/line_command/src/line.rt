@@ -15,7 +15,7 @@ use crate::status::Status;
 use crate::stream::{Line, read_line};
 use code_form::Code;
 use edge::{Sink, Source, put_all};
-use eu_base::{Bytes, MemFault, NoMemory};
+use eu_base::{Bytes, MemFault, NoMemory, Nowhere};
 use packet_store::{CompileError, Library, Refusal, Unit};
 use page_pool::Pool;
 use refusals::refusal_text;
@@ -52,13 +52,14 @@ pub fn run_line<S: Source, K: Sink>(alloc: Global, source: &mut S, sink: &mut K)
 fn written(alloc: Global, code: &Code) -> Result<Bytes, NoMemory>
     ensures { (core : Core) → core.packets ≡ [] → Behaves core code.now → IfOk result (Shows core) }
 {
-    let mut pool = Pool::new(alloc);
+    let mut pool = Pool::new(alloc)?;
     let mut memory = SpaceMemory::new(alloc);
-    let mut lent = memory.over(&mut pool);
+    let mut nowhere = Nowhere;
+    let mut lent = memory.over(&mut pool, &mut nowhere);
     match run(alloc, code, &mut lent) {
         Ok(out) => Ok(out),
         Err(MemFault::NoMemory) => Err(NoMemory),
-        // Pages in memory have no faults.
+        // What reads as zeros has no faults.
         Err(MemFault::Failed) => unreachable!(),
     }
 }

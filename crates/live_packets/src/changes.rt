@@ -6,6 +6,7 @@ ghost use Rattle.cell_kinds.specs.Kinds.{packet_kinds};
 ghost use Rattle.task_tree.specs.Tree as tree;
 ghost use Rattle.elan_names.specs.declared.interface.Interface.{Interface};
 ghost use Rattle.eu_base.specs.Room.{cells_fit};
+ghost use Rattle.eu_base.specs.SpaceOperations.{is_name};
 ghost use Rattle.elan_types.specs.Eval.{World};
 ghost use Rattle.elan_types.specs.Typing.{all_packet_kinds};
 ghost use Rattle.task_desk.specs.Desks as desks;
@@ -21,9 +22,9 @@ ghost use Rattle.live_tasks.specs.Tasks.{Stand, StandOver, most_tasks};
 
 use crate::endings::keep_inserted;
 use crate::packets::{Packets, release_unused};
-use eu_base::{Bytes, List, NoMemory};
+use eu_base::{Bytes, List, NoMemory, is_name};
 use live_tasks::Tasks;
-use refusals::{CompileError, Unit, refusal_text};
+use refusals::{CompileError, Loaded, Unit, refusal_text};
 use std::alloc::Global;
 use task_desk::TaskDesk;
 use task_numbers::{TASKS, TaskNo};
@@ -62,7 +63,7 @@ pub fn install(
     packets: &mut Packets,
     tasks: &mut Tasks,
     place: usize,
-    unit: Unit,
+    unit: Loaded,
 ) -> Result<(), NoMemory>
     requires task { place < length tasks.old.tasks }
     requires shows { is_some unit.shown ≡ true }
@@ -73,7 +74,7 @@ pub fn install(
         × Stand (kinds_in packets.new) tasks.new (with_own place (λ o. with_packet (packets.old.last + 1) (with_doing (Idle (tidied (store_in w))) o)) owns)) }
 {
     let (unit, code) = unit.parts();
-    let unit = Unit::of(unit, code);
+    let unit = Loaded::of(unit, code);
     let Some(number) = packets.next() else {
         unit.let_go();
         return Err(NoMemory);
@@ -93,12 +94,13 @@ pub fn install(
 /// Whether a son of this name can begin under a task.
 pub fn can_begin(desk: &TaskDesk, tasks: &Tasks, name: &[u8], father: TaskNo) -> bool
     ensures live { result ≡ true → tree.lives father desk.now.tree ≡ true }
+    ensures named { result ≡ true → is_name name.now ≡ true }
     ensures free { result ≡ true → number_refusal (tree.refusal name.now desk.now.tree) ≡ None }
     ensures room { result ≡ true → length tasks.now.tasks < most_tasks }
-    ensures can { tree.lives father desk.now.tree ≡ true → number_refusal (tree.refusal name.now desk.now.tree) ≡ None
+    ensures can { tree.lives father desk.now.tree ≡ true → is_name name.now ≡ true → number_refusal (tree.refusal name.now desk.now.tree) ≡ None
         → length tasks.now.tasks < most_tasks → result ≡ true }
 {
-    tasks.count() < TASKS && desk.lives(father) && desk.begin_stop(name).is_none()
+    tasks.count() < TASKS && is_name(name) && desk.lives(father) && desk.begin_stop(name).is_none()
 }
 
 /// A son of the task at a place begins, and comes last: it is idle, and has the variables of its father's packets.
@@ -113,6 +115,7 @@ pub fn begin_task(
     requires task { place < length tasks.old.tasks }
     requires room { length tasks.old.tasks < most_tasks }
     requires live { tree.lives father desk.old.tree ≡ true }
+    requires named { is_name name.now ≡ true }
     requires free { number_refusal (tree.refusal name.now desk.old.tree) ≡ None }
     ensures number { IfOk result (λ son. son ≡ tree.next desk.old.tree) }
     ensures desk { OnOk result (desk.new ≡ desks.begun name.now father desk.old) }

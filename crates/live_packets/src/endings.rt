@@ -13,11 +13,11 @@ ghost use Rattle.live_tasks.specs.Tasks.{Stand, StandOver, AgreeBut};
 use cell_kinds::{CellKinds, Packet};
 use eu_base::NoMemory;
 use live_tasks::Tasks;
-use refusals::Unit;
+use refusals::Loaded;
 use std::alloc::Global;
 
 /// A program of a task is over: the task is idle, and keeps what the program left.
-pub fn finish(alloc: Global, tasks: &mut Tasks, place: usize, unit: &Unit) -> Result<(), NoMemory>
+pub fn finish(alloc: Global, tasks: &mut Tasks, place: usize, unit: &Loaded) -> Result<(), NoMemory>
     requires task { place < length tasks.old.tasks }
     requires program { unit.now.shown ≡ None }
     ensures { OnOk result ((kinds_of : List ℕ → List Kind) (owns : List Own) (own : Own) (c : Command) (w : World) →
@@ -31,7 +31,7 @@ pub fn finish(alloc: Global, tasks: &mut Tasks, place: usize, unit: &Unit) -> Re
 }
 
 /// The command of a task is over and was no insertion that is kept: what it left behind the variables of the task's packets goes.
-pub fn settle(alloc: Global, tasks: &mut Tasks, place: usize, unit: &Unit) -> Result<(), NoMemory>
+pub fn settle(alloc: Global, tasks: &mut Tasks, place: usize, unit: &Loaded) -> Result<(), NoMemory>
     requires task { place < length tasks.old.tasks }
     ensures { OnOk result ((kinds_of : List ℕ → List Kind) (owns : List Own) (own : Own) (c : Command) (w : World) →
         StandOver kinds_of tasks.old owns place c w → slice_get owns place ≡ Some own → c.unit ≡ unit.now →
@@ -49,7 +49,7 @@ pub(crate) fn keep_inserted(
     tasks: &mut Tasks,
     place: usize,
     number: u32,
-    unit: &Unit,
+    unit: &Loaded,
 ) -> Result<(), NoMemory>
     requires task { place < length tasks.old.tasks }
     ensures { OnOk result ((kinds_of later : List ℕ → List Kind) (owns : List Own) (own : Own) (c : Command) (w : World) →

@@ -11,5 +11,5 @@ pub use endings::{finish, settle};
 pub use live_tasks::{Tasks, Went};
 pub use packets::{Packets, told};
 pub use place::{last_of, place_of};
-pub use refusals::Unit;
+pub use refusals::Loaded;
 pub use task_desk::{TaskDesk, one_reading};

@@ -14,7 +14,7 @@ ghost use Rattle.live_tasks.specs.Tasks.{Stand};
 
 use eu_base::{NoMemory, Stop};
 use live_tasks::Tasks;
-use refusals::{CompileError, Library, PACKETS, Unit};
+use refusals::{CompileError, Library, Loaded, PACKETS, Unit};
 use std::alloc::Global;
 use std::marker::Model;
 
@@ -108,7 +108,7 @@ impl Packets {
     }
 
     /// A packet lives under the next number.
-    pub fn install(&mut self, alloc: Global, unit: Unit) -> Result<u32, NoMemory>
+    pub fn install(&mut self, alloc: Global, unit: Loaded) -> Result<u32, NoMemory>
         requires { is_some unit.shown ≡ true }
         ensures number { IfOk result (λ number. number ≡ self.old.last + 1) }
         ensures installed { OnOk result (libraries.IsInstalled self.old unit self.new) }

@@ -9,7 +9,7 @@ use Rattle.eu_base.specs.Spaces.{IsKept}
 use Rattle.page_pool.specs.Pool.{Pages}
 use Rattle.page_table.specs.Entries.{Names}
 use Rattle.page_table.specs.Changes.{FreesOnly}
-use Rattle.page_table.specs.Frames.{content_at, Frames, Stands}
+use Rattle.page_table.specs.Frames.{Over, content_at, Frames, Stands}
 use Rattle.page_table.specs.Sharing.{hit, occ}
 use Rattle.page_table.proofs.Counting.{hit_some}
 use Rattle.page_table.proofs.Framing.{Same, same_self, frames_same, frames_more, stands_same, stands_first, beside, named_first, named_later}
@@ -27,11 +27,11 @@ all_named P [] h = tt
 all_named P (o ∷ os) h = (h o (named_first o os), all_named P os (λ root among. h root (named_later o root os among)))
 
 -- where no byte of the pool changed, none of a space did
-pub keeps_none : (pages : Pages) (names : Names) → KeepsBytes pages pages names
-keeps_none pages names = record { each = all_named (λ root. IsKept (content_at pages root) (content_at pages root)) names (λ root among n. refl) }
+pub keeps_none : (pages : Over) (names : Names) → KeepsBytes pages pages names
+keeps_none pages names = record { knows = λ k. k; each = all_named (λ root. IsKept (content_at pages root) (content_at pages root)) names (λ root among n. refl) }
 
 pub frees_none : (pages : Pages) → FreesOnly pages pages
-frees_none pages = record { lived = λ p alive. alive; stays = λ p alive. record { bytes = refl; home = refl } }
+frees_none pages = record { lived = λ p alive. alive; stays = λ p alive. record { shows = refl; home = refl } }
 
 pub frees_then : (p0 p1 p2 : Pages) → FreesOnly p0 p1 → FreesOnly p1 p2 → FreesOnly p0 p2
 frees_then p0 p1 p2 f g = record {
@@ -69,7 +69,7 @@ module _ (all es : List (ℕ × SpaceData)) (n : ℕ) (d : SpaceData) (is : all 
   pub last_stands : (pages : Pages) → Stands pages (space_roots all) 0 → Stands pages (d.root ∷ []) 0
   last_stands pages s = stands_first pages (d.root ∷ []) (space_roots es) 0 (stands_same pages _ _ 0 last_apart s)
 
-  pub last_frames : (old new : Pages) → Frames old new (d.root ∷ []) [] → Frames old new (space_roots all) (space_roots es)
+  pub last_frames : (old new : Over) → Frames old new (d.root ∷ []) [] → Frames old new (space_roots all) (space_roots es)
   last_frames old new f =
       frames_same old new _ _ _ _ (flip _ _ last_apart) (same_self (space_roots es)) (frames_more old new (d.root ∷ []) [] (space_roots es) f)
 
@@ -104,7 +104,7 @@ module _ (test : ℕ → Bool) where
     pub one_stands : (pages : Pages) (more : ℕ) → Stands pages (space_roots es) more → Stands pages (d.root ∷ []) more
     one_stands pages more s = stands_first pages (d.root ∷ []) (space_roots (remove_entry test es)) more (stands_same pages _ _ more (apart es d is) s)
 
-    module _ (old new : Pages) where
+    module _ (old new : Over) where
       pub one_frames : (w : SpaceData) → Frames old new (d.root ∷ []) (w.root ∷ []) → Frames old new (space_roots es) (space_roots (set_value test es w))
       one_frames w f =
           frames_same old new _ _ _ _ (flip _ _ (apart es d is)) (flip _ _ (apart_with es d w is))
@@ -115,15 +115,15 @@ module _ (test : ℕ → Bool) where
           frames_same old new _ _ _ _ (flip _ _ (apart es d is)) (same_self (space_roots (remove_entry test es)))
           (frames_more old new (d.root ∷ []) [] (space_roots (remove_entry test es)) f)
 
-      pub others_same : (after : Names) (more : ℕ) → length after ≤ 1 + more → Frames old new (d.root ∷ []) after → Stands old (space_roots es) more
+      pub others_same : (after : Names) (more : ℕ) → length after ≤ 1 + more → Frames old new (d.root ∷ []) after → Stands old.pool (space_roots es) more
           → (root : Option ℕ) → ForSome root (λ r. 1 ≤ occ r (space_roots (remove_entry test es))) → IsKept (content_at old root) (content_at new root)
       others_same after more few f s =
-          beside old new (d.root ∷ []) after (space_roots (remove_entry test es)) more few f (stands_same old _ _ more (apart es d is) s)
+          beside old new (d.root ∷ []) after (space_roots (remove_entry test es)) more few f (stands_same old.pool _ _ more (apart es d is) s)
 
-      pub others_keep : (after : Names) (more : ℕ) → length after ≤ 1 + more → Frames old new (d.root ∷ []) after → Stands old (space_roots es) more
+      pub others_keep : (after : Names) (more : ℕ) → length after ≤ 1 + more → Frames old new (d.root ∷ []) after → Stands old.pool (space_roots es) more
           → KeepsBytes old new (space_roots (remove_entry test es))
       others_keep after more few f s =
-          record { each = all_named (λ root. IsKept (content_at old root) (content_at new root)) _ (others_same after more few f s) }
+          record { knows = f.knows; each = all_named (λ root. IsKept (content_at old root) (content_at new root)) _ (others_same after more few f s) }
 
       -- a copy of it, which comes last
       pub copy_frames : (n : ℕ) → Frames old new (d.root ∷ []) (d.root ∷ d.root ∷ []) → Frames old new (space_roots es) (space_roots (es ++ (n, d) ∷ []))
@@ -137,9 +137,10 @@ module _ (test : ℕ → Bool) where
               let t = last_one n d es in
               record { long = omega (arith, s.long, t.long); occs = λ p. omega (arith, s.occs p, t.occs p) }
 
-      pub copy_keeps : Frames old new (d.root ∷ []) (d.root ∷ d.root ∷ []) → IsKept (content_at old d.root) (content_at new d.root) → Stands old (space_roots es) 1
+      pub copy_keeps : Frames old new (d.root ∷ []) (d.root ∷ d.root ∷ []) → IsKept (content_at old d.root) (content_at new d.root) → Stands old.pool (space_roots es) 1
           → KeepsBytes old new (space_roots es)
       copy_keeps f shows s = record {
+        knows = f.knows;
         each =
             let P : Option ℕ → Type 0 = λ root. IsKept (content_at old root) (content_at new root) in
             all_named P (space_roots es) (λ root among.

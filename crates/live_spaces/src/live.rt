@@ -2,10 +2,10 @@
 ghost use Rattle.std.specs.Prelude.{◌≡◌, ◌≢◌, ◌+◌, ◌<◌, ◌≤◌, [], ◌∷◌, length, None, Some, slice_get, is_some, option_map, IfOk, IfErr, OnOk, OnErr, IfSome, Err};
 ghost use Rattle.std.specs.Option.{option_copied};
 ghost use Rattle.eu_base.specs.Shapes.{cell_count, cell_kinds};
-ghost use Rattle.eu_base.specs.declared.cells.MemFault.TheVariants.{Failed};
-ghost use Rattle.page_pool.specs.Pool.{used_of};
+ghost use Rattle.eu_base.specs.Cells.{HasFaultCause};
+ghost use Rattle.page_pool.specs.Pool.{used_of, Tell, Known, Backed};
 ghost use Rattle.page_table.specs.Changes.{ChangesOnly, FreesOnly};
-ghost use Rattle.page_table.specs.Frames.{content_at, Frames, Stands};
+ghost use Rattle.page_table.specs.Frames.{over, content_at, Frames, Stands};
 ghost use Rattle.cell_layout.specs.Layout.{IsBlankFrom, IsKeptBut};
 ghost use Rattle.live_spaces.specs.Kept.{KeepsBytes, IsFilled, IsNotFilled, IsOfKind};
 ghost use Rattle.live_spaces.specs.Live.{space_at, IsLive, IsNumbered, the_space, without, with_space, with_new, space_roots};
@@ -14,7 +14,7 @@ use cell_layout::blank;
 use data_space::DataSpace;
 use eu_base::{CELLS, MemFault, NoMemory, Shape};
 use indexmap::IndexMap;
-use page_pool::Pool;
+use page_pool::{Backing, Pool};
 use std::alloc::Global;
 use std::marker::Model;
 use task_numbers::SpaceNo;
@@ -141,8 +141,8 @@ impl Spaces {
         requires agree { Stands pool.old (space_roots self.old.spaces) 0 }
         ensures others { self.new ≡ record self.old { spaces = without s.0 self.old.spaces } }
         ensures gone { space_at s.0 self.new.spaces ≡ None }
-        ensures frames { Frames pool.old pool.new (space_roots self.old.spaces) (space_roots self.new.spaces) }
-        ensures keeps { KeepsBytes pool.old pool.new (space_roots self.new.spaces) }
+        ensures frames { (tell : Tell) → Frames (over pool.old tell) (over pool.new tell) (space_roots self.old.spaces) (space_roots self.new.spaces) }
+        ensures keeps { (tell : Tell) → KeepsBytes (over pool.old tell) (over pool.new tell) (space_roots self.new.spaces) }
         ensures frees { FreesOnly pool.old pool.new }
         ensures used { used_of pool.new ≤ used_of pool.old }
     {
@@ -166,8 +166,8 @@ impl Spaces {
         requires agree { Stands pool.old (space_roots self.old.spaces) 1 }
         ensures number { IfOk result (λ s. s.0 ≡ self.old.last + 1) }
         ensures added { OnOk result (self.new ≡ with_new (the_space from.0 self.old.spaces) self.old) }
-        ensures frames { Frames pool.old pool.new (space_roots self.old.spaces) (space_roots self.new.spaces) }
-        ensures keeps { KeepsBytes pool.old pool.new (space_roots self.old.spaces) }
+        ensures frames { (tell : Tell) → Frames (over pool.old tell) (over pool.new tell) (space_roots self.old.spaces) (space_roots self.new.spaces) }
+        ensures keeps { (tell : Tell) → KeepsBytes (over pool.old tell) (over pool.new tell) (space_roots self.old.spaces) }
         ensures changes { ChangesOnly pool.old pool.new [] }
         ensures used { used_of pool.new ≤ used_of pool.old + 1 }
         ensures err { OnErr result (self.new ≡ self.old) }
@@ -192,34 +192,37 @@ impl Spaces {
 
     /// Gives the space under a number a shape, and lets its cells from 0 on hold what variables of it hold before anything
     /// was stored. After a refusal some of the cells may hold it, and no byte outside them has changed.
-    pub fn fill(
+    pub fn fill<B: Backing>(
         &mut self,
         alloc: Global,
         pool: &mut Pool,
         s: SpaceNo,
         shape: &Shape,
+        backing: &mut B,
     ) -> Result<(), MemFault>
         requires live { IsLive s.0 self.old.spaces }
         requires empty { (the_space s.0 self.old.spaces).shape ≡ None }
         requires cells { cell_count shape.now ≤ CELLS }
         requires agree { Stands pool.old (space_roots self.old.spaces) 0 }
+        requires backed { Backed (B.holds backing.old) pool.old }
         ensures others { self.new ≡ record self.old { spaces = with_space s.0 (the_space s.0 self.new.spaces) self.old.spaces } }
-        ensures filled { OnOk result (IsFilled pool.old pool.new shape.now (the_space s.0 self.old.spaces) (the_space s.0 self.new.spaces)) }
-        ensures err { OnErr result (IsNotFilled pool.old pool.new shape.now (the_space s.0 self.old.spaces) (the_space s.0 self.new.spaces)) }
-        ensures frames { Frames pool.old pool.new (space_roots self.old.spaces) (space_roots self.new.spaces) }
-        ensures keeps { KeepsBytes pool.old pool.new (space_roots (without s.0 self.old.spaces)) }
-        ensures cause { result ≢ Err Failed }
+        ensures filled { OnOk result (IsFilled (over pool.old (B.tells backing.old)) (over pool.new (B.tells backing.new)) shape.now (the_space s.0 self.old.spaces) (the_space s.0 self.new.spaces)) }
+        ensures err { OnErr result (IsNotFilled (over pool.old (B.tells backing.old)) (over pool.new (B.tells backing.new)) shape.now (the_space s.0 self.old.spaces) (the_space s.0 self.new.spaces)) }
+        ensures frames { Frames (over pool.old (B.tells backing.old)) (over pool.new (B.tells backing.new)) (space_roots self.old.spaces) (space_roots self.new.spaces) }
+        ensures keeps { KeepsBytes (over pool.old (B.tells backing.old)) (over pool.new (B.tells backing.new)) (space_roots (without s.0 self.old.spaces)) }
+        ensures cause { HasFaultCause (B.faults backing.old) (B.faults backing.new) result }
+        ensures follows { B.follows backing.old backing.new }
     {
         let Some(space) = self.spaces.get_mut(&s.0) else {
             unreachable!()
         };
-        fill_space(space, alloc, pool, shape)
+        fill_space(space, alloc, pool, shape, backing)
     }
 
     /// Lets all spaces go.
     pub fn end(self, pool: &mut Pool)
         requires agree { Stands pool.old (space_roots self.spaces) 0 }
-        ensures frames { Frames pool.old pool.new (space_roots self.spaces) [] }
+        ensures frames { (tell : Tell) → Frames (over pool.old tell) (over pool.new tell) (space_roots self.spaces) [] }
         ensures frees { FreesOnly pool.old pool.new }
         ensures used { used_of pool.new ≤ used_of pool.old }
     {
@@ -231,22 +234,25 @@ impl Spaces {
 }
 
 // Gives a space a shape, with the values of cells before anything was stored.
-fn fill_space(
+fn fill_space<B: Backing>(
     space: &mut DataSpace,
     alloc: Global,
     pool: &mut Pool,
     shape: &Shape,
+    backing: &mut B,
 ) -> Result<(), MemFault>
     requires cells { cell_count shape.now ≤ CELLS }
     requires agree { Stands pool.old (space.old.root ∷ []) 0 }
-    ensures filled { OnOk result (IsFilled pool.old pool.new shape.now space.old space.new) }
-    ensures err { OnErr result (IsNotFilled pool.old pool.new shape.now space.old space.new) }
-    ensures frames { Frames pool.old pool.new (space.old.root ∷ []) (space.new.root ∷ []) }
-    ensures cause { result ≢ Err Failed }
+    requires backed { Backed (B.holds backing.old) pool.old }
+    ensures filled { OnOk result (IsFilled (over pool.old (B.tells backing.old)) (over pool.new (B.tells backing.new)) shape.now space.old space.new) }
+    ensures err { OnErr result (IsNotFilled (over pool.old (B.tells backing.old)) (over pool.new (B.tells backing.new)) shape.now space.old space.new) }
+    ensures frames { Frames (over pool.old (B.tells backing.old)) (over pool.new (B.tells backing.new)) (space.old.root ∷ []) (space.new.root ∷ []) }
+    ensures cause { HasFaultCause (B.faults backing.old) (B.faults backing.new) result }
+    ensures follows { B.follows backing.old backing.new }
 {
     match shape.try_clone(alloc) {
         Ok(own) => {
-            blank_cells(space, pool, shape)?;
+            blank_cells(space, pool, shape, backing)?;
             space.set_shape(own);
             Ok(())
         }
@@ -255,15 +261,22 @@ fn fill_space(
 }
 
 // Lets the cells of a shape from 0 on hold what they hold before anything was stored.
-fn blank_cells(space: &mut DataSpace, pool: &mut Pool, shape: &Shape) -> Result<(), MemFault>
+fn blank_cells<B: Backing>(
+    space: &mut DataSpace,
+    pool: &mut Pool,
+    shape: &Shape,
+    backing: &mut B,
+) -> Result<(), MemFault>
     requires cells { cell_count shape.now ≤ CELLS }
     requires agree { Stands pool.old (space.old.root ∷ []) 0 }
-    ensures blank { OnOk result (IsBlankFrom (content_at pool.new space.new.root) 0 (cell_kinds shape.now)) }
-    ensures kept { IsKeptBut (content_at pool.old space.old.root) (content_at pool.new space.new.root) 0 (cell_count shape.now) }
+    requires backed { Backed (B.holds backing.old) pool.old }
+    ensures blank { OnOk result (Known (B.tells backing.old) pool.old → IsBlankFrom (content_at (over pool.new (B.tells backing.new)) space.new.root) 0 (cell_kinds shape.now)) }
+    ensures kept { Known (B.tells backing.old) pool.old → IsKeptBut (content_at (over pool.old (B.tells backing.old)) space.old.root) (content_at (over pool.new (B.tells backing.new)) space.new.root) 0 (cell_count shape.now) }
     ensures same { IsOfKind space.old space.new }
-    ensures frames { Frames pool.old pool.new (space.old.root ∷ []) (space.new.root ∷ []) }
-    ensures cause { result ≢ Err Failed }
+    ensures frames { Frames (over pool.old (B.tells backing.old)) (over pool.new (B.tells backing.new)) (space.old.root ∷ []) (space.new.root ∷ []) }
+    ensures cause { HasFaultCause (B.faults backing.old) (B.faults backing.new) result }
+    ensures follows { B.follows backing.old backing.new }
 {
-    let mut lent = space.over(pool);
+    let mut lent = space.over(pool, backing);
     blank(&mut lent, 0, shape)
 }

@@ -56,6 +56,16 @@ module _ (desk : Desk) (library : Library) (live : Live) (was : Machine) (is : m
   pub here : (m : Moment) → StandsAt was m → Here m
   here m s = subst (λ (w : Machine). StandsAt w m) (sym is) s
 
+  -- where all tasks stand for the same, so does the machine
+  pub same_owns : (later : Live) → ((owns : List Own) → Stand (kinds_in library) live owns → Stand (kinds_in library) later owns) → (m : Moment)
+      → StandsAt was m → StandsAt (machine desk library later) m
+  same_owns later each m s = let h = here m s in record {
+    owns = h.owns;
+    is = h.is;
+    machine = record { as_many = h.machine.as_many; given = h.machine.given; numbered = h.machine.numbered };
+    stand = each h.owns h.stand;
+  }
+
   -- ---- the desk
 
   pub looked : {A : Type 0} (f : Moment → A) (r : A) → ((owns : List Own) → r ≡ f (moment desk library owns)) → (m : Moment) → StandsAt was m → r ≡ f m

@@ -22,8 +22,8 @@ use crate::runs::{Finished, Went};
 use crate::system::System;
 use eu_base::{Bytes, NoMemory, Stop};
 use live_packets::{
-    Unit, begin_task, can_begin, can_end, finish, install, last_of, one_reading, place_of, remove,
-    said_of, settle, start_unit, told,
+    Loaded, begin_task, can_begin, can_end, finish, install, last_of, one_reading, place_of,
+    remove, said_of, settle, start_unit, told,
 };
 use std::alloc::Global;
 use task_numbers::TaskNo;
@@ -207,7 +207,7 @@ fn as_went(went: live_packets::Went) -> Went
         live_packets::Went::Marked => Went::Marked,
         live_packets::Went::Asks(request) => Went::Asks(request),
         live_packets::Went::Over { unit, code, stop } => Went::Over(Finished {
-            unit: Unit::of(unit, code),
+            unit: Loaded::of(unit, code),
             stop,
         }),
     }
@@ -222,14 +222,14 @@ fn as_finished(went: live_packets::Went) -> Option<Finished>
         live_packets::Went::NotRunning | live_packets::Went::Marked | live_packets::Went::Asks(_) =>
             None,
         live_packets::Went::Over { unit, code, stop } => Some(Finished {
-            unit: Unit::of(unit, code),
+            unit: Loaded::of(unit, code),
             stop,
         }),
     }
 }
 
 // Whether later texts see nothing of it.
-fn is_program(unit: &Unit) -> bool
+fn is_program(unit: &Loaded) -> bool
     ensures { result ≡ is_none unit.now.shown }
 {
     unit.compiled().shown.is_none()

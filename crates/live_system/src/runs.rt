@@ -1,11 +1,11 @@
 //! How a task went on.
 use eu_base::{Request, Stop};
-use live_packets::Unit;
+use live_packets::Loaded;
 
 /// A command that is over, and how it stopped, if it did.
 #[derive(Drop)]
 pub struct Finished {
-    pub unit: Unit,
+    pub unit: Loaded,
     pub stop: Option<Stop>,
 }
 

@@ -78,12 +78,13 @@ impl System {
 
     /// The text of the space under a name; a text has less than 2^32 bytes.
     pub fn source_under(
-        &self,
+        &mut self,
         alloc: Global,
         task: TaskNo,
         name: &[u8],
     ) -> Result<SourceText, NoMemory>
-        ensures source { IfOk result (λ source. (m : Moment) → StandsAt self.now m → source ≡ source_of (space_under name.now (kept task m.system))) }
+        ensures source { IfOk result (λ source. (m : Moment) → StandsAt self.old m → source ≡ source_of (space_under name.now (kept task m.system))) }
+        ensures kept { (m : Moment) → StandsAt self.old m → StandsAt self.new m }
         ensures short { IfOk result (λ source. (text : List ℕ) → source ≡ sources.Text text → length text < 2 ^ 32) }
     {
         match place_of(&self.desk, &self.tasks, task) {

@@ -9,14 +9,13 @@ use Rattle.eu_base.specs.Spaces.{IsKept}
 use Rattle.eu_base.specs.Cells.{Cells}
 use Rattle.page_pool.specs.Pool.{Pages}
 use Rattle.page_table.specs.Entries.{Names}
-use Rattle.page_table.specs.Frames.{content_at}
 use Rattle.page_table.specs.Sharing.{occ}
 use Rattle.page_table.proofs.Framing.{named_first, named_later}
 use Rattle.text_heap.specs.Held.{HoldsCells}
 use Rattle.text_heap.proofs.Kept.{kept_held}
-use Rattle.live_spaces.specs.Kept.{KeepsBytes}
 use Rattle.live_spaces.specs.Live.{the_space}
-use Rattle.space_memory.specs.Memories.{MemoryData, HoldsAll, roots, is_there, bytes_in}
+use Rattle.space_memory.specs.Memories.{MemoryData, roots, is_there}
+use Rattle.task_job.specs.Here.{Knows, content_at, KeepsBytes, HoldsAll, bytes_in}
 use Rattle.space_memory.proofs.Areas.{root_among}
 use Rattle.elan_types.specs.Eval.{World}
 use Rattle.task_job.specs.Below.source_machine.specs.Stores.{Store}
@@ -42,7 +41,7 @@ module _ (old new : Pages) (m : MemoryData) (bytes : KeepsBytes old new (roots m
       (root_among (λ root. IsKept (content_at old root) (content_at new root)) s.0 m.spaces is bytes.each.1.1) (h.there (Space s) is)
 
   pub cells_carried : HoldsAll new m cells
-  cells_carried = record { there = area_carried; gone = h.gone }
+  cells_carried = record { knows = bytes.knows h.knows; there = area_carried; gone = h.gone }
 
 module _ (old new : Pages) (m : MemoryData) (bytes : KeepsBytes old new (roots m)) where
   pub keeps_carried : (kinds : List Kind) (store : Store) → Keeps kinds old m store → Keeps kinds new m store
@@ -91,9 +90,10 @@ module _ (kinds : List Kind) (old new : Pages) (task : Task) (own : Own) where
       by (Entering name lines store) k = (k.0, keeps_carried old new task.memory bytes kinds store k.1)
       by (Running c) k = (k.0, k.1, runs_carried old new task.memory bytes kinds k.0 c k.2)
 
-  module _ (kept : (root : Option ℕ) → ForSome root (λ r. 1 ≤ occ r (roots task.memory)) → (n : ℕ) → content_at new root n ≡ content_at old root n) where
+  module _ (known : Knows old → Knows new)
+      (kept : (root : Option ℕ) → ForSome root (λ r. 1 ≤ occ r (roots task.memory)) → (n : ℕ) → content_at new root n ≡ content_at old root n) where
     pub stands_carried : StandsFor kinds old task own → StandsFor kinds new task own
-    stands_carried h = stands_kept (record { each = each_kept old new (roots task.memory) kept }) h
+    stands_carried h = stands_kept (record { knows = known; each = each_kept old new (roots task.memory) kept }) h
 
     pub over_carried : (c : Command) (w : World) → StandsOver kinds old task own c w → StandsOver kinds new task own c w
     over_carried c w h = record {
@@ -102,6 +102,6 @@ module _ (kinds : List Kind) (old new : Pages) (task : Task) (own : Own) where
       own_are = h.own_are;
       kinds_are = h.kinds_are;
       leaves =
-          leaves_carried old new task.memory (record { each = each_kept old new (roots task.memory) kept }) kinds c.unit.core.inserted (store_in w)
+          leaves_carried old new task.memory (record { knows = known; each = each_kept old new (roots task.memory) kept }) kinds c.unit.core.inserted (store_in w)
           h.leaves;
     }

@@ -6,9 +6,8 @@ use Rattle.eu_base.specs.declared.request.Request.{Request}
 use Rattle.eu_base.specs.declared.request.Reply.{Reply}
 use Rattle.eu_base.specs.Requests.{Answer, plain, is_plain}
 use Rattle.page_pool.specs.Pool.{Pages}
-use Rattle.page_table.specs.Frames.{content_at}
 use Rattle.page_table.specs.Sharing.{occ}
-use Rattle.live_spaces.specs.Kept.{KeepsBytes}
+use Rattle.task_job.specs.Here.{Knows, content_at, KeepsBytes}
 use Rattle.space_memory.specs.Memories.{MemoryData, roots}
 use Rattle.task_job.specs.Below.source_machine.specs.Tasks.{Own, request_of}
 use Rattle.task_job.specs.Standing.{Receives}
@@ -40,9 +39,9 @@ request_due kinds old new task memory own q a h asks got = record {
 
 -- it is still due where no byte of its spaces changed. One that asks nothing stands for what it stood for
 module _ (kinds : List Kind) (old new : Pages) (task : Task) (own : Own) (a : Answer) (h : Due kinds old task own a)
-    (kept : (root : Option ℕ) → ForSome root (λ r. 1 ≤ occ r (roots task.memory)) → (n : ℕ) → content_at new root n ≡ content_at old root n) where
+    (known : Knows old → Knows new) (kept : (root : Option ℕ) → ForSome root (λ r. 1 ≤ occ r (roots task.memory)) → (n : ℕ) → content_at new root n ≡ content_at old root n) where
   bytes : KeepsBytes old new (roots task.memory)
-  bytes = record { each = each_kept old new (roots task.memory) kept }
+  bytes = record { knows = known; each = each_kept old new (roots task.memory) kept }
 
   pub due_carried : Due kinds new task own a
   due_carried = by (request_of own.doing) refl h.received

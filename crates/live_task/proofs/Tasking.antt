@@ -11,11 +11,10 @@ use Rattle.cell_kinds.specs.Kinds.{packet_kinds}
 use Rattle.eu_base.specs.declared.address.Area.TheVariants.{Run, Packets}
 use Rattle.eu_base.specs.Cells.{Free}
 use Rattle.eu_base.specs.DataSpaces.{no_spaces}
-use Rattle.page_table.specs.Frames.{content_at}
 use Rattle.text_heap.specs.Held.{HoldsCells}
-use Rattle.live_spaces.specs.Kept.{KeepsBytes}
 use Rattle.live_spaces.specs.Live.{no_space}
-use Rattle.space_memory.specs.Memories.{MemoryData, HoldsAll, roots, new_memory}
+use Rattle.space_memory.specs.Memories.{MemoryData, roots, new_memory}
+use Rattle.task_job.specs.Here.{content_at, KeepsBytes, HoldsAll}
 use Rattle.code_form.specs.declared.halt.Halt.{Halt}
 use Rattle.code_form.specs.declared.halt.Halt.TheVariants as halts
 use Rattle.code_form.specs.Runs.{asked}
@@ -273,7 +272,7 @@ not_ended pages was d stop same not = by was.doing same
 -- what is given back of a command that is over
 pub whole_job : (old new : Pages) (was now : Task) (stop : Option Stop) (how : Went) (job : Job) → IsSoundJob job
     → EndsAs old new was now stop how (does.Running job) → IsWhole how
-whole_job old new was now stop how job s ends = subst IsWhole (sym ends.0) (s.unit, s.behaves)
+whole_job old new was now stop how job s ends = subst IsWhole (sym ends.0) s.unit
 
 pub whole : (old new : Pages) (was now : Task) (stop : Option Stop) (how : Went) → IsSound was → EndsAs old new was now stop how was.doing → IsWhole how
 whole old new was now stop how sound ends = by was.doing sound ends

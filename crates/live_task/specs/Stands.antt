@@ -10,7 +10,6 @@ use Rattle.cell_kinds.specs.Kinds.{packet_kinds}
 use Rattle.page_pool.specs.Pool.{Pages}
 use Rattle.space_names.specs.Directory as directory
 use Rattle.space_memory.specs.Memories.{MemoryData}
-use Rattle.code_gen.specs.Correct.{Behaves}
 use Rattle.elan_types.specs.Eval.{World}
 use Rattle.elan_types.specs.Command.{Ending, Ended, Stopped, OutOfMarks, Asks}
 use Rattle.task_job.specs.Below.packet_store.specs.Units.{IsUnit}
@@ -78,7 +77,7 @@ IsSound task = IsSoundDoing task.memory task.doing
 
 -- what is given back of a command that is over
 abbrev pub IsWhole : Went → Type 0
-IsWhole (went.Over unit code stop) = IsUnit unit × Behaves unit.core code
+IsWhole (went.Over unit code stop) = IsUnit unit
 IsWhole _ = Unit {0}
 
 -- ---- a command that goes on

@@ -5,11 +5,12 @@ ghost use Rattle.eu_base.specs.Requests.{Answer};
 ghost use Rattle.eu_base.specs.Room.{cells_fit};
 ghost use Rattle.cell_kinds.specs.Kinds.{packet_kinds};
 ghost use Rattle.page_pool.specs.Pool.{Pages};
-ghost use Rattle.page_table.specs.Frames.{Frames, Stands};
+ghost use Rattle.page_table.specs.Frames.{Stands};
 ghost use Rattle.code_form.specs.Runs.{asked};
-ghost use Rattle.code_gen.specs.Correct.{Behaves};
+ghost use Rattle.command_code.specs.Codes.{IsCodeOf};
 ghost use Rattle.task_job.specs.Below.packet_store.specs.Units.{IsUnit};
-ghost use Rattle.space_memory.specs.Memories.{roots, most_roots, StandsWhole, MemoryFrames};
+ghost use Rattle.space_memory.specs.Memories.{roots, most_roots, StandsWhole};
+ghost use Rattle.task_job.specs.Here.{Knows, Frames, MemoryFrames};
 ghost use Rattle.task_job.specs.Below.source_machine.specs.Stores.{Store, new_store};
 ghost use Rattle.task_job.specs.Below.source_machine.specs.Tasks.{Command, Own, Idle as Idles, Running as Runs, starting, request_of, replied, store_in, with_doing};
 ghost use Rattle.task_job.specs.Below.source_machine.specs.Monitor.{with_packet};
@@ -79,7 +80,7 @@ impl Doing {
 impl Task {
     /// A task that is idle and has nothing.
     pub fn new(alloc: Global) -> Task
-        ensures new { (pages : Pages) → StandsFor [] pages result (record { packets = []; doing = Idles new_store }) }
+        ensures new { (pages : Pages) → Knows pages → StandsFor [] pages result (record { packets = []; doing = Idles new_store }) }
         ensures sound { IsSound result }
         ensures frames { (pages : Pages) → Frames pages pages [] (roots result.memory) }
     {
@@ -126,10 +127,9 @@ impl Task {
         code: Code,
     ) -> Result<(), NoMemory>
         requires unit { IsUnit unit }
-        requires behaves { Behaves unit.core code }
         requires sound { IsSound self.old }
         requires agree { StandsWhole pool.old (roots self.old.memory) }
-        ensures starts { OnOk result ((own : Own) (store : Store) → own.doing ≡ Idles store →
+        ensures starts { OnOk result ((own : Own) (store : Store) → IsCodeOf unit.core code → own.doing ≡ Idles store →
             StandsFor (packet_kinds unit.core.packets) pool.old self.old own →
             StandsFor (packet_kinds unit.core.packets) pool.new self.new (with_doing (Runs (starting unit store)) own)) }
         ensures sound { IsSound self.new }

@@ -2,10 +2,10 @@
 use Rattle.std.proofs.Common.{◌≡◌, ℕ, ◌+◌, ◌≤◌, List, ◌∷◌, length, set, Option, None, Some, sym, ap, subst, arith}
 use Rattle.std.specs.Prelude.{slice_get, Result, Ok, Err, OnOk, OnErr}
 use Rattle.page_pool.specs.Pool.{Pages}
-use Rattle.page_table.specs.Frames.{Frames}
 use Rattle.page_table.proofs.Framing.{agree_same}
-use Rattle.space_memory.specs.Memories.{MemoryData, roots, most_roots, MemoryFrames}
-use Rattle.space_memory.specs.Changes.{frames_before, memory_frames_none}
+use Rattle.space_memory.specs.Memories.{MemoryData, roots, most_roots}
+use Rattle.task_tidy.specs.Below.task_job.specs.Here.{Frames, MemoryFrames}
+use Rattle.task_tidy.specs.Below.task_job.proofs.Here.{frames_before, memory_frames_none}
 use Rattle.task_tidy.specs.Below.live_task.specs.declared.task.Task.{Task}
 use Rattle.task_tidy.specs.Below.live_task.specs.Stands.{IsSound}
 use Rattle.live_tasks.specs.Tasks.{IsFit, task_roots}

@@ -4,7 +4,7 @@ use Rattle.std.specs.Prelude.{slice_get}
 use Rattle.std.proofs.lemmas.Option.{same_Some, slice_get_within}
 use Rattle.eu_base.specs.declared.value.Kind.{Kind}
 use Rattle.page_pool.specs.Pool.{Pages}
-use Rattle.space_memory.specs.Memories.{MemoryFrames}
+use Rattle.task_tidy.specs.Below.task_job.specs.Here.{MemoryFrames}
 use Rattle.elan_types.specs.Eval.{World}
 use Rattle.elan_types.specs.Command.{Ending, Ended, Stopped, OutOfMarks, Asks}
 use Rattle.task_tidy.specs.Below.source_machine.specs.Tasks.{Command, Doing, Idle, Entering, Running, Own, ending, spent, with_doing}

@@ -12,11 +12,13 @@ use Rattle.eu_base.specs.declared.value.Kind.{Kind}
 use Rattle.eu_base.specs.Requests.{Answer}
 use Rattle.page_pool.specs.Pool.{Pages}
 use Rattle.page_table.specs.Entries.{Names}
-use Rattle.page_table.specs.Frames.{content_at, Frames, Stands}
+use Rattle.page_table.specs.Frames.{Stands}
 use Rattle.page_table.specs.Sharing.{occ, Agree, most_spaces}
-use Rattle.page_table.proofs.Framing.{Same, agree_same, agree_after, stands_of}
+use Rattle.page_table.proofs.Framing.{Same, agree_same, stands_of}
 use Rattle.data_space.specs.Data.{SpaceData}
-use Rattle.space_memory.specs.Memories.{MemoryData, most_roots, MemoryFrames, forgotten, with_new}
+use Rattle.space_memory.specs.Memories.{MemoryData, most_roots, forgotten, with_new}
+use Rattle.task_tidy.specs.Below.task_job.specs.Here.{Knows, content_at, Frames, MemoryFrames}
+use Rattle.task_tidy.specs.Below.task_job.proofs.Here.{agree_after}
 use Rattle.task_tidy.specs.Below.source_machine.specs.Tasks.{Own, replied, with_doing}
 use Rattle.task_tidy.specs.Below.source_machine.specs.Systems.{with_own}
 use Rattle.task_tidy.specs.Below.live_task.specs.declared.task.Task.{Task}
@@ -268,14 +270,14 @@ module _ (kinds_of : List ℕ → List Kind) where
   abbrev pub ForOr : Pages → Task → Owed → Type 0
   ForOr pages task x = StandsOrDue (kinds_of x.own.packets) pages task x.own x.due
 
-  or_carried : (old new : Pages) (task : Task) (x : Owed)
+  or_carried : (old new : Pages) (task : Task) (x : Owed) → (Knows old → Knows new)
       → ((root : Option ℕ) → ForSome root (λ r. 1 ≤ occ r (task_roots task)) → (n : ℕ) → content_at new root n ≡ content_at old root n)
       → ForOr old task x → ForOr new task x
-  or_carried old new task x same h = by x.due h
+  or_carried old new task x known same h = by x.due h
     where
       by : (due : Option Answer) → StandsOrDue (kinds_of x.own.packets) old task x.own due → StandsOrDue (kinds_of x.own.packets) new task x.own due
-      by None h = stands_carried (kinds_of x.own.packets) old new task x.own same h
-      by (Some a) h = due_carried (kinds_of x.own.packets) old new task x.own a h same
+      by None h = stands_carried (kinds_of x.own.packets) old new task x.own known same h
+      by (Some a) h = due_carried (kinds_of x.own.packets) old new task x.own a h known same
 
   none_due : (pages : Pages) (tasks : List Task) (owns : List Own) → StandIn kinds_of pages tasks owns → AllZip (ForOr pages) tasks (map paid owns)
   none_due pages [] [] h = tt

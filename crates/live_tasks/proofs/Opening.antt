@@ -5,7 +5,7 @@ use Rattle.std.proofs.lemmas.List.{length-append}
 use Rattle.std.proofs.lemmas.List.Elements.{All-from_recursion}
 use Rattle.eu_base.specs.declared.value.Kind.{Kind}
 use Rattle.page_pool.specs.Pool.{Pages}
-use Rattle.page_table.specs.Frames.{Frames}
+use Rattle.task_tidy.specs.Below.task_job.specs.Here.{Knows, Frames}
 use Rattle.page_table.specs.Sharing.{Agree}
 use Rattle.page_table.proofs.Framing.{nil_agree}
 use Rattle.space_memory.specs.Memories.{most_roots}
@@ -14,18 +14,25 @@ use Rattle.task_tidy.specs.Below.live_task.specs.Stands.{StandsFor, IsSound}
 use Rattle.task_tidy.specs.Below.source_machine.specs.Systems.{new_own}
 use Rattle.live_tasks.specs.Tasks.{IsFit, StandIn, task_roots}
 
+-- a pool that was just made
+abbrev pub empty : Pages
+empty = record { slots = []; clean = [] }
+
+pub empty_known : Knows empty
+empty_known = record { told = refl; kept = λ p block bytes home has. absurd (cc home) }
+
 module _ (first second : Task) (one : length (task_roots first) ≡ 2) (two : length (task_roots second) ≡ 2)
     (none : (pages : Pages) → Frames pages pages [] (task_roots first)) (nil : (pages : Pages) → Frames pages pages [] (task_roots second))
     (sound : IsSound first) (safe : IsSound second) where
-  with_second : Agree [] (task_roots second ++ [])
-  with_second = ((nil []).frame [] (nil_agree [] (λ p. refl) (omega arith)) (omega (arith, two, length-append (task_roots second) []))).agrees
+  with_second : Agree empty (task_roots second ++ [])
+  with_second = ((nil empty).frame [] (nil_agree [] (λ p. refl) (omega arith)) (omega (arith, two, length-append (task_roots second) []))).agrees
 
-  with_both : Agree [] (task_roots first ++ (task_roots second ++ []))
+  with_both : Agree empty (task_roots first ++ (task_roots second ++ []))
   with_both =
-      ((none []).frame (task_roots second ++ []) with_second
+      ((none empty).frame (task_roots second ++ []) with_second
       (omega (arith, one, two, length-append (task_roots second) [], length-append (task_roots first) (task_roots second ++ [])))).agrees
 
-  pub opening_fits : IsFit [] (first ∷ (second ∷ []))
+  pub opening_fits : IsFit empty (first ∷ (second ∷ []))
   opening_fits = record {
     agree = ∣ with_both ∣₁;
     few = omega arith;

@@ -7,8 +7,9 @@ use Rattle.eu_base.specs.declared.value.Kind.{Kind}
 use Rattle.eu_base.specs.Room.{cells_fit}
 use Rattle.page_pool.specs.Pool.{Pages}
 use Rattle.page_table.specs.Entries.{Names}
-use Rattle.space_memory.specs.Memories.{most_roots, MemoryFrames}
-use Rattle.space_memory.specs.Changes.{memory_frames_none}
+use Rattle.space_memory.specs.Memories.{most_roots}
+use Rattle.task_tidy.specs.Below.task_job.specs.Here.{MemoryFrames}
+use Rattle.task_tidy.specs.Below.task_job.proofs.Here.{memory_frames_none}
 use Rattle.elan_types.specs.Eval.{World}
 use Rattle.task_tidy.specs.Below.source_machine.specs.Tasks.{Command, Own, Idle, store_in, with_doing}
 use Rattle.task_tidy.specs.Below.source_machine.specs.Systems.{with_own}

@@ -9,12 +9,14 @@ use Rattle.std.proofs.lemmas.Option.{none-some, same_Some}
 use Rattle.std.proofs.Math.Logic.{∥∥₁_map}
 use Rattle.page_pool.specs.Pool.{Pages}
 use Rattle.page_table.specs.Entries.{Names}
-use Rattle.page_table.specs.Frames.{content_at, Frames, Stands}
+use Rattle.page_table.specs.Frames.{Stands}
 use Rattle.page_table.specs.Sharing.{occ, Agree, most_spaces}
 use Rattle.page_table.proofs.Counting.{occ-append, names_same}
 use Rattle.page_table.proofs.Moving.{in_like, equal}
-use Rattle.page_table.proofs.Framing.{Same, same_self, reorder, agree_same, agree_after, stands_of}
-use Rattle.space_memory.specs.Memories.{most_roots, StandsWhole, MemoryFrames}
+use Rattle.page_table.proofs.Framing.{Same, same_self, reorder, agree_same, stands_of}
+use Rattle.space_memory.specs.Memories.{most_roots, StandsWhole}
+use Rattle.task_tidy.specs.Below.task_job.specs.Here.{Knows, content_at, Frames, MemoryFrames}
+use Rattle.task_tidy.specs.Below.task_job.proofs.Here.{agree_after}
 use Rattle.task_ends.specs.Refused.{RoomFrames, Refused}
 use Rattle.live_tasks.proofs.Zips.{remove_set, found_set, zip_others}
 
@@ -26,12 +28,14 @@ with_nil pages a room g = record { few = room; agrees = in_like (names_same 2 a 
 pub room_frames : (old new : Pages) (before after : Names) → length after ≤ length before + most_roots → Frames old new before after
     → RoomFrames old new before after most_roots
 room_frames old new before after few f = record {
+  knows = f.knows;
   homes = f.homes;
   frame = λ rest agree room. f.frame rest agree (omega (arith, few, room, length-append before rest, length-append after rest));
 }
 
 pub room_memory : (old new : Pages) (before after : Names) → MemoryFrames old new before after → RoomFrames old new before after most_roots
 room_memory old new before after f = record {
+  knows = f.knows;
   homes = f.homes;
   frame = λ rest agree room. f.frame rest agree (omega (arith, room, length-append before rest));
 }
@@ -187,17 +191,17 @@ module _ {T : Type 0} (roots : T → Names) where
 
 -- What an owner stands for, over the pages of its spaces alone.
 module _ {T O : Type 0} (roots : T → Names) (For : Pages → T → O → Type 0)
-    (carried : (old new : Pages) (t : T) (o : O)
+    (carried : (old new : Pages) (t : T) (o : O) → (Knows old → Knows new)
     → ((root : Option ℕ) → ForSome root (λ r. 1 ≤ occ r (roots t)) → (n : ℕ) → content_at new root n ≡ content_at old root n) → For old t o → For new t o) where
-  pub all_carried : (old new : Pages) (ts : List T) (os : List O)
+  pub all_carried : (old new : Pages) (ts : List T) (os : List O) → (Knows old → Knows new)
       → ((root : Option ℕ) → ForSome root (λ r. 1 ≤ occ r (all roots ts)) → (n : ℕ) → content_at new root n ≡ content_at old root n)
       → AllZip (For old) ts os → AllZip (For new) ts os
-  all_carried old new [] [] same h = tt
-  all_carried old new [] (o ∷ os) same h = absurd h
-  all_carried old new (t ∷ ts) [] same h = absurd h
-  all_carried old new (t ∷ ts) (o ∷ os) same h = (
-    carried old new t o (λ root among. same root (λ r is. omega (arith, among r is, occ-append r (roots t) (all roots ts)))) h.0,
-    all_carried old new ts os (λ root among. same root (λ r is. omega (arith, among r is, occ-append r (roots t) (all roots ts)))) h.1,
+  all_carried old new [] [] known same h = tt
+  all_carried old new [] (o ∷ os) known same h = absurd h
+  all_carried old new (t ∷ ts) [] known same h = absurd h
+  all_carried old new (t ∷ ts) (o ∷ os) known same h = (
+    carried old new t o known (λ root among. same root (λ r is. omega (arith, among r is, occ-append r (roots t) (all roots ts)))) h.0,
+    all_carried old new ts os known (λ root among. same root (λ r is. omega (arith, among r is, occ-append r (roots t) (all roots ts)))) h.1,
   )
 
   -- after a call of the owner at a place the others stand for what they stood for
@@ -205,4 +209,4 @@ module _ {T O : Type 0} (roots : T → Names) (For : Pages → T → O → Type 
       → length (all roots ts) + most_roots ≤ most_spaces → (b : Names) → RoomFrames old new (roots t) b most_roots
       → (os : List O) → AllZip (For old) ts os → AllZip (For new) (remove ts k) (remove os k)
   others_stand old new ts k t at agree room b framed os h =
-      all_carried old new (remove ts k) (remove os k) (others_same roots old ts k t at agree room new b framed) (zip_others (For old) ts os k h)
+      all_carried old new (remove ts k) (remove os k) framed.knows (others_same roots old ts k t at agree room new b framed) (zip_others (For old) ts os k h)

@@ -10,11 +10,13 @@ use Rattle.std.proofs.lemmas.Slice.Zip.{AllZip-long, all_zipped_more}
 use Rattle.eu_base.specs.declared.value.Kind.{Kind}
 use Rattle.page_pool.specs.Pool.{Pages}
 use Rattle.page_table.specs.Entries.{Names}
-use Rattle.page_table.specs.Frames.{content_at, Frames, Stands}
-use Rattle.space_memory.specs.Memories.{most_roots, StandsWhole, MemoryFrames}
-use Rattle.space_memory.specs.Changes.{frames_before}
+use Rattle.page_table.specs.Frames.{Stands}
+use Rattle.space_memory.specs.Memories.{most_roots, StandsWhole}
+use Rattle.task_tidy.specs.Below.task_job.specs.Here.{Knows, content_at, Frames, MemoryFrames}
+use Rattle.task_tidy.specs.Below.task_job.proofs.Here.{frames_before, agree_after}
 use Rattle.page_table.specs.Sharing.{occ, Agree, most_spaces}
 use Rattle.page_table.proofs.Framing.{agree_same}
+use Rattle.page_table.proofs.Moving.{equal}
 use Rattle.task_tidy.specs.Below.source_machine.specs.Tasks.{Own}
 use Rattle.task_tidy.specs.Below.source_machine.specs.Systems.{with_own}
 use Rattle.task_tidy.specs.Below.source_machine.specs.Ends.{has_packet}
@@ -55,10 +57,10 @@ module _ (kinds_of : List ℕ → List Kind) where
   abbrev pub For : Pages → Task → Own → Type 0
   For pages task own = StandsFor (kinds_of own.packets) pages task own
 
-  carried : (old new : Pages) (task : Task) (own : Own)
+  carried : (old new : Pages) (task : Task) (own : Own) → (Knows old → Knows new)
       → ((root : Option ℕ) → ForSome root (λ r. 1 ≤ occ r (task_roots task)) → (n : ℕ) → content_at new root n ≡ content_at old root n)
       → For old task own → For new task own
-  carried old new task own same = stands_carried (kinds_of own.packets) old new task own same
+  carried old new task own known same = stands_carried (kinds_of own.packets) old new task own known same
 
   -- the task at a place stands for what it has for itself
   pub stands_at : (pages : Pages) (tasks : List Task) (owns : List Own) (k : ℕ) (task : Task) (own : Own) → StandIn kinds_of pages tasks owns
@@ -131,7 +133,7 @@ module _ (old new : Pages) (tasks : List Task) (k : ℕ) (task : Task) (at : sli
 
     module _ (kinds_of : List ℕ → List Kind) (owns : List Own) where
       rest_stands : StandIn kinds_of old (remove tasks k) (remove owns k) → StandIn kinds_of new (remove tasks k) (remove owns k)
-      rest_stands h = all_carried task_roots (For kinds_of) (carried kinds_of) old new (remove tasks k) (remove owns k)
+      rest_stands h = all_carried task_roots (For kinds_of) (carried kinds_of) old new (remove tasks k) (remove owns k) framed.knows
           (others_same task_roots old tasks k task at fit.agree (roots_fit old tasks fit) new (task_roots later) framed) h
 
       -- where the others stand and it stands for this, all stand
@@ -211,6 +213,25 @@ module _ (old new : Pages) (tasks : List Task) (k : ℕ) (task : Task) (at : sli
         (others_stand task_roots (For kinds_of) (carried kinds_of) old new tasks k task at fit.agree (roots_fit old tasks fit)
         (task_roots task ++ task_roots son) framed owns h) father)
         stands
+
+-- pages were looked at
+module _ (old new : Pages) (tasks : List Task) (fit : IsFit old tasks) (frames : (mine : Names) → Frames old new mine mine) where
+  few_roots : length (all_roots tasks) ≤ most_spaces
+  few_roots = omega (arith, roots_fit old tasks fit)
+
+  pub looked_fits : IsFit new tasks
+  looked_fits = record {
+    agree = agree_after old new [] [] (all_roots tasks) few_roots (frames []) fit.agree;
+    few = fit.few;
+    small = fit.small;
+    sound = fit.sound;
+  }
+
+  looked_same : (root : Option ℕ) → ForSome root (λ r. 1 ≤ occ r (all_roots tasks)) → (n : ℕ) → content_at new root n ≡ content_at old root n
+  looked_same root among n = equal _ _ fit.agree (λ a. ((frames []).frame (all_roots tasks) a few_roots).same root among n)
+
+  pub looked_stands : (kinds_of : List ℕ → List Kind) (owns : List Own) → StandIn kinds_of old tasks owns → StandIn kinds_of new tasks owns
+  looked_stands kinds_of owns h = all_carried task_roots (For kinds_of) (carried kinds_of) old new tasks owns (frames []).knows looked_same h
 
 -- some task has a packet
 pub any_has : (kinds_of : List ℕ → List Kind) (pages : Pages) (tasks : List Task) (owns : List Own) (n : ℕ) → StandIn kinds_of pages tasks owns

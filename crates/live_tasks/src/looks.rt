@@ -83,13 +83,15 @@ impl Tasks {
     }
 
     /// The text of the space under a name; one that is too long is one that memory is wanting for.
-    pub fn source_under(&self, alloc: Global, k: usize, name: &[u8]) -> Result<Source, NoMemory>
-        requires task { k < length self.now.tasks }
-        ensures source { IfOk result (λ source. (kinds_of : Lists ℕ → Lists Kind) (owns : Lists Own) (own : Own) → Stand kinds_of self.now owns →
+    pub fn source_under(&mut self, alloc: Global, k: usize, name: &[u8]) -> Result<Source, NoMemory>
+        requires task { k < length self.old.tasks }
+        ensures source { IfOk result (λ source. (kinds_of : Lists ℕ → Lists Kind) (owns : Lists Own) (own : Own) → Stand kinds_of self.old owns →
             slice_get owns k ≡ Some own → source ≡ source_in (space_under name.now (now own.doing))) }
         ensures short { IfOk result IsShort }
+        ensures as_many { length self.new.tasks ≡ length self.old.tasks }
+        ensures kept { (kinds_of : Lists ℕ → Lists Kind) (owns : Lists Own) → Stand kinds_of self.old owns → Stand kinds_of self.new owns }
     {
-        task_tidy::source_under(alloc, &self.tasks[k], &self.pool, name)
+        task_tidy::source_under(alloc, &self.tasks[k], &mut self.pool, name)
     }
 
     /// How many data spaces the tasks have, one with another: at most 256.

@@ -5,7 +5,7 @@ ghost use Rattle.eu_base.specs.declared.value.Kind.{Kind};
 ghost use Rattle.eu_base.specs.Requests.{plain, is_plain};
 ghost use Rattle.eu_base.specs.Room.{cells_fit};
 ghost use Rattle.cell_kinds.specs.Kinds.{packet_kinds};
-ghost use Rattle.code_gen.specs.Correct.{Behaves};
+ghost use Rattle.command_code.specs.Codes.{IsCodeOf};
 ghost use Rattle.elan_types.specs.Eval.{World};
 ghost use Rattle.task_tidy.specs.Below.packet_store.specs.Units.{IsUnit};
 ghost use Rattle.task_tidy.specs.Below.source_machine.specs.Stores.{Store, heir, tidied};
@@ -52,13 +52,11 @@ impl Tasks {
     pub fn opening(alloc: Global) -> Result<Tasks, NoMemory>
         ensures { IfOk result (λ tasks. (kinds_of : List ℕ → List Kind) → kinds_of [] ≡ [] → Stand kinds_of tasks (new_own ∷ (new_own ∷ []))) }
     {
+        let pool = Pool::new(alloc)?;
         let mut tasks = Vec::with_capacity(alloc, 2)?;
         tasks.push_reserved(Task::new(alloc));
         tasks.push_reserved(Task::new(alloc));
-        Ok(Tasks {
-            pool: Pool::new(alloc),
-            tasks,
-        })
+        Ok(Tasks { pool, tasks })
     }
 
     /// Lets all tasks go, with their pages.
@@ -111,8 +109,7 @@ impl Tasks {
     ) -> Result<(), NoMemory>
         requires task { k < length self.old.tasks }
         requires unit { IsUnit unit }
-        requires behaves { Behaves unit.core code }
-        ensures { OnOk result ((kinds_of : List ℕ → List Kind) (owns : List Own) (own : Own) (store : Store) → Stand kinds_of self.old owns →
+        ensures { OnOk result ((kinds_of : List ℕ → List Kind) (owns : List Own) (own : Own) (store : Store) → IsCodeOf unit.core code → Stand kinds_of self.old owns →
             slice_get owns k ≡ Some own → own.doing ≡ Idles store → packet_kinds unit.core.packets ≡ kinds_of own.packets →
             Stand kinds_of self.new (with_own k (with_doing (Runs (starting unit store))) owns)) }
     {

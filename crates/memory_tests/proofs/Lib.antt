@@ -1,3 +1,5 @@
 mod Spaces
 mod Threes
 mod Tasks
+mod Settled
+mod Homes

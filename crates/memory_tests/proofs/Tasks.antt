@@ -4,7 +4,7 @@ use Rattle.std.proofs.Math.Logic.{∥∥₁_map}
 use Rattle.std.proofs.lemmas.List.{append-nil, length-append}
 use Rattle.page_pool.specs.Pool.{Pages}
 use Rattle.page_table.specs.Entries.{Names}
-use Rattle.page_table.specs.Frames.{Frames, Stands}
+use Rattle.page_table.specs.Frames.{Over, Frames, Stands}
 use Rattle.page_table.specs.Sharing.{Agree}
 use Rattle.space_memory.specs.Memories.{MemoryData, MemoryFrames, roots, forgotten, with_new, new_memory, heir}
 use Rattle.space_memory.proofs.Framed.{roots_long, taken_same, given_same}
@@ -27,7 +27,8 @@ module _ (a b : Names) where
   pub first_stands : (pages : Pages) → ∥ Agree pages (a ++ b) ∥₁ → Stands pages a 0
   first_stands pages some = record { some = ∥∥₁_map some (λ g. (b, g, omega (arith, g.few))) }
 
-  pub first_after : (old new : Pages) (later : Names) → length later ≤ length a → Frames old new a later → ∥ Agree old (a ++ b) ∥₁ → ∥ Agree new (later ++ b) ∥₁
+  pub first_after : (old new : Over) (later : Names) → length later ≤ length a → Frames old new a later → ∥ Agree old.pool (a ++ b) ∥₁
+      → ∥ Agree new.pool (later ++ b) ∥₁
   first_after old new later few f some = ∥∥₁_map some (λ g.
       (f.frame b g (omega (arith, few, g.few, length-append a b, length-append later b))).agrees)
 
@@ -38,24 +39,26 @@ pub now_stand : (pages : Pages) (names : Names) → ∥ Agree pages names ∥₁
 now_stand pages names some = first_stands names [] pages (subst (λ (all : Names). ∥ Agree pages all ∥₁) (sym (append-nil names)) some)
 
 -- and one that needs some, where at most 16 spaces live in each memory
-module _ (old : Pages) (m o : MemoryData) (also : length o.spaces ≤ 16) (some : ∥ Agree old (roots m ++ roots o) ∥₁) where
-  pub memory_stands : (more : ℕ) → more ≤ 100 → length m.spaces ≤ 16 → Stands old (roots m) more
+module _ (pages : Pages) (m o : MemoryData) (also : length o.spaces ≤ 16) (some : ∥ Agree pages (roots m ++ roots o) ∥₁) where
+  pub memory_stands : (more : ℕ) → more ≤ 100 → length m.spaces ≤ 16 → Stands pages (roots m) more
   memory_stands more few live = record {
     some = ∥∥₁_map some (λ g.
         (roots o, g, omega (arith, few, live, also, roots_long m.spaces, roots_long o.spaces, length-append (roots m) (roots o))));
   }
 
-  pub memory_after : (new : Pages) (n : MemoryData) → length n.spaces ≤ 16 → Frames old new (roots m) (roots n) → ∥ Agree new (roots n ++ roots o) ∥₁
+-- and what is there after it
+module _ (old : Over) (m o : MemoryData) (also : length o.spaces ≤ 16) (some : ∥ Agree old.pool (roots m ++ roots o) ∥₁) where
+  pub memory_after : (new : Over) (n : MemoryData) → length n.spaces ≤ 16 → Frames old new (roots m) (roots n) → ∥ Agree new.pool (roots n ++ roots o) ∥₁
   memory_after new n live f = ∥∥₁_map some (λ g.
       (f.frame (roots o) g (omega (arith, live, also, roots_long n.spaces, roots_long o.spaces, length-append (roots n) (roots o)))).agrees)
 
   -- a son beside both
-  pub son_agrees : (new : Pages) (son : MemoryData) → length m.spaces ≤ 16 → son ≡ heir m → Frames old new (roots m) (roots m ++ roots son)
-      → ∥ Agree new (roots o ++ (roots m ++ roots son)) ∥₁
+  pub son_agrees : (new : Over) (son : MemoryData) → length m.spaces ≤ 16 → son ≡ heir m → Frames old new (roots m) (roots m ++ roots son)
+      → ∥ Agree new.pool (roots o ++ (roots m ++ roots son)) ∥₁
   son_agrees new son live is f =
       let two = ap (λ (u : MemoryData). length (roots u)) is in
       let both = roots m ++ roots son in
-      turned new both (roots o) (∥∥₁_map some (λ g.
+      turned new.pool both (roots o) (∥∥₁_map some (λ g.
       (f.frame (roots o) g (omega (
         arith,
         two,
@@ -68,8 +71,8 @@ module _ (old : Pages) (m o : MemoryData) (also : length o.spaces ≤ 16) (some 
       ))).agrees))
 
 -- a program ran over the one memory
-pub memory_went : (old new : Pages) (m n o : MemoryData) → length o.spaces ≤ 16 → ∥ Agree old (roots m ++ roots o) ∥₁
-    → MemoryFrames old new (roots m) (roots n) → ∥ Agree new (roots n ++ roots o) ∥₁
+pub memory_went : (old new : Over) (m n o : MemoryData) → length o.spaces ≤ 16 → ∥ Agree old.pool (roots m ++ roots o) ∥₁
+    → MemoryFrames old new (roots m) (roots n) → ∥ Agree new.pool (roots n ++ roots o) ∥₁
 memory_went old new m n o also some f = ∥∥₁_map some (λ g. (f.frame (roots o) g (omega (arith, also, roots_long o.spaces))).agrees)
 
 -- a space is in hand, and comes back, or is let go
@@ -90,11 +93,11 @@ module _ (b : Names) where
 pub in_hand : (pages : Pages) (d : Option ℕ) (rest : Names) → ∥ Agree pages (d ∷ rest) ∥₁ → Stands pages (d ∷ []) 0
 in_hand pages d rest some = record { some = ∥∥₁_map some (λ a. (rest, a, omega (arith, a.few))) }
 
-pub let_go : (old new : Pages) (d : Option ℕ) (rest : Names) → Frames old new (d ∷ []) [] → ∥ Agree old (d ∷ rest) ∥₁ → ∥ Agree new rest ∥₁
+pub let_go : (old new : Over) (d : Option ℕ) (rest : Names) → Frames old new (d ∷ []) [] → ∥ Agree old.pool (d ∷ rest) ∥₁ → ∥ Agree new.pool rest ∥₁
 let_go old new d rest f some = ∥∥₁_map some (λ a. (f.frame rest a (omega (arith, a.few))).agrees)
 
 pub fewer : (n : ℕ) (m taken : MemoryData) → taken ≡ forgotten n m → length taken.spaces ≤ length m.spaces
 fewer n m taken is = subst (λ (t : MemoryData). length t.spaces ≤ length m.spaces) (sym is) (without_long n m.spaces)
 
-pub none_agree : ∥ Agree [] (roots new_memory ++ roots new_memory) ∥₁
+pub none_agree : ∥ Agree (record { slots = []; clean = [] }) (roots new_memory ++ roots new_memory) ∥₁
 none_agree = ∣ nil_agree (None ∷ None ∷ None ∷ None ∷ []) (λ p. omega arith) (omega arith) ∣₁

@@ -21,5 +21,5 @@ module _ (pages : Pages) (a b c : Option ℕ) where
 pub swap : (pages : Pages) (a b : Option ℕ) → ∥ Agree pages (a ∷ b ∷ []) ∥₁ → ∥ Agree pages (b ∷ a ∷ []) ∥₁
 swap pages a b = agree_same pages (a ∷ b ∷ []) (b ∷ a ∷ []) (record { long = refl; occs = λ p. omega arith })
 
-pub none_agree : ∥ Agree [] (None ∷ None ∷ None ∷ []) ∥₁
+pub none_agree : ∥ Agree (record { slots = []; clean = [] }) (None ∷ None ∷ None ∷ []) ∥₁
 none_agree = ∣ nil_agree (None ∷ None ∷ None ∷ []) (λ p. omega arith) (omega arith) ∣₁

@@ -2,8 +2,8 @@
 ghost use Rattle.std.specs.Prelude.{◌≡◌, ◌<◌};
 ghost use Rattle.eu_base.specs.SpaceCells.{IsThere};
 
-use crate::out::tell;
-use eu_base::{Addr, Area, Bytes, Memory, Set};
+use crate::out::{tell, tell_done, tell_fault, tell_set};
+use eu_base::{Addr, Area, Bytes, Memory};
 use std::alloc::Global;
 use task_numbers::SpaceNo;
 
@@ -58,17 +58,6 @@ fn address(area: Area, cell: u8) -> Addr
     }
 }
 
-fn has<M: Memory>(alloc: Global, memory: &mut M, at: Addr, told: &[u8]) -> bool
-    requires low { at.cell < 16384 }
-    requires there { IsThere (M.heads memory.old) at.area }
-    ensures { M.follows memory.old memory.new }
-{
-    match memory.text(at) {
-        Ok(found) => found.as_slice() == text(alloc, told).as_slice(),
-        Err(_) => false,
-    }
-}
-
 /// Does a step, and tells whether it went as it says. It begins with `r` for the cells of the command, `p` for those of the packets or the number
 /// of a data space, and the cell. Behind that `=5` puts 5, and `?5` finds it there; `<a3` puts the text that begins with `a` and has 3 bytes, `>a3` finds it
 /// there, and `/a3` finds no room for it; and `#5` finds 5 blocks free.
@@ -79,19 +68,27 @@ pub fn go<M: Memory>(alloc: Global, out: &mut Bytes, memory: &mut M, step: &[u8]
         return
     };
     let at = address(area_of(memory, *area), *cell);
-    let right = match *what {
-        b'=' => memory.set_cell(at, number(told)).is_ok(),
-        b'?' => memory.cell(at).unwrap_or(u64::MAX) == number(told),
-        b'<' => matches!(
-            memory.set_text(at, text(alloc, told).as_slice()),
-            Ok(Set::Done)
-        ),
-        b'/' => matches!(
-            memory.set_text(at, text(alloc, told).as_slice()),
-            Ok(Set::HeapFull)
-        ),
-        b'>' => has(alloc, memory, at, told),
-        _ => u64::from(memory.rooms(at.area).unwrap_or(u32::MAX)) == number(told),
-    };
-    tell(out, right);
+    match *what {
+        b'=' => tell_done(out, memory.set_cell(at, number(told))),
+        b'?' => match memory.cell(at) {
+            Ok(found) => tell(out, found == number(told)),
+            Err(fault) => tell_fault(out, fault),
+        },
+        b'<' => {
+            let t = text(alloc, told);
+            tell_set(out, memory.set_text(at, t.as_slice()), false);
+        }
+        b'/' => {
+            let t = text(alloc, told);
+            tell_set(out, memory.set_text(at, t.as_slice()), true);
+        }
+        b'>' => match memory.text(at) {
+            Ok(found) => tell(out, found.as_slice() == text(alloc, told).as_slice()),
+            Err(fault) => tell_fault(out, fault),
+        },
+        _ => match memory.rooms(at.area) {
+            Ok(rooms) => tell(out, u64::from(rooms) == number(told)),
+            Err(fault) => tell_fault(out, fault),
+        },
+    }
 }

@@ -5,8 +5,8 @@ ghost use Rattle.page_table.specs.Sharing.{Agree};
 use crate::numbers::next;
 use crate::out::{put, put_digit, tell};
 use data_space::DataSpace;
-use eu_base::Bytes;
-use page_pool::Pool;
+use eu_base::{Bytes, NoMemory};
+use page_pool::{Nowhere, Pool};
 use std::alloc::Global;
 use std::mem;
 
@@ -20,13 +20,13 @@ struct Three {
     ghost agree: { ∥ Agree pool (first.root ∷ second.root ∷ third.root ∷ []) ∥₁ },
 }
 
-fn untouched(alloc: Global) -> Three {
-    Three {
-        pool: Pool::new(alloc),
+fn untouched(alloc: Global) -> Result<Three, NoMemory> {
+    Ok(Three {
+        pool: Pool::new(alloc)?,
         first: DataSpace::nil(),
         second: DataSpace::nil(),
         third: DataSpace::of(5, None, None),
-    }
+    })
 }
 
 impl Three {
@@ -39,13 +39,18 @@ impl Three {
     fn write(&mut self, at: u32, from: &[u8]) -> bool
         requires { at + length from.now ≤ 262144 }
     {
-        self.first.write(&mut self.pool, at, from).is_ok()
+        self.first
+            .write(&mut self.pool, at, from, &mut Nowhere)
+            .is_ok()
     }
 
-    fn read(&self, at: u32, into: &mut [u8])
+    fn read(&mut self, at: u32, into: &mut [u8]) -> bool
         requires { at + length into.old ≤ 262144 }
+        ensures { length into.new ≡ length into.old }
     {
-        self.first.read(&self.pool, at, into);
+        self.first
+            .read(&mut self.pool, at, into, &mut Nowhere)
+            .is_ok()
     }
 
     // The third space is a copy of the first. A refusal changes nothing.
@@ -108,14 +113,14 @@ fn put_copy(plain: &mut [u8], from: usize, to: usize)
     }
 }
 
-fn agree(spaces: &Three, plain: &[u8], from: usize) -> bool
+fn agree(spaces: &mut Three, plain: &[u8], from: usize) -> bool
     requires { from ≤ 524288 }
 {
     let mut part = [0; 1024];
     for k in 0..256 {
-        spaces.read(1024 * k, &mut part);
+        let read = spaces.read(1024 * k, &mut part);
         let at = from + 1024 * k as usize;
-        if plain.get(at..at + 1024) != Some(&part) {
+        if !read || plain.get(at..at + 1024) != Some(&part) {
             return false;
         }
     }
@@ -157,7 +162,10 @@ fn all_agree(spaces: &mut Three, plain: &[u8]) -> bool {
 
 // Whether all is right after many writes and copies, and no page is left where all are forgotten.
 fn are_right(alloc: Global, plain: &mut [u8]) -> bool {
-    let mut spaces = untouched(alloc);
+    let Ok(made) = untouched(alloc) else {
+        return false;
+    };
+    let mut spaces = made;
     let mut seed = 7;
     let mut done = true;
     for turns in 0..150usize {
@@ -184,8 +192,9 @@ fn step(alloc: Global, out: &mut Bytes, spaces: &mut Three, step: u8) {
         b't' => spaces.turn(),
         b'?' => {
             let mut found = [0];
-            spaces.read(0, &mut found);
-            put(out, &found);
+            if spaces.read(0, &mut found) {
+                put(out, &found);
+            }
         }
         b'#' => put_digit(out, spaces.pool.used()),
         b'K' => put_digit(out, u32::from(spaces.first.kind().unsigned_abs())),
@@ -199,7 +208,10 @@ fn step(alloc: Global, out: &mut Bytes, spaces: &mut Three, step: u8) {
 const SHARING: &[u8] = b"ttKaL#y#yttct#?tt?K";
 
 pub fn pages_are_shared(alloc: Global) -> bool {
-    let mut spaces = untouched(alloc);
+    let Ok(made) = untouched(alloc) else {
+        return false;
+    };
+    let mut spaces = made;
     let mut out = Bytes::new(alloc);
     for k in 0..SHARING.len() {
         step(alloc, &mut out, &mut spaces, SHARING[k]);

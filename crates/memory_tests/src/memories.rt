@@ -10,7 +10,8 @@ use task_numbers::SpaceNo;
 /// kinds of their cells; how many live, and the last number; `r` and `p` where the command and the packets have pages; and how many
 /// pages are left at the end. `m` makes a space. The steps on one space end with its number: `y` makes a copy, `k` sets the type, `b` fills
 /// it, `f` forgets it, `t` takes it and gives it a new number, and `n` with a letter behind it names it so. `ua` takes the name `a` out, `c`
-/// clears the command's cells, `i` lets a son inherit, and `x` goes over to the other of the two. What begins with `r`, `p` or the
+/// clears the command's cells, `i` lets a son inherit, `x` goes over to the other of the two, and `s` lets all pages settle, so that they are loaded
+/// at their next use. What begins with `r`, `p` or the
 /// number of a data space is a step over cells, and what begins with `l` one of those on spaces, through the memory as it is lent.
 pub const STEPS: &str = "\
 m m na1 nb2 nc1 f1 => 12 b2 : 2 1 of 2 left 0
@@ -32,6 +33,7 @@ r0<c114660 r5=1 p5=2 p0<p29 p0#4094 r0#1 p0>p29 r5?1 p5?2 r0>c114660 => ++++++++
 lm lb1 10=1 ly1 20?1 10=0 20?1 10?0 lna2 lf1 => 1++2+++++ a2 : 2bbbb 1 of 2 left 0
 lm lk1 lna1 lnb1 lua ly1 lnc2 lnc1 lb1 lb1 => 1+++2+-+- b1 c2 : 1kbbbb 2k 2 of 2 left 0
 ly1 lk1 lb1 lf1 lua lna1 => ---- : 0 of 0 left 0
+p3=5 pz=7 i s p3=6 x pz=8 p3?5 pz?8 x p3?6 pz?7 => +++++++++ : 0 of 0 p left 0
 lm lk1 lK1 lC1 r9?2 lB1 r8?1 lS1 lS2 lF2 => 1+++++++-+ : 1kbbbb 1 of 2 r left 0
 ";
 
@@ -70,6 +72,7 @@ fn go(alloc: Global, out: &mut Bytes, task: &mut Task, step: &[u8]) {
         [b'c'] => task.clear_run(),
         [b'i'] => tell(out, task.inherit()),
         [b'x'] => task.turn(),
+        [b's'] => task.settle(),
         [b'l', step @ ..] => task.go_over(alloc, out, &shape(alloc), step),
         _ => task.go(alloc, out, step),
     }
@@ -135,12 +138,18 @@ fn put_all(alloc: Global, out: &mut Bytes, task: &Task) {
     put(out, if packets { b" p" } else { b"" });
 }
 
+/// Does steps, with a blank between two.
+pub fn play(alloc: Global, out: &mut Bytes, task: &mut Task, steps: &str) {
+    for step in steps.split(' ') {
+        go(alloc, out, task, step.as_bytes());
+    }
+}
+
 // What a row tells.
 fn put_row(alloc: Global, out: &mut Bytes, steps: &str) {
-    let mut task = Task::new(alloc);
-    for step in steps.split(' ') {
-        go(alloc, out, &mut task, step.as_bytes());
-    }
+    let Ok(made) = Task::new(alloc) else { return };
+    let mut task = made;
+    play(alloc, out, &mut task, steps);
     put_all(alloc, out, &task);
     put(out, b" left ");
     put_digit(out, task.ended());

@@ -5,7 +5,7 @@ ghost use Rattle.page_table.specs.Frames.{Stands};
 use crate::out::{put, tell};
 use data_space::DataSpace;
 use eu_base::{Bytes, Kind, Shape};
-use page_pool::Pool;
+use page_pool::{Nowhere, Pool};
 use source_texts::{is_source, read_source, write_source};
 use std::alloc::Global;
 
@@ -18,16 +18,17 @@ fn line(alloc: Global, bytes: &[u8]) -> Bytes
 }
 
 // Tells whether a space has the shape of a source text, and its text.
-fn put_space(alloc: Global, out: &mut Bytes, pool: &Pool, space: &DataSpace)
-    requires agree { Stands pool.now (space.now.root ∷ []) 0 }
+fn put_space(alloc: Global, out: &mut Bytes, pool: &mut Pool, space: &DataSpace)
+    requires agree { Stands pool.old (space.now.root ∷ []) 0 }
+    ensures agree { Stands pool.new (space.now.root ∷ []) 0 }
 {
     if let Some(shape) = space.shape() {
         tell(out, is_source(shape));
     }
-    match read_source(alloc, pool, space) {
+    match read_source(alloc, pool, space, &mut Nowhere) {
         Ok(Some(text)) => put(out, text.as_slice()),
         Ok(None) => put(out, b"none"),
-        Err(_) => put(out, b"no memory"),
+        Err(_) => put(out, b"refused"),
     }
 }
 
@@ -39,12 +40,13 @@ fn put_lines(alloc: Global, out: &mut Bytes) {
         line(alloc, &[b'x'; 250]),
         line(alloc, b"c"),
     ];
-    let mut pool = Pool::new(alloc);
-    if let Ok(mut space) = write_source(alloc, &mut pool, &lines) {
+    let Ok(made) = Pool::new(alloc) else { return };
+    let mut pool = made;
+    if let Ok(mut space) = write_source(alloc, &mut pool, &lines, &mut Nowhere) {
         tell(out, space.kind() == 1004);
-        put_space(alloc, out, &pool, &space);
+        put_space(alloc, out, &mut pool, &space);
         space.set_shape(Shape::Cell(Kind::Text));
-        put_space(alloc, out, &pool, &space);
+        put_space(alloc, out, &mut pool, &space);
     }
 }
 

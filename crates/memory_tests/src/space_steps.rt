@@ -1,5 +1,5 @@
 //! Steps over the data spaces of a memory. What a call may not be asked is not done.
-use crate::out::{put_digit, tell};
+use crate::out::{put_digit, tell, tell_done, tell_fault};
 use cell_layout::cells as cell_count;
 use eu_base::{Addr, Area, Bytes, CELLS, Memory, Shape, SpaceOperation, Value};
 use live_spaces::MOST_LIVE;
@@ -24,13 +24,13 @@ fn make<M: Memory>(memory: &mut M, from: Option<SpaceNo>) -> Option<SpaceNo>
     }
 }
 
-fn fill<M: Memory>(memory: &mut M, s: SpaceNo, shape: &Shape) -> bool
+fn fill<M: Memory>(out: &mut Bytes, memory: &mut M, s: SpaceNo, shape: &Shape)
     ensures { M.follows memory.old memory.new }
 {
     if memory.live(s) && memory.has_shape(s).is_none() && cell_count(shape) <= u32::from(CELLS) {
-        memory.fill(s, shape).is_ok()
+        tell_done(out, memory.fill(s, shape));
     } else {
-        false
+        tell(out, false);
     }
 }
 
@@ -76,24 +76,30 @@ fn forgets<M: Memory>(memory: &mut M, s: SpaceNo) -> bool
 }
 
 // The command's cell 9 is a DATASPACE variable, and cell 8 a BOUND one.
-fn copies<M: Memory>(memory: &mut M, s: SpaceNo) -> bool
+fn copies<M: Memory>(out: &mut Bytes, memory: &mut M, s: SpaceNo)
     ensures { M.follows memory.old memory.new }
 {
     let at = Addr {
         area: Area::Run,
         cell: 9,
     };
-    matches!(assign_copy(memory, at, Some(s)), Ok(None))
+    match assign_copy(memory, at, Some(s)) {
+        Ok(stopped) => tell(out, stopped.is_none()),
+        Err(fault) => tell_fault(out, fault),
+    }
 }
 
-fn binds<M: Memory>(alloc: Global, memory: &mut M, shape: &Shape, s: SpaceNo) -> bool
+fn binds<M: Memory>(alloc: Global, out: &mut Bytes, memory: &mut M, shape: &Shape, s: SpaceNo)
     ensures { M.follows memory.old memory.new }
 {
     let at = Addr {
         area: Area::Run,
         cell: 8,
     };
-    matches!(assign_bound(memory, alloc, at, shape, Some(s)), Ok(None))
+    match assign_bound(memory, alloc, at, shape, Some(s)) {
+        Ok(stopped) => tell(out, stopped.is_none()),
+        Err(fault) => tell_fault(out, fault),
+    }
 }
 
 // Whether the shape stands in it, with a truth value first.
@@ -128,14 +134,14 @@ pub fn go<M: Memory>(alloc: Global, out: &mut Bytes, memory: &mut M, shape: &Sha
         [b'm'] => put_made(out, make(memory, None)),
         [b'y', s] => put_made(out, make(memory, Some(space(*s)))),
         [b'k', s] => tell(out, set_kind(memory, space(*s), 103)),
-        [b'b', s] => tell(out, fill(memory, space(*s), shape)),
+        [b'b', s] => fill(out, memory, space(*s), shape),
         [b'f', s] => memory.forget(space(*s)),
         [b'n', letter, s] => tell(out, name(memory, &[*letter], space(*s))),
         [b'u', letter] => memory.unname(&[*letter]),
         [b'K', s] => tell(out, has_kind(memory, space(*s))),
         [b'F', s] => tell(out, forgets(memory, space(*s))),
-        [b'C', s] => tell(out, copies(memory, space(*s))),
-        [b'B', s] => tell(out, binds(alloc, memory, shape, space(*s))),
+        [b'C', s] => copies(out, memory, space(*s)),
+        [b'B', s] => binds(alloc, out, memory, shape, space(*s)),
         [b'S', s] => tell(out, stands(alloc, memory, shape, space(*s))),
         _ => {}
     }

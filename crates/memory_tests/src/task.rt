@@ -1,11 +1,12 @@
-//! A task's memory and that of a son, over one pool.
+//! A task's memory and that of a son, over one pool of which pages stand in blocks.
 ghost use Rattle.std.specs.Prelude.{◌≡◌, ◌++◌};
 ghost use Rattle.page_table.specs.Sharing.{Agree};
 ghost use Rattle.space_memory.specs.Memories.{roots};
 
+use crate::blocks::{BLOCKS, Blocks};
 use crate::{cells, space_steps};
 use cell_layout::cells as cell_count;
-use eu_base::{Bytes, CELLS, Shape};
+use eu_base::{Bytes, CELLS, NoMemory, Shape};
 use live_spaces::MOST_LIVE;
 use page_pool::Pool;
 use space_memory::SpaceMemory;
@@ -13,22 +14,24 @@ use std::alloc::Global;
 use std::mem;
 use task_numbers::SpaceNo;
 
-/// A memory, on which each call works, and another, with their pool. What a call may not be asked is not done.
+/// A memory, on which each call works, and another, with their pool and its blocks. What a call may not be asked is not done.
 #[derive(Drop)]
 pub struct Task {
     pool: Pool,
+    pub blocks: Blocks,
     pub memory: SpaceMemory,
     other: SpaceMemory,
     ghost agree: { ∥ Agree pool (roots memory ++ roots other) ∥₁ },
 }
 
 impl Task {
-    pub fn new(alloc: Global) -> Task {
-        Task {
-            pool: Pool::new(alloc),
+    pub fn new(alloc: Global) -> Result<Task, NoMemory> {
+        Ok(Task {
+            pool: Pool::paged(alloc, 1)?,
+            blocks: Blocks::new(alloc)?,
             memory: SpaceMemory::new(alloc),
             other: SpaceMemory::new(alloc),
-        }
+        })
     }
 
     /// The other memory becomes that of a son.
@@ -74,7 +77,9 @@ impl Task {
             && self.memory.has_shape(s).is_none()
             && cell_count(shape) <= u32::from(CELLS)
         {
-            self.memory.fill(&mut self.pool, s, shape).is_ok()
+            self.memory
+                .fill(&mut self.pool, s, shape, &mut self.blocks)
+                .is_ok()
         } else {
             false
         }
@@ -119,7 +124,7 @@ impl Task {
     pub fn go(&mut self, alloc: Global, out: &mut Bytes, step: &[u8]) {
         prove!(self.memory.count() <= MOST_LIVE);
         prove!(self.other.count() <= MOST_LIVE);
-        let mut lent = self.memory.over(&mut self.pool);
+        let mut lent = self.memory.over(&mut self.pool, &mut self.blocks);
         cells::go(alloc, out, &mut lent, step);
     }
 
@@ -127,8 +132,25 @@ impl Task {
     pub fn go_over(&mut self, alloc: Global, out: &mut Bytes, shape: &Shape, step: &[u8]) {
         prove!(self.memory.count() <= MOST_LIVE);
         prove!(self.other.count() <= MOST_LIVE);
-        let mut lent = self.memory.over(&mut self.pool);
+        let mut lent = self.memory.over(&mut self.pool, &mut self.blocks);
         space_steps::go(alloc, out, &mut lent, shape, step);
+    }
+
+    // A content page that is changed settles in the block of its own number, where there is one.
+    fn settle_page(&mut self, p: u32) {
+        if p < BLOCKS && self.pool.lives(p) && !self.pool.pinned(p) && self.pool.changed(p) {
+            let mut bytes = [0; 512];
+            self.pool.peek(p, 0, &mut bytes);
+            self.blocks.put(p, &bytes);
+            self.pool.settle(p, p);
+        }
+    }
+
+    /// The content pages that are changed leave memory.
+    pub fn settle(&mut self) {
+        for p in 0..self.pool.past() {
+            self.settle_page(p);
+        }
     }
 
     pub fn clear_run(&mut self) {
@@ -143,6 +165,7 @@ impl Task {
             mut pool,
             memory,
             other,
+            ..
         } = self;
         memory.end(&mut pool);
         other.end(&mut pool);

@@ -1,15 +1,19 @@
 //! Scenes over real pages.
 
 use crate::texts::{Scene, is_right};
-use crate::{data_spaces, memories, sources};
+use crate::{data_spaces, failing, memories, pages, sources};
 use data_space::DataSpace;
-use page_pool::Pool;
+use page_pool::{Nowhere, Pool};
 use std::alloc::Global;
 
 fn over_space(alloc: Global, scene: Scene) -> bool {
-    let mut pool = Pool::new(alloc);
+    let Ok(made) = Pool::new(alloc) else {
+        return false;
+    };
+    let mut pool = made;
     let mut space = DataSpace::nil();
-    let mut lent = space.over(&mut pool);
+    let mut nowhere = Nowhere;
+    let mut lent = space.over(&mut pool, &mut nowhere);
     is_right(alloc, &mut lent, scene)
 }
 
@@ -29,6 +33,10 @@ fn wrong_scene(alloc: Global) -> &'static str {
         "steps over a memory"
     } else if !sources::lines_come_back(alloc) {
         "lines come back from a source text"
+    } else if !pages::steps_are_right(alloc) {
+        "steps over pages of a disk"
+    } else if !failing::nothing_is_lost(alloc) {
+        "each load fails in turn, and nothing is lost"
     } else {
         ""
     }

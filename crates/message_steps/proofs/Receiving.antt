@@ -15,7 +15,8 @@ use Rattle.eu_base.specs.Values.{SpaceNo, kind_of, cell_of, space_of, number_in,
 use Rattle.eu_base.specs.Cells.{Cell, Free, Word, Letters, Cells, IsCell, held_of, written, cell_blocks}
 use Rattle.eu_base.specs.DataSpaces.{Heads, SpaceChange, heads_after, is_live}
 use Rattle.eu_base.specs.SpaceCells.{IsThere}
-use Rattle.eu_base.specs.SpacePlaces.{is_in}
+use Rattle.eu_base.specs.Room.{cells_fit}
+use Rattle.eu_base.specs.SpacePlaces.{lies_in, is_in}
 use Rattle.eu_base.specs.SpaceOperations.{forgetting}
 use Rattle.eu_base.specs.Requests.{Suits}
 use Rattle.code_form.specs.declared.operand.Operand.{Operand}
@@ -29,14 +30,21 @@ use Rattle.space_calls.specs.Planned.{cells_after}
 use Rattle.message_steps.specs.Received.{HeldSo, IsPlaceOf, Then, ReceivedIn, MissedIn, ReceivedTo, IsMissed, MissedAll}
 
 -- an area is there where cells stand in it
-pub area_of : (ks : List Kind) (area : Area) (x : ℕ) (heads : Heads) → is_in ks area x heads ≡ true → IsThere heads area
-area_of ks areas.Run x heads e = tt
-area_of ks areas.Packets x heads e = tt
-area_of ks (areas.Space s) x heads e = first (is_live s heads) _ e
+pub area_of : (ks : List Kind) (area : Area) (x : ℕ) (heads : Heads) → lies_in ks area x heads ≡ true → IsThere heads area
+area_of ks area x heads e = by area (second (cells_fit (x + length ks)) (is_in ks area x heads) e)
   where
     first : (a b : Bool) → (a && b) ≡ true → a ≡ true
     first true b e = refl
     first false b e = absurd (cc e)
+
+    second : (a b : Bool) → (a && b) ≡ true → b ≡ true
+    second true b e = e
+    second false b e = absurd (cc e)
+
+    by : (area : Area) → is_in ks area x heads ≡ true → IsThere heads area
+    by areas.Run e = tt
+    by areas.Packets e = tt
+    by (areas.Space s) e = first (is_live s heads) _ e
 
 -- a memory after changes has the data spaces after them
 mem_is : (list : List SpaceChange) (m : Mem) → mem_after list m ≡ mem_of (heads_after list m.heads) (mem_after list m).cells
@@ -54,7 +62,7 @@ no_text (item.Task n) e is = cc is
 no_text (item.Space s) e is = cc is
 
 module _ (before after : Cells → Type 0) (had has : Heads) (a : Addr) (v : Value) (held : Option SpaceNo) (number : held_of v ≡ Word (cell_of v))
-    (here : is_in (kind_of v ∷ []) a.area a.cell had ≡ true) (read : HeldSo before a (kind_of v) held)
+    (here : lies_in (kind_of v ∷ []) a.area a.cell had ≡ true) (read : HeldSo before a (kind_of v) held)
     (heads : has ≡ heads_after (forgetting held had) had)
     (kept : (cells : Cells) → before cells → cell_blocks (cells a) ≡ 0 → after (cells_after (forgetting held had) had (written cells a (held_of v)))) where
   -- the memory after the value was put into the cell

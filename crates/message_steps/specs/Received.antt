@@ -8,7 +8,7 @@ use Rattle.eu_base.specs.declared.value.Value.{Value}
 use Rattle.eu_base.specs.Values.{SpaceNo, kind_of, space_in}
 use Rattle.eu_base.specs.Cells.{Cells, Word, IsCell}
 use Rattle.eu_base.specs.DataSpaces.{Heads}
-use Rattle.eu_base.specs.SpacePlaces.{is_in}
+use Rattle.eu_base.specs.SpacePlaces.{lies_in}
 use Rattle.code_form.specs.declared.operand.Operand.{Operand}
 use Rattle.code_form.specs.declared.operand.Operand.TheVariants.{Place as At}
 use Rattle.code_form.specs.Machine.{Mem, Position, Move, Refuses, Unknown, at, goes, receives_in, receives}
@@ -36,7 +36,7 @@ pub record ReceivedIn (before after : Cells → Type 0) (had has : Heads) (a : A
 
 -- or it is not there, and nothing changed
 pub record MissedIn (before after : Cells → Type 0) (had has : Heads) (a : Addr) (v : Value) : Type 0 where
-  pub gone : is_in (kind_of v ∷ []) a.area a.cell had ≡ false
+  pub gone : lies_in (kind_of v ∷ []) a.area a.cell had ≡ false
   pub heads : has ≡ had
   pub kept : (cells : Cells) → before cells → after cells
 
@@ -58,7 +58,7 @@ pub record IsMissed (os : List Operand) (es : List (ℕ × Value)) : Type 0 wher
   pub place : Addr
   pub there : slice_get os entry.0 ≡ Some (At place)
   pub heads : Heads
-  pub gone : is_in (kind_of entry.1 ∷ []) place.area place.cell heads ≡ false
+  pub gone : lies_in (kind_of entry.1 ∷ []) place.area place.cell heads ≡ false
 
 -- those before it got their values, and the command stops behind the request
 pub record MissedAll (before after : Cells → Type 0) (had has : Heads) (os : List Operand) (es : List (ℕ × Value)) : Type 0 where

@@ -1,1 +1,2 @@
 pub mod Rendezvous
+pub mod Rows

@@ -1,10 +1,12 @@
 //! Tasks that wait for each other.
-ghost use Rattle.std.specs.Prelude.{◌≡◌, ◌+◌, ◌<◌, ◌≤◌, false, None, Some, length, option_map, position, IfOk, IfSome, OnErr, OnOk};
+ghost use Rattle.std.specs.Prelude.{◌≡◌, ◌≢◌, ◌+◌, ◌<◌, ◌≤◌, ◌&&◌, true, false, None, Some, List as Lists, [], ◌∷◌, ◌++◌, length, option_map, position, slice_get, IfErr, IfOk, IfSome, OnErr, OnOk};
 ghost use Rattle.std.specs.List.{list_any, position_or_len};
 ghost use Rattle.task_numbers.specs.Numbers.{is_task};
 ghost use Rattle.message_wait.specs.Rendezvous as spec;
+ghost use Rattle.message_wait.specs.Rows.{IsRendezvous, has_place, is_last};
 
 use containers::{List, NoMemory};
+use eu_base::ReviveError;
 use std::alloc::Global;
 use std::marker::Model;
 use task_numbers::{TASKS, TaskNo};
@@ -68,6 +70,65 @@ impl Waits {
         let callers = Vec::with_capacity(alloc, TASKS)?;
         let receivers = Vec::with_capacity(alloc, TASKS)?;
         Ok(Waits { callers, receivers })
+    }
+
+    /// Those that wait, with these callers in order of arrival and these receivers by number. `NotSystem` comes exactly where they
+    /// are more than 16, or one of them waits twice, or the receivers do not stand by number. It takes the room for all tasks.
+    pub fn of(
+        alloc: Global,
+        callers: &[Caller],
+        receivers: &[Receiver],
+    ) -> Result<Waits, ReviveError>
+        ensures rows { IfOk result (λ made. made ≡ record { callers = callers.now; receivers = receivers.now }) }
+        ensures fine { IfOk result IsRendezvous }
+        ensures refused { IfErr result (λ cause. cause ≢ ReviveError.NoMemory
+            → IsRendezvous (record { callers = callers.now; receivers = receivers.now }) → ⊥) }
+    {
+        let mut made = match Waits::of_callers(alloc, callers) {
+            Ok(made) => made,
+            Err(cause) => return Err(cause),
+        };
+        for receiver in receivers {
+            if !made.can_follow(receiver.task) {
+                return Err(ReviveError::NotSystem);
+            }
+            made.add_receiver(*receiver);
+        }
+        Ok(made)
+    }
+
+    fn of_callers(alloc: Global, callers: &[Caller]) -> Result<Waits, ReviveError>
+        ensures rows { IfOk result (λ made. made ≡ record { callers = callers.now; receivers = [] }) }
+        ensures fine { IfOk result IsRendezvous }
+        ensures refused { IfErr result (λ cause. cause ≢ ReviveError.NoMemory
+            → (receivers : Lists Receiver) → IsRendezvous (record { callers = callers.now; receivers = receivers }) → ⊥) }
+    {
+        let mut made = Waits::new(alloc)?;
+        for caller in callers {
+            if !made.has_place(caller.from) {
+                return Err(ReviveError::NotSystem);
+            }
+            made.add_caller(*caller);
+        }
+        Ok(made)
+    }
+
+    /// The caller at a place by arrival, from 0: its number, that of the task that it calls, and the code; `None` exactly past the
+    /// last.
+    pub fn row(&self, place: u32) -> Option<(TaskNo, TaskNo, i16)>
+        ensures { result ≡ option_map (λ c. (c.from, c.to, c.code)) (slice_get self.now.callers place) }
+    {
+        match self.callers.get(place as usize) {
+            Some(caller) => Some((caller.from, caller.to, caller.code)),
+            None => None,
+        }
+    }
+
+    /// The receiver at a place by number, from 0; `None` exactly past the last.
+    pub fn receiver(&self, place: u32) -> Option<Receiver>
+        ensures { result ≡ slice_get self.now.receivers place }
+    {
+        self.receivers.get(place as usize).copied()
     }
 
     /// Offers a message to a task. `Taken` exactly where that is ready to receive it, and then waits no longer; else the
@@ -151,6 +212,43 @@ impl Waits {
         ensures { result ≡ spec.is_waiting task self.now }
     {
         self.is_calling(task) || self.is_receiving(task)
+    }
+
+    fn has_place(&self, task: TaskNo) -> bool
+        ensures { result ≡ has_place task self.now }
+    {
+        self.callers.len() < TASKS
+            && self.receivers.len() < TASKS - self.callers.len()
+            && !self.is_waiting(task)
+    }
+
+    fn can_follow(&self, task: TaskNo) -> bool
+        ensures { result ≡ (has_place task self.now && is_last task self.now.receivers) }
+    {
+        self.has_place(task) && self.is_last(task)
+    }
+
+    fn is_last(&self, task: TaskNo) -> bool
+        ensures { result ≡ is_last task self.now.receivers }
+    {
+        self.receivers
+            .iter()
+            .all(|receiver| receiver.task.0 <= task.0)
+    }
+
+    fn add_caller(&mut self, caller: Caller)
+        requires { length self.old.callers < TASKS }
+        ensures { self.new ≡ record self.old { callers = self.old.callers ++ caller ∷ [] } }
+    {
+        self.callers.push_reserved(caller);
+    }
+
+    fn add_receiver(&mut self, receiver: Receiver)
+        requires room { length self.old.receivers < TASKS }
+        requires last { is_last receiver.task self.old.receivers ≡ true }
+        ensures { self.new ≡ record self.old { receivers = self.old.receivers ++ receiver ∷ [] } }
+    {
+        self.receivers.push_reserved(receiver);
     }
 
     fn is_calling(&self, task: TaskNo) -> bool

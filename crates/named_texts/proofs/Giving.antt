@@ -5,9 +5,8 @@ use Rattle.std.specs.Prelude.{OnOk, OnErr, is_some}
 use Rattle.std.specs.List.{AllByRecursion}
 use Rattle.eu_base.specs.Spaces.{IsKept}
 use Rattle.task_numbers.specs.declared.number.SpaceNo.{SpaceNo}
-use Rattle.page_pool.specs.Pool.{Pages}
 use Rattle.page_table.specs.Entries.{Names}
-use Rattle.page_table.specs.Frames.{content_at, Frames, Stands}
+use Rattle.page_table.specs.Frames.{Over as Pages, Knows, content_at, Frames, Stands}
 use Rattle.page_table.proofs.Framing.{frames_nil, frames_more, frames_then, stands_after}
 use Rattle.data_space.specs.Data.{SpaceData}
 use Rattle.source_texts.specs.Spaces.{HoldsSpace}
@@ -72,8 +71,8 @@ module _ (p0 p1 p2 : Pages) (a b : Names) (f : Frames p0 p1 a b) (few : length b
       (frames_more p1 p1 [] (None ∷ []) b (frames_nil p1 [] (None ∷ []) (λ p. refl) (λ p. omega arith))))
       (frames_more p1 p2 (None ∷ []) [] b back)
 
-  module _ (stands : Stands p0 a 1) where
-    pub stands_then : Stands p1 b 1
+  module _ (stands : Stands p0.pool a 1) where
+    pub stands_then : Stands p1.pool b 1
     stands_then = stands_after p0 p1 a b 1 1 (omega (arith, few)) f stands
 
     -- a new space is there
@@ -81,7 +80,7 @@ module _ (p0 p1 p2 : Pages) (a b : Names) (f : Frames p0 p1 a b) (few : length b
       more : Frames p1 p2 b (space ∷ b)
       more = frames_more p1 p2 [] (space ∷ []) b made
 
-      pub stands_more : Stands p2 (space ∷ b) 0
+      pub stands_more : Stands p2.pool (space ∷ b) 0
       stands_more = stands_after p1 p2 b (space ∷ b) 1 0 (omega arith) more stands_then
 
       pub bytes_kept : KeepsBytes p1 p2 b
@@ -101,7 +100,7 @@ module _ (p0 p1 p2 : Pages) (a b : Names) (f : Frames p0 p1 a b) (few : length b
 -- ---- all of it
 
 keeps_then : (p0 p1 p2 : Pages) (names : Names) → KeepsBytes p0 p1 names → KeepsBytes p1 p2 names → KeepsBytes p0 p2 names
-keeps_then p0 p1 p2 names k l = record { each = by names k.each l.each }
+keeps_then p0 p1 p2 names k l = record { knows = λ known. l.knows (k.knows known); each = by names k.each l.each }
   where
     by : (names : Names) → AllByRecursion (λ root. IsKept (content_at p0 root) (content_at p1 root)) names
         → AllByRecursion (λ root. IsKept (content_at p1 root) (content_at p2 root)) names → AllByRecursion (λ root. IsKept (content_at p0 root) (content_at p2 root)) names
@@ -114,13 +113,13 @@ last_long m n space name is =
     omega (arith, same, (given_same space m).long)
 
 module _ (p0 p1 p2 p3 : Pages) (m0 m1 m3 : MemoryData) (name : List ℕ) (lines : List (List ℕ)) (space : SpaceData)
-    (gone : m1 ≡ without_named (directory.get name m0.names) m0) (holds : HoldsSpace p2 space (source_space lines))
+    (gone : m1 ≡ without_named (directory.get name m0.names) m0) (holds : Knows p1 → HoldsSpace p2 space (source_space lines))
     (first : KeepsBytes p0 p1 (roots m1)) (then : KeepsBytes p1 p2 (roots m1)) where
-  kept_there : m3 ≡ named_last name (with_new space m1) → p3 ≡ p2 → KeepsText p0 p3 m0 m3 name lines
+  pub kept_there : m3 ≡ named_last name (with_new space m1) → p3 ≡ p2 → KeepsText p0 p3 m0 m3 name lines
   kept_there given same = record {
     space = space;
     memory = given ∙ ap (λ (u : MemoryData). named_last name (with_new space u)) gone;
-    holds = subst (λ p. HoldsSpace p space (source_space lines)) (sym same) holds;
+    holds = λ known. subst (λ p. HoldsSpace p space (source_space lines)) (sym same) (holds (first.knows known));
     keeps =
         subst (λ p. KeepsBytes p0 p (roots (without_named (directory.get name m0.names) m0))) (sym same)
         (subst (λ (u : MemoryData). KeepsBytes p0 p2 (roots u)) gone (keeps_then p0 p1 p2 (roots m1) first then));

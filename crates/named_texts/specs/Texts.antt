@@ -1,7 +1,7 @@
 -- Texts that a memory keeps under names.
 use Rattle.std.specs.Prelude.{◌≡◌, ℕ, List, Option, None, Some, option_and_then}
 use Rattle.task_numbers.specs.declared.number.SpaceNo.{SpaceNo}
-use Rattle.page_pool.specs.Pool.{Pages}
+use Rattle.page_table.specs.Frames.{Over as Pages, Knows}
 use Rattle.data_space.specs.Data.{SpaceData}
 use Rattle.source_texts.specs.Spaces.{HoldsSpace}
 use Rattle.source_texts.specs.Sources.{source_space}
@@ -30,5 +30,5 @@ under name memory = option_and_then (λ (s : SpaceNo). space_at s.0 memory.space
 pub record KeepsText (old new : Pages) (was now : MemoryData) (name : List ℕ) (lines : List (List ℕ)) : Type 0 where
   pub space : SpaceData
   pub memory : now ≡ with_named name space was
-  pub holds : HoldsSpace new space (source_space lines)
+  pub holds : Knows old → HoldsSpace new space (source_space lines)
   pub keeps : KeepsBytes old new (roots (without_named (directory.get name was.names) was))

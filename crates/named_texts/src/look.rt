@@ -1,6 +1,9 @@
 //! Names and texts that are looked up.
 ghost use Rattle.std.specs.Prelude.{◌≡◌, map, option_copied, Some, IfOk};
-ghost use Rattle.page_table.specs.Frames.{Stands};
+ghost use Rattle.eu_base.specs.Cells.{HasFaultCause};
+ghost use Rattle.page_pool.specs.Pool.{Backed};
+ghost use Rattle.page_table.specs.Entries.{Names};
+ghost use Rattle.page_table.specs.Frames.{over, Frames, Stands};
 ghost use Rattle.source_texts.specs.Spaces.{Space, HoldsSpace};
 ghost use Rattle.live_spaces.specs.Live.{space_at};
 ghost use Rattle.data_space.specs.Data.{SpaceData};
@@ -9,8 +12,8 @@ ghost use Rattle.named_texts.specs.Texts.{under};
 ghost use Rattle.named_texts.specs.Sources.{as_source, source_in, IsShort};
 
 use data_space::DataSpace;
-use eu_base::{Bytes, List, NoMemory};
-use page_pool::Pool;
+use eu_base::{Bytes, List, MemFault, NoMemory};
+use page_pool::{Backing, Pool};
 use source_texts::read_source;
 use space_memory::SpaceMemory;
 use std::alloc::Global;
@@ -28,17 +31,22 @@ pub enum Source {
 }
 
 /// The text of the space under a name. A text of 4,294,967,296 bytes or more is one that memory is wanting for.
-pub fn text_under(
+pub fn text_under<B: Backing>(
     alloc: Global,
     memory: &SpaceMemory,
-    pool: &Pool,
+    pool: &mut Pool,
     name: &[u8],
-) -> Result<Source, NoMemory>
-    requires agree { Stands pool.now (roots memory.now) 0 }
+    backing: &mut B,
+) -> Result<Source, MemFault>
+    requires agree { Stands pool.old (roots memory.now) 0 }
+    requires backed { Backed (B.holds backing.old) pool.old }
     ensures none { IfOk result (λ source. under name.now memory.now ≡ None → source ≡ Source.NoSpace) }
     ensures text { IfOk result (λ source. (paged : SpaceData) (space : Space) → under name.now memory.now ≡ Some paged →
-        HoldsSpace pool.now paged space → source ≡ source_in (Some space)) }
+        HoldsSpace (over pool.old (B.tells backing.old)) paged space → source ≡ source_in (Some space)) }
     ensures short { IfOk result IsShort }
+    ensures frames { (mine : Names) → Frames (over pool.old (B.tells backing.old)) (over pool.new (B.tells backing.new)) mine mine }
+    ensures cause { HasFaultCause (B.faults backing.old) (B.faults backing.new) result }
+    ensures follows { B.follows backing.old backing.new }
 {
     let Some(s) = memory.named(name) else {
         return Ok(Source::NoSpace);
@@ -46,8 +54,9 @@ pub fn text_under(
     let Some(space) = space_under(memory, s) else {
         return Ok(Source::NoSpace);
     };
-    let text = read_source(alloc, pool, space)?;
-    short_source(text)
+    let text = read_source(alloc, pool, space, backing)?;
+    let source = short_source(text)?;
+    Ok(source)
 }
 
 /// The names of the directory in order of entry.

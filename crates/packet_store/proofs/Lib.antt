@@ -4,5 +4,4 @@ pub mod Total
 pub mod ReadAs
 pub mod Growing
 pub mod Standing
-pub mod Coding
 pub mod OneUnit

@@ -1,8 +1,7 @@
 //! From a text, or a start procedure, to its unit.
 
-ghost use Rattle.std.specs.Prelude.{◌≡◌, ◌<◌, ◌^◌, Bool, List, length, IfOk, IfErr, OnOk};
+ghost use Rattle.std.specs.Prelude.{◌≡◌, ◌<◌, ◌^◌, Bool, List, length, IfOk, IfErr};
 ghost use Rattle.elan_types.specs.Typing.{IsWellTyped};
-ghost use Rattle.code_gen.specs.Correct.{Behaves};
 ghost use Rattle.elan_tree.specs.declared.token.Token.{Token as Spelled};
 ghost use Rattle.elan_grammar.specs.Reads.{Reads};
 ghost use Rattle.elan_scope.specs.declared.env.Env.{Env};
@@ -11,18 +10,14 @@ ghost use Rattle.packet_store.specs.Units as spec;
 
 use crate::error::CompileError;
 use crate::unit::{Compiled, Source, Unit};
-use code_form::Code;
-use code_gen::generate;
+use command_code::code_of;
 use elan_check::{Packets, check, interface_of};
 use elan_lexer::tokens;
 use elan_names::interface::Interface;
 use elan_parser::parse;
 use elan_tree::{Token, Tree};
-use elan_types::Core;
 use eu_base::{Bytes, NoMemory, Shared};
-use reached_bodies::reached;
 use std::alloc::Global;
-use std::mem;
 
 // The tree of a text. Tokens and trees are let go by calls, so that how their parts are let go is proved in the crate of their
 // types alone.
@@ -75,19 +70,6 @@ fn compiled(
         core,
         shown,
     })
-}
-
-// The code of a command, in which bodies that it does not reach do nothing.
-fn code_of(alloc: Global, core: &mut Core) -> Result<Code, NoMemory>
-    requires { IsWellTyped core.old }
-    ensures core { OnOk result (core.new ≡ core.old) }
-    ensures behaves { IfOk result (Behaves core.old) }
-{
-    let bodies = reached(alloc, core)?;
-    let all = mem::replace(&mut core.bodies, bodies);
-    let code = generate(alloc, core);
-    core.bodies = all;
-    code
 }
 
 fn with_code(alloc: Global, mut compiled: Compiled) -> Result<Unit, NoMemory>

@@ -3,14 +3,17 @@
 
 ghost use Rattle.std.specs.Prelude.{◌≡◌, ℕ, Bool, List};
 ghost use Rattle.elan_types.specs.declared.core_phrase.Core.{Core};
+ghost use Rattle.code_form.specs.Program.{Program};
 ghost use Rattle.elan_scope.specs.declared.env.Env.{Env};
 ghost use Rattle.elan_names.specs.declared.interface.Interface.{Interface};
 ghost use Rattle.elan_check.specs.Packets.{AreCompiled, after};
 ghost use Rattle.packet_store.specs.declared.error.Refusal.{Refusal};
+ghost use Rattle.command_code.specs.Codes.{IsCodeOf};
 ghost use Rattle.packet_store.specs.Meaning.{Means, IsRefused, HasOutcome};
 ghost use Rattle.packet_store.specs.declared.unit.Compiled.{Compiled};
 ghost use Rattle.packet_store.specs.Units.{BodiesKeepTheirNumbers, HasPacket, IsUnitOf};
 
+use command_code::one_code;
 use elan_check::{each_text_has_one_answer, meant_is_not_refused, one_core, one_refusal};
 use elan_parser::one_tree;
 
@@ -39,6 +42,15 @@ pub fn one_unit()
     one_core();
     one_refusal();
     meant_is_not_refused();
+}
+
+/// Behind packets a text has one code: what is made anew from it is what was made before.
+pub fn text_has_one_code()
+    ensures { (env : Env) → (packet : Bool) → (text : List ℕ) → (u : Compiled) → (v : Compiled) → (p : Program) → (q : Program)
+        → IsUnitOf env packet text u → IsUnitOf env packet text v → IsCodeOf u.core p → IsCodeOf v.core q → p ≡ q }
+{
+    one_unit();
+    one_code();
 }
 
 /// What is inserted under a number is what was compiled: the meaning of each text behind a packet has the packet's bodies unchanged, and

@@ -11,7 +11,7 @@ ghost use Rattle.packet_store.specs.Library as spec;
 
 use crate::compile::{compile_behind, start_behind};
 use crate::error::{CompileError, InstallError};
-use crate::unit::Unit;
+use crate::unit::{Loaded, Unit};
 use cell_kinds::Packet;
 use elan_check::Packets;
 use eu_base::{NoMemory, Shared};
@@ -30,7 +30,7 @@ const LAST_NUMBER: u32 = u32::MAX;
 pub struct Live {
     /// Its number, from 1.
     pub number: u32,
-    pub unit: Unit,
+    pub unit: Loaded,
     /// The packets behind which it was compiled, and it under its number.
     pub after: Shared<Packets>,
 }
@@ -59,7 +59,7 @@ impl Model for Library {
 }
 
 // What stands behind a packet that gets this number.
-fn after_it(alloc: Global, unit: &Unit, number: u32) -> Result<Shared<Packets>, NoMemory>
+fn after_it(alloc: Global, unit: &Loaded, number: u32) -> Result<Shared<Packets>, NoMemory>
     requires { is_some unit.now.shown ≡ true }
     ensures { (i : interfaces.Interface) → unit.now.shown ≡ Some i → IfOk result (λ made. made ≡ after unit.now.packets i unit.now.core number) }
 {
@@ -86,7 +86,7 @@ fn is_among(numbers: &[u32], packet: u32) -> bool
 }
 
 // A live packet with this number, of a unit that shows something. The unit is let go where memory is wanted.
-fn live_with(alloc: Global, unit: Unit, number: u32) -> Result<Live, NoMemory>
+fn live_with(alloc: Global, unit: Loaded, number: u32) -> Result<Live, NoMemory>
     requires { is_some unit.shown ≡ true }
     ensures { (i : interfaces.Interface) → unit.shown ≡ Some i
         → IfOk result (λ live. live ≡ record { number = number; unit = unit; after = after unit.packets i unit.core number }) }
@@ -231,7 +231,7 @@ impl Library {
 
     /// Installs a packet under the next number, which it gives: no number is given twice. A refusal changes nothing; the packet is
     /// let go.
-    pub fn install(&mut self, alloc: Global, unit: Unit) -> Result<u32, InstallError>
+    pub fn install(&mut self, alloc: Global, unit: Loaded) -> Result<u32, InstallError>
         requires { is_some unit.shown ≡ true }
         ensures number { IfOk result (λ number. number ≡ self.old.last + 1) }
         ensures installed { OnOk result (spec.IsInstalled self.old unit self.new) }

@@ -1,10 +1,12 @@
 -- How many pages the spaces have, and calls on spaces, whatever the rest of the spaces is.
 use Rattle.std.proofs.Math.Logic.{∥∥₁_map}
 use Rattle.std.proofs.lemmas.List.{get_or_past, length-append, append_assoc}
-use Rattle.page_pool.proofs.Sound.{long, count_live}
+use Rattle.page_pool.proofs.Sound.{count_live}
 use Rattle.page_pool.proofs.Used.{used_sum}
+use Rattle.page_pool.specs.Pool.{Backed}
+use Rattle.page_table.proofs.Common.{KeepsHomes, Bool, true}
 use Rattle.page_table.proofs.Common.{◌≡◌, ◌+◌, ◌*◌, ◌<◌, ◌≤◌, ℕ, zero, suc, [], ◌∷◌, length, get_or, Option, Some, None, inl, inr, refl, sym, ◌∙◌, ap, arith}
-use Rattle.page_table.proofs.Common.{cases_eq, Pages, count_of, bytes_of, used_of, one, sum, one_same, one_other, Names, book_of, hit, occ, inner, named, names}
+use Rattle.page_table.proofs.Common.{cases_eq, Pages, Shown, Tell, Over, over, Knows, seen, home_of, count_of, shown_of, used_of, one, sum, one_same, one_other, Names, book_of, hit, occ, inner, named, names}
 use Rattle.page_table.proofs.Common.{Agrees, Agree, HasFewNames, ◌-◌, ◌/◌, ◌%◌, List, ◌++◌, subst, none-some, ForSome, child, Hands, both, nothing, shown}
 use Rattle.page_table.proofs.Common.{content_at, Frames, Stands, Moves, Holds, named_page, Ready, numbers, most_spaces}
 use Rattle.page_table.proofs.Counting.{sum_same, sum_at, sum_put, named_one, entries_length, hit_some, occ-append, names_sum, names_same, names_none}
@@ -93,9 +95,9 @@ module _ (pages : Pages) (roots : Names) (agree : Agree pages roots) where
   entries_worth : (q h : ℕ) → a.height q ≡ h → worths a.height (λ p. occ p (inner h ((book_of pages).entries q))) ≤ below h
   entries_worth q zero is = omega (arith, worths_none a.height (λ p. 0) (λ p. refl))
   entries_worth q (suc zero) is =
-      let few = long pages q agree.agrees.sound (a.live q (omega (arith, is))) in
+      let few = a.full q (omega (arith, is)) in
       worths_occ a.height 0 128 ((book_of pages).entries q)
-      (λ k up. get_or_past ((book_of pages).entries q) k None (omega (arith, up, entries_length (bytes_of pages q), few)))
+      (λ k up. get_or_past ((book_of pages).entries q) k None (omega (arith, up, few)))
       (λ p among. (omega (arith, a.entry q p (omega (arith, is)) among, is), entry_number q p (omega (arith, is)) among))
   entries_worth q (suc (suc h)) is = worths_occ a.height 1 4 ((book_of pages).entries q)
       (λ k up. a.four q k (omega (arith, is, a.low q)) up)
@@ -127,7 +129,7 @@ pub append_names : (a b : Names) (h p : ℕ) → names 2 (a ++ b) h p ≡ names 
 append_names a b h p = names_sum 2 a b (a ++ b) (λ x. occ-append x a b) h p
 
 -- a content that is shown is the same where its pages are
-pub content_same : (old new : Pages) (mine later : Option ℕ) → ((k : ℕ) → shown new 2 later k ≡ shown old 2 mine k)
+pub content_same : (old new : Over) (mine later : Option ℕ) → ((k : ℕ) → seen new.tell (shown new.pool 2 later k) ≡ seen old.tell (shown old.pool 2 mine k))
     → (n : ℕ) → content_at new later n ≡ content_at old mine n
 content_same old new mine later same n = ap (λ (bytes : List ℕ). get_or bytes (n % 512) 0) (same (n / 512))
 
@@ -136,14 +138,18 @@ each_shown : (old new : Pages) (root : Option ℕ) → ForSome root (λ r. (k : 
 each_shown old new None each = shown_none old new 2
 each_shown old new (Some r) each = each r refl
 
-pub frames_of : (old new : Pages) (before after : Names) → Moves old new (names 2 before) (names 2 after) → Frames old new before after
-frames_of old new before after m = record {
+pub frames_of : (tell : Tell) (old new : Pages) (before after : Names) → (Knows (over old tell) → Knows (over new tell)) → Moves old new (names 2 before) (names 2 after)
+    → Frames (over old tell) (over new tell) before after
+frames_of tell old new before after knows m = record {
+  tell = refl;
+  knows = knows;
   homes = m.homes;
   frame = λ rest a room.
       let f = m.frame (names 2 rest) (in_like (λ h p. sym (append_names before rest h p)) a.agrees) in
       record {
         agrees = record { few = room; agrees = in_like (append_names after rest) f.agrees };
-        same = λ root among. content_same old new root root (each_shown old new root (λ r is k. f.same 2 r k (omega arith) (omega (arith, among r is))));
+        same = λ root among. content_same (over old tell) (over new tell) root root
+            (λ k. ap (seen tell) (each_shown old new root (λ r is k. f.same 2 r k (omega arith) (omega (arith, among r is))) k));
       };
 }
 
@@ -177,30 +183,36 @@ pub same_self : (a : Names) → Same a a
 same_self a = record { long = refl; occs = λ p. refl }
 
 -- a call in another order, beside others, after another call, and none
-pub frames_same : (old new : Pages) (a b c d : Names) → Same a b → Same c d → Frames old new a c → Frames old new b d
+pub frames_same : (old new : Over) (a b c d : Names) → Same a b → Same c d → Frames old new a c → Frames old new b d
 frames_same old new a b c d s t f = record {
+  tell = f.tell;
+  knows = f.knows;
   homes = f.homes;
   frame = λ rest g room.
       let back : Same (b ++ rest) (a ++ rest) = let u = same_app a b rest rest s (same_self rest) in record { long = sym u.long; occs = λ p. sym (u.occs p) } in
-      let k = f.frame rest (reorder old (b ++ rest) (a ++ rest) back g) (omega (arith, room, length-append c rest, length-append d rest, t.long)) in
-      record { agrees = reorder new (c ++ rest) (d ++ rest) (same_app c d rest rest t (same_self rest)) k.agrees; same = k.same };
+      let k = f.frame rest (reorder old.pool (b ++ rest) (a ++ rest) back g) (omega (arith, room, length-append c rest, length-append d rest, t.long)) in
+      record { agrees = reorder new.pool (c ++ rest) (d ++ rest) (same_app c d rest rest t (same_self rest)) k.agrees; same = k.same };
 }
 
-pub frames_more : (old new : Pages) (a b more : Names) → Frames old new a b → Frames old new (a ++ more) (b ++ more)
+pub frames_more : (old new : Over) (a b more : Names) → Frames old new a b → Frames old new (a ++ more) (b ++ more)
 frames_more old new a b more f = record {
+  tell = f.tell;
+  knows = f.knows;
   homes = f.homes;
   frame = λ rest g room.
-      let k = f.frame (more ++ rest) (subst (Agree old) (append_assoc a more rest) g)
+      let k = f.frame (more ++ rest) (subst (Agree old.pool) (append_assoc a more rest) g)
       (subst (λ (l : Names). length l ≤ most_spaces) (append_assoc b more rest) room) in
       record {
-        agrees = subst (Agree new) (sym (append_assoc b more rest)) k.agrees;
+        agrees = subst (Agree new.pool) (sym (append_assoc b more rest)) k.agrees;
         same = λ root among. k.same root (λ x is. omega (arith, occ-append x more rest, among x is));
       };
 }
 
 -- in between there are at most as many spaces as before, or as afterwards
-pub frames_then : (p0 p1 p2 : Pages) (a b c : Names) → length b ≤ length a + (length c - length a) → Frames p0 p1 a b → Frames p1 p2 b c → Frames p0 p2 a c
+pub frames_then : (p0 p1 p2 : Over) (a b c : Names) → length b ≤ length a + (length c - length a) → Frames p0 p1 a b → Frames p1 p2 b c → Frames p0 p2 a c
 frames_then p0 p1 p2 a b c few f g = record {
+  tell = g.tell ∙ f.tell;
+  knows = λ known. g.knows (f.knows known);
   homes = homes_then f.homes g.homes;
   frame = λ rest agree room.
       let k = f.frame rest agree (omega (arith, few, agree.few, room, length-append a rest, length-append b rest, length-append c rest)) in
@@ -208,8 +220,8 @@ frames_then p0 p1 p2 a b c few f g = record {
       record { agrees = l.agrees; same = λ root among n. l.same root among n ∙ k.same root among n };
 }
 
-pub frames_none : (pages : Pages) (a : Names) → Frames pages pages a a
-frames_none pages a = frames_of pages pages a a (moves_none pages (names 2 a))
+pub frames_none : (pages : Over) (a : Names) → Frames pages pages a a
+frames_none pages a = frames_of pages.tell pages.pool pages.pool a a (λ known. known) (moves_none pages.pool (names 2 a))
 
 pub stands_same : (pages : Pages) (a b : Names) (more : ℕ) → Same a b → Stands pages a more → Stands pages b more
 stands_same pages a b more s stands = record {
@@ -219,8 +231,8 @@ stands_same pages a b more s stands = record {
 }
 
 -- after a call there is the room that its spaces leave
-pub stands_after : (old new : Pages) (a b : Names) (more less : ℕ) → length b + less ≤ length a + more
-    → Frames old new a b → Stands old a more → Stands new b less
+pub stands_after : (old new : Over) (a b : Names) (more less : ℕ) → length b + less ≤ length a + more
+    → Frames old new a b → Stands old.pool a more → Stands new.pool b less
 stands_after old new a b more less few f stands = record {
   some = ∥∥₁_map stands.some (λ t.
       let room : length (b ++ t.0) + less ≤ most_spaces = omega (arith, few, t.2, length-append a t.0, length-append b t.0) in
@@ -235,11 +247,11 @@ stands_first pages a others more stands = record {
 }
 
 -- a space beside those of the call keeps its bytes
-pub beside : (old new : Pages) (a b others : Names) (more : ℕ) → length b ≤ length a + more → Frames old new a b
-    → Stands old (a ++ others) more → (root : Option ℕ) → ForSome root (λ r. 1 ≤ occ r others) → (n : ℕ) → content_at new root n ≡ content_at old root n
+pub beside : (old new : Over) (a b others : Names) (more : ℕ) → length b ≤ length a + more → Frames old new a b
+    → Stands old.pool (a ++ others) more → (root : Option ℕ) → ForSome root (λ r. 1 ≤ occ r others) → (n : ℕ) → content_at new root n ≡ content_at old root n
 beside old new a b others more few f stands root among n = equal _ _ stands.some (λ t.
     let e = append_assoc a others t.0 in
-    let g = subst (Agree old) e t.1 in
+    let g = subst (Agree old.pool) e t.1 in
     let room : length (a ++ (others ++ t.0)) + more ≤ most_spaces = subst (λ (l : Names). length l + more ≤ most_spaces) e t.2 in
     (f.frame (others ++ t.0) g (omega (arith, few, room, length-append a (others ++ t.0), length-append b (others ++ t.0)))).same root
     (λ x is. omega (arith, occ-append x others t.0, among x is)) n)
@@ -252,13 +264,13 @@ pub named_later : (o p : Option ℕ) (more : Names) → ForSome p (λ x. 1 ≤ o
 named_later o p more among x is = omega (arith, among x is)
 
 -- whatever holds of the content of a space holds of it after a call that keeps its bytes
-pub carries : (old new : Pages) (root : Option ℕ) (P : (ℕ → ℕ) → Type 0)
+pub carries : (old new : Over) (root : Option ℕ) (P : (ℕ → ℕ) → Type 0)
     → ((n : ℕ) → content_at new root n ≡ content_at old root n) → P (content_at old root) → P (content_at new root)
 carries old new root P kept held = let same : content_at new root ≡ content_at old root = λ i n. kept n i in subst P (sym same) held
 
-pub frames_nil : (pages : Pages) (a b : Names) → ((p : ℕ) → occ p a ≡ 0) → ((p : ℕ) → occ p b ≡ 0) → Frames pages pages a b
+pub frames_nil : (pages : Over) (a b : Names) → ((p : ℕ) → occ p a ≡ 0) → ((p : ℕ) → occ p b ≡ 0) → Frames pages pages a b
 frames_nil pages a b none also =
-    frames_of pages pages a b (moves_like (λ h p. sym (names_none 2 a none h p)) (names_none 2 b also) (moves_none pages nothing))
+    frames_of pages.tell pages.pool pages.pool a b (λ known. known) (moves_like (λ h p. sym (names_none 2 a none h p)) (names_none 2 b also) (moves_none pages.pool nothing))
 
 -- a page that a space has lives
 pub page_live : (pages : Pages) (root : Option ℕ) (more k p : ℕ) → Stands pages (root ∷ []) more → named_page pages root k ≡ Some p → 1 ≤ count_of pages p
@@ -274,7 +286,7 @@ page_live pages (Some r) more k p stands is = at_least _ _ (holds_of pages (Some
         omega (arith, a.counts p, child_named pages _ a t (k % 128) p (omega (arith, table)) is)
 
 -- a pool without pages agrees where nothing is named
-pub nil_agree : (roots : Names) → ((p : ℕ) → occ p roots ≡ 0) → length roots ≤ most_spaces → Agree [] roots
+pub nil_agree : (roots : Names) → ((p : ℕ) → occ p roots ≡ 0) → length roots ≤ most_spaces → Agree (record { slots = []; clean = [] }) roots
 nil_agree roots none few = record {
   few = few;
   agrees = in_like {a = nothing} (names_none 2 roots none) (record {
@@ -288,6 +300,8 @@ nil_agree roots none few = record {
       within = λ q up. absurd (omega (arith, up));
       low = λ q. omega arith;
       four = λ q k top up. absurd (omega (arith, top));
+      full = λ q up. absurd (omega (arith, up));
+      marks = λ q p up among. absurd (omega (arith, up));
     };
   });
 }
@@ -297,16 +311,16 @@ pub stands_of : (pages : Pages) (mine rest : Names) (more : ℕ) → length (min
     → Stands pages mine more
 stands_of pages mine rest more room some = record { some = ∥∥₁_map some (λ a. (rest, a, room)) }
 
-pub agree_after : (old new : Pages) (a b rest : Names) → length (b ++ rest) ≤ most_spaces → Frames old new a b → ∥ Agree old (a ++ rest) ∥₁
-    → ∥ Agree new (b ++ rest) ∥₁
+pub agree_after : (old new : Over) (a b rest : Names) → length (b ++ rest) ≤ most_spaces → Frames old new a b → ∥ Agree old.pool (a ++ rest) ∥₁
+    → ∥ Agree new.pool (b ++ rest) ∥₁
 agree_after old new a b rest room f some = ∥∥₁_map some (λ g. (f.frame rest g room).agrees)
 
 pub agree_same : (pages : Pages) (a b : Names) → Same a b → ∥ Agree pages a ∥₁ → ∥ Agree pages b ∥₁
 agree_same pages a b s some = ∥∥₁_map some (reorder pages a b s)
 
 -- a call that keeps the bytes of its own space keeps those of all
-pub all_keep : (old new : Pages) (mine : Option ℕ) (after rest : Names) → Frames old new (mine ∷ []) after
-    → ((n : ℕ) → content_at new mine n ≡ content_at old mine n) → ∥ Agree old (mine ∷ rest) ∥₁ → length (after ++ rest) ≤ most_spaces
+pub all_keep : (old new : Over) (mine : Option ℕ) (after rest : Names) → Frames old new (mine ∷ []) after
+    → ((n : ℕ) → content_at new mine n ≡ content_at old mine n) → ∥ Agree old.pool (mine ∷ rest) ∥₁ → length (after ++ rest) ≤ most_spaces
     → (root : Option ℕ) → ForSome root (λ x. 1 ≤ occ x (mine ∷ rest)) → (n : ℕ) → content_at new root n ≡ content_at old root n
 all_keep old new mine after rest f shows some room None among n =
     equal _ _ some (λ a. (f.frame rest a room).same None (λ x is. absurd (none-some x is)) n)
@@ -314,3 +328,7 @@ all_keep old new mine after rest f shows some room (Some x) among n = elim (case
   | inl none ↦ equal _ _ some (λ a. (f.frame rest a room).same (Some x) (λ y is. grind (arith, none, among y is, is)) n)
   | inr hits ↦ subst (λ (o : Option ℕ). content_at new o n ≡ content_at old o n) (hit_some x mine (omega (arith, hits))) (shows n)
 ]
+
+-- what stands behind the pool holds the homes after a call
+pub homes_backed : {holds later : ℕ → Bool} (old new : Pages) → ((block : ℕ) → holds block ≡ true → later block ≡ true) → KeepsHomes old new → Backed holds old → Backed later new
+homes_backed old new more homes backed = record { each = λ p b is. more b (backed.each p b (sym (homes.stays p b is).home ∙ is)) }

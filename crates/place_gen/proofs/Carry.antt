@@ -3,7 +3,6 @@ use Rattle.std.proofs.Common.{◌≡◌, ℕ, zero, suc, ◌+◌, ◌<◌, ◌�
 use Rattle.std.proofs.Common.{◌&&◌, ⊎_elim, subst, arith, append_assoc, length-append}
 use Rattle.std.specs.Prelude.{slice_get, Ok, Err}
 use Rattle.eu_base.specs.Values.{kind_of, space_in}
-use Rattle.eu_base.specs.SpacePlaces.{is_in}
 use Rattle.eu_base.proofs.Results.{kind_is}
 use Rattle.eu_base.specs.declared.address.TheConstants.{CELLS}
 use Rattle.eu_base.specs.declared.value.Kind.{Kind}
@@ -62,7 +61,7 @@ use Rattle.place_gen.proofs.Lines.{HasAt, has_front, has_rest}
 use Rattle.elan_types.proofs.Shapes.{cell_is}
 use Rattle.place_gen.proofs.Homes.{LeftBy, frame_uses}
 use Rattle.place_gen.proofs.Cells.{Use, OfValue, Uses, AtPlace, AreCounts, counts_append, get_back, get_right, Keeps, image, all_variables, has_spaces}
-use Rattle.place_gen.proofs.Spans.{AreOf, IsFound, found, reads_one, takes_values}
+use Rattle.place_gen.proofs.Spans.{AreOf, IsFound, found, reads_one, takes_values, place_fits, looks_same}
 use Rattle.place_gen.proofs.Spaces.{writes_all}
 use Rattle.place_gen.proofs.Coming.{answer_keeps}
 use Rattle.place_gen.proofs.Blocks.{held_blocks, same_blocks}
@@ -320,13 +319,13 @@ module _ (p : Program) where
 
   -- what looks whether cells of these kinds stand at a place: it stops where they do not
   pub there_ends : {L : Uses} {A : Type 0} (d : Control) (ks : List Kind) (x : Place) (go : World → Outcome A) (move : Move) (k : A → World → Ending)
-      (l : Exit → Option (List Value) → World → Ending) (w : World) (memory : Mem) → Keeps P L w memory
+      (l : Exit → Option (List Value) → World → Ending) (w : World) (memory : Mem) → Keeps P L w memory → cells_fit (x.variable + length ks) ≡ true
       → Does d (scene_of w memory) (looks ks (addr_of x) memory move)
       → (is_there ks x w ≡ true → Does d (scene_of w memory) move → Comes p d (scene_of w memory) (finish (go w) k l))
       → Comes p d (scene_of w memory) (finish (if_there ks x go w) k l)
-  there_ends {L} d ks x go move k l w memory h does next =
+  there_ends {L} d ks x go move k l w memory h fits does next =
       by (is_there ks x w) refl
-      (does ∙ ap (λ (t : Bool). move_stage (cond t move (Halts NoSpace)) d (scene_of w memory)) (ap (is_in ks x.area x.variable) h.spaces.heads))
+      (does ∙ ap (λ (t : Bool). move_stage (cond t move (Halts NoSpace)) d (scene_of w memory)) (looks_same ks x w memory.heads h.spaces.heads fits))
     where
       by : (t : Bool) → is_there ks x w ≡ t → Does d (scene_of w memory) (cond t move (Halts NoSpace))
           → Comes p d (scene_of w memory) (finish (branch t go (Stopped NoSpace) w) k l)
@@ -364,7 +363,9 @@ module _ (p : Program) where
       let all = cond (takes_all vs (addr_of x) memory.cells) (move (area_blocks x.area now.cells)) Unknown in
       let store = λ (w : World).
       branch (texts_fit (values_blocks vs) (store_blocks (slots_in x.area (assign x vs w)))) (λ w. go (assign x vs w)) (Stopped TextRoom) w in
-      there_ends d (map kind_of vs) x store all k l w memory h m (λ there does.
+      let fits : cells_fit (x.variable + length (map kind_of vs)) ≡ true =
+      subst (λ ks. cells_fit (x.variable + length ks) ≡ true) (sym (kinds_same kinds vs ok)) (place_fits P kinds L x few room is) in
+      there_ends d (map kind_of vs) x store all k l w memory h fits m (λ there does.
       let at = found P kinds L w x is (subst (λ ks. is_there ks x w ≡ true) (kinds_same kinds vs ok) there) in
       let later = writes_all P kinds vs L w memory x few room h at ok in
       put_by d c' w x vs go k l memory now (texts_fit (values_blocks vs) (store_blocks (slots_in x.area (assign x vs w)))) h later
@@ -592,17 +593,17 @@ module _ (p : Program) where
 
     -- one that sends a data space, which stands in a variable and is looked at once the mark is spent
     pub send_carries : {A : Type 0} {Good : Uses → A → Type 0} (b : ℕ) (name : RequestName) (vs : List Value) (x : Place) (os : List Operand) (c : Position)
-        (run : Reply → World → Outcome A) (to : A → Position) → AtPlace P (kinds.Space ∷ []) L x
+        (run : Reply → World → Outcome A) (to : A → Position) → cells_fit (x.variable + length (kinds.Space ∷ [])) ≡ true → AtPlace P (kinds.Space ∷ []) L x
         → ((memory : Mem) → step p c memory ≡ Spends (asks_with name vs (At (addr_of x) ∷ os) c memory))
         → ((b' : ℕ) (r : Reply) → Answers L Good b' c r (run r) to)
         → Carries L body fs Good b c (spend (load kinds.Space x (λ v w. ask_at w.replies (request_of name (v ∷ vs)) w run))) to
-    send_carries {A} {Good} b name vs x os c run to at_x e r =
+    send_carries {A} {Good} b name vs x os c run to fits at_x e r =
         spend_carries b c (λ memory. asks_with name vs (At (addr_of x) ∷ os) c memory)
         (load kinds.Space x (λ v w. ask_at w.replies (request_of name (v ∷ vs)) w run)) to e (λ b' lt. record {
           by = λ k l hk hl w le memory h.
               subst (λ (t : Bool). After (after_stage (cond t (looked memory) (Stops NoSpace)) (free c) (scene_of w memory))
               (finish (load kinds.Space x (λ v w. ask_at w.replies (request_of name (v ∷ vs)) w run) w) k l))
-              (sym (ap (is_in (kinds.Space ∷ []) x.area x.variable) h.spaces.heads))
+              (sym (looks_same (kinds.Space ∷ []) x w memory.heads h.spaces.heads fits))
               (by b' k l hk w le memory h (is_there (kinds.Space ∷ []) x w) refl);
         })
       where

@@ -1,7 +1,7 @@
 -- What choices, units and changes do, whatever their parts are.
 use Rattle.std.proofs.Common.{◌≡◌, ℕ, suc, ◌+◌, ◌≤◌, List, [], ◌∷◌, ◌++◌, length, drop, Option, Bool, true, false, cond, ◌||◌, refl, ap, ◌∙◌, subst, arith}
 use Rattle.std.proofs.Common.{length-append}
-use Rattle.std.specs.Prelude.{Ok, Err, ℤ, Some}
+use Rattle.std.specs.Prelude.{Ok, Err, ℤ}
 use Rattle.std.specs.Ordering.{int_eq}
 use Rattle.eu_base.specs.declared.address.TheConstants.{CELLS}
 use Rattle.eu_base.specs.declared.value.Kind.{Kind}
@@ -18,14 +18,14 @@ use Rattle.code_form.specs.declared.operand.OperandKind.{OperandKind}
 use Rattle.code_form.specs.declared.instr.Instr.TheVariants.{Mark, Modify, Jump, False, When, Drop, ErrorStop}
 use Rattle.code_form.specs.declared.code.Spot.{Spot}
 use Rattle.code_form.specs.Program.{Program, line_of}
-use Rattle.code_form.specs.Machine.{Mem, Position, free, Goes, Halts, at, on_cell, or_halt, puts, move_stage, step}
+use Rattle.code_form.specs.Machine.{Mem, Position, free, Goes, at, on_cell, or_halt, puts, move_stage, step}
 use Rattle.elan_types.specs.declared.core_phrase.Exit.{Exit}
 use Rattle.elan_types.specs.Eval.{Place, World, Outcome, Gives, Stopped, bind, spend, branch, or_stop, fetch, the, assign, save, modify, holding_place}
 use Rattle.elan_types.specs.Eval.{Calls, Run, holds}
 use Rattle.elan_types.specs.Command.{Ending}
 use Rattle.code_draft.specs.Stretch.{Stretch, one, keeps, join, if_code, whens, arm_code}
 use Rattle.place_gen.specs.Correct.{addr_of, Comes, scene_of}
-use Rattle.place_gen.proofs.Spans.{found, reads_one}
+use Rattle.place_gen.proofs.Spans.{found, reads_one, place_fits}
 use Rattle.place_gen.proofs.Lines.{HasAt, has_front, has_rest, join_sized}
 use Rattle.place_gen.proofs.Cells.{Uses, AtPlace, Keeps}
 use Rattle.eu_base.proofs.Results.{changed_gives}
@@ -183,7 +183,7 @@ module _ (p : Program) (body : Option ℕ) where
         let now = at c q (Of v ∷ keep_place x ops) in
         let go = λ (y : Value). or_halt (changed change y v) (λ z. puts now (addr_of x) z ops memory) in
         there_ends p (free now) (kind ∷ []) x (λ (w : World). or_stop (changed change (fetch x w) v) (λ z. save x (z ∷ []) (Gives a)) w)
-        (on_cell kind (memory.cells (addr_of x)) go) k l w memory keeps
+        (on_cell kind (memory.cells (addr_of x)) go) k l w memory keeps (place_fits (P p) (kind ∷ []) L x few room is)
         (does p now (scene_of w memory) _ (here p q (Modify change) ks m has.0 c (Of v ∷ keep_place x ops) memory)) (λ there looked.
         let r = reads_one (P p) L w memory x kind go keeps (found (P p) (kind ∷ []) L w x is there) in
         modified (changed change (fetch x w) v) kind x a now ops w memory k l few room is (λ z e. changed_gives change _ _ z e) keeps

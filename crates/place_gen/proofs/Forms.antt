@@ -3,6 +3,7 @@ use Rattle.std.proofs.Common.{◌≡◌, ℕ, suc, ◌+◌, ◌*◌, ◌<◌, �
 use Rattle.std.proofs.Common.{Bool, true, false, cond, refl, sym, ap, ◌∙◌, subst, arith}
 use Rattle.std.specs.Prelude.{slice_get, option_map, map, ℤ}
 use Rattle.std.proofs.lemmas.Option.{slice_get_within, slice_get-map}
+use Rattle.std.proofs.lemmas.Bool.{lt-ltb}
 use Rattle.std.proofs.lemmas.Bool.Decides.{nat_tests}
 use Rattle.std.proofs.lemmas.List.{append-nil, length-map}
 use Rattle.eu_base.specs.declared.value.Kind.{Kind}
@@ -14,13 +15,13 @@ use Rattle.eu_base.specs.Values.{IsOf}
 use Rattle.eu_base.specs.declared.address.TheConstants.{CELLS}
 use Rattle.eu_base.specs.declared.shape.Shape.{Shape}
 use Rattle.eu_base.specs.declared.shape.Shape.TheVariants.{Cell}
-use Rattle.eu_base.specs.declared.stop.Stop.TheVariants.{Index as OutsideRow, OperandRoom}
+use Rattle.eu_base.specs.declared.stop.Stop.TheVariants.{Index as OutsideRow, OperandRoom, NoSpace}
 use Rattle.eu_base.specs.Shapes.{cell_kinds, joined}
 use Rattle.eu_base.specs.Values.{number_of}
 use Rattle.eu_base.specs.Room.{values_bytes, place_bytes, bytes_fit}
 use Rattle.eu_base.specs.Operations.{operand_kinds, result_kind, result_of, in_row}
 use Rattle.eu_base.specs.declared.address.Area.TheVariants as areas
-use Rattle.eu_base.specs.Cells.{area_cell, packet_cell}
+use Rattle.eu_base.specs.Cells.{packet_cell}
 use Rattle.code_form.specs.declared.operand.Operand.{Operand}
 use Rattle.code_form.specs.declared.operand.Operand.TheVariants.{Value as Of, Place as At}
 use Rattle.code_form.specs.declared.operand.OperandKind.{OperandKind}
@@ -30,8 +31,8 @@ use Rattle.code_form.specs.declared.instr.Instr.TheVariants.{Number, Truth, Text
 use Rattle.code_form.specs.declared.code.Spot.{Spot}
 use Rattle.code_form.specs.Program.{Program}
 use Rattle.code_form.specs.Valid.{cell_value}
-use Rattle.code_form.specs.Machine.{Mem, on_cells, if_there as looks, move_stage, Position, free, Move, Halts, at, goes, pushes as push_move, on_room, least_bytes, operand_of, or_halt, on_values, on_all, on_place}
-use Rattle.code_form.specs.Machine.{on_item, further, puts_all, base_of, bytes_on, bytes_of, step, instruction}
+use Rattle.code_form.specs.Machine.{Mem, on_cells, move_stage, Position, free, Move, Halts, at, goes, pushes as push_move, on_room, least_bytes, operand_of, or_halt, on_values, on_all, on_place}
+use Rattle.code_form.specs.Machine.{on_item, further, on_further, puts_all, base_of, bytes_on, bytes_of, step, instruction}
 use Rattle.elan_types.specs.Typing as typing
 use Rattle.elan_types.specs.Typing.{Held, values_held, begins}
 use Rattle.elan_types.specs.Eval.{World, Place, slot_at, place_of, Gives, bind, or_stop, or_outside, fetch_all, beyond, the, assign, save, load_all, deliver}
@@ -43,7 +44,7 @@ use Rattle.place_gen.proofs.Lines.{HasAt, join_sized}
 use Rattle.place_gen.proofs.Homes.{use_of, frame_uses}
 use Rattle.place_gen.proofs.Cells.{Use, OfValue, OfPlace, Uses, StandsIn, refers}
 use Rattle.place_gen.proofs.Spans.{AreOf, AreOf-length, reads_all, most_cells, are_part, variables_at, held_at, get_dropped, in_row_low}
-use Rattle.place_gen.proofs.Spans.{found, stands_begins, stands_dropped, stands_item, stands_low}
+use Rattle.place_gen.proofs.Spans.{found, stands_begins, stands_dropped, stands_item, stands_low, place_fits}
 use Rattle.eu_base.specs.Cells.{IsArea}
 use Rattle.eu_base.proofs.Results.{result_gives}
 use Rattle.place_gen.proofs.Carry.{P, Any, OfShape, AtShape, AtAll, is_one, of_one, reach, holds_operand, operand_size, Carries, Stands, Within, stop_ends}
@@ -240,14 +241,16 @@ module _ (p : Program) (body : Option ℕ) where
   -- a place further on, of an item whose index is looked at, and of a field
   further_carries : (calls : Calls) (n b pc : ℕ) (L : Uses) (m : Spot) (c : Position) (old ops : List Operand) (x : Place) (d : ℕ) (k : Kind) (js : List Kind)
       → length (P p) ≤ CELLS → length L ≤ CELLS → StandsIn (P p) (k ∷ js) L x.area (x.variable + d) → IsArea x.area
-      → ((memory : Mem) → step p (at c pc old) memory ≡ push_move (at c pc old) (At (further (addr_of x) d)) ops memory)
+      → ((memory : Mem) → step p (at c pc old) memory ≡ on_further (addr_of x) d (λ to. push_move (at c pc old) (At to) ops memory))
       → Carries p L m.body c.frames (AtAll (P p) (k ∷ js)) b (at c pc old) (deliver_place (beyond x d) (reach calls n c ops)) (λ y. at c (pc + 1) (keep_place y ops))
   further_carries calls n b pc L m c old ops x d k js few room at_d there does =
       let now = at c pc old in
       let small : x.variable + d < CELLS = stands_low (P p) k js L x.area (x.variable + d) few room at_d in
-      let same : (x.variable + d) % CELLS ≡ x.variable + d = omega (arith, small) in
       reads_carries p b now (λ w. beyond x d) (λ w. bytes_fit (place_bytes + bytes_on ops (bytes_of c.frames))) (λ y. at c (pc + 1) (keep_place y ops))
-      (λ w memory h. ((at_d, small, there), does memory ∙ ap (λ y. push_move now (At (area_cell x.area y)) ops memory) same))
+      (λ w memory h. (
+        (at_d, small, there),
+        does memory ∙ ap (λ t. cond t (push_move now (At (further (addr_of x) d)) ops memory) (Halts NoSpace)) (lt-ltb (x.variable + d) CELLS small),
+      ))
 
   pub item_is : {q : Run Place} {t : Run (List Value)} {f g : Stretch} (ks : List Kind) (count cells : ℕ) (k : Kind) (js : List Kind) (s : Shape)
       → IsPlaceOf ks q f → IsValue (Cell kinds.Int) t g → length (k ∷ js) ≡ cells → begins (joined (replicate count (k ∷ js))) ks ≡ true
@@ -275,7 +278,7 @@ module _ (p : Program) (body : Option ℕ) where
             let now = at c z (Of one_v.value ∷ keep_place x ops) in
             let does =
             λ (memory : Mem). here p z (Index count cells) (g.leaves (f.leaves ls)) m h.0 c (Of one_v.value ∷ keep_place x ops) memory in
-            let move = λ (o : Option ℕ) (memory : Mem). on_item o (λ i. push_move now (At (further (addr_of x) (i * cells))) ops memory) in
+            let move = λ (o : Option ℕ) (memory : Mem). on_item o (λ i. on_further (addr_of x) (i * cells) (λ to. push_move now (At to) ops memory)) in
             subst (λ vs. Carries p L m.body c.frames (AtAll (P p) (k ∷ js)) b (at c z (keep vs (keep_place x ops))) (run vs) to) (sym one_v.is)
             (outside_carries p b now o (λ i. deliver_place (beyond x (i * cells)) r) to
             (λ none w. stop_ends p L now w OutsideRow (λ memory. does memory ∙ ap (λ o. move o memory) none))
@@ -329,6 +332,7 @@ module _ (p : Program) (body : Option ℕ) where
                   let go = λ (vs : List Value). push_move now (operand_of vs) ops memory in
                   let read = on_room now (least_bytes s) ops (on_cells ks' (addr_of x) memory.cells go) in
                   there_ends p (free now) ks' x (λ (w : World). deliver (fetch_all ks' x w) (reach calls n c ops) w) read k' l w memory keeps
+                  (place_fits (P p) ks' L x le.stands.packets le.stands.room at_x)
                   (does p now (scene_of w memory) _ (here p z (Load s) (f.leaves ks) m h.0 c (keep_place x ops) memory)) (λ there looked.
                   let r =
                   reads_all (P p) ks' L w memory x go le.stands.packets le.stands.room keeps (found (P p) ks' L w x at_x there) in

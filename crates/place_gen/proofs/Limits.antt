@@ -1,7 +1,7 @@
 -- What loops with a counter do, whatever their parts are. A limit has a cell meanwhile.
 use Rattle.std.proofs.Common.{◌≡◌, ℕ, ◌+◌, ◌-◌, ◌≤◌, List, [], ◌∷◌, ◌++◌, length, drop, Option, Some, None, Bool, true, false, cond, refl, sym, ap, ◌∙◌}
 use Rattle.std.proofs.Common.{subst, arith, length-append}
-use Rattle.std.specs.Prelude.{ℤ, pos, slice_get}
+use Rattle.std.specs.Prelude.{ℤ, pos}
 use Rattle.std.proofs.lemmas.Bool.{leb-true}
 use Rattle.std.specs.Int.{w16}
 use Rattle.std.specs.Int.RustNames.{FitsSigned}
@@ -17,7 +17,6 @@ use Rattle.eu_base.specs.Room.{cells_fit}
 use Rattle.eu_base.specs.Values.{IsOf, number_of}
 use Rattle.eu_base.specs.Operations.{is_past}
 use Rattle.code_form.specs.Machine.{Mem, Move, with_cells, if_there as looks, move_stage}
-use Rattle.eu_base.specs.SpacePlaces.{is_in}
 use Rattle.eu_base.specs.Cells.{held_of, run_cell, written, forgotten, without}
 use Rattle.code_form.specs.declared.operand.Operand.{Operand}
 use Rattle.code_form.specs.declared.operand.Operand.TheVariants.{Value as Of}
@@ -28,11 +27,11 @@ use Rattle.code_form.specs.Program.{Program, line_of, deeper}
 use Rattle.code_form.specs.Machine.{Position, Control, free, Goes, Halts, Unknown, at, using, on_cell, is_free, base_of, step}
 use Rattle.elan_types.specs.declared.core_phrase.Exit.{Exit as Exit'}
 use Rattle.elan_types.specs.Eval.{Place, Taken, World, Outcome, Gives, Stopped, bind, branch, fetch, the, holding_place, cut, Calls, Run, turns}
-use Rattle.elan_types.specs.Eval.{is_there, if_there, load, step as step_on, step_to, limited, counted}
+use Rattle.elan_types.specs.Eval.{is_there, if_there, step as step_on, step_to, limited, counted}
 use Rattle.elan_types.specs.Command.{Ending}
 use Rattle.code_draft.specs.Stretch.{Stretch, PlaceCode, join, Exit, step_code, step_to_code, turns_code, limit_code, counted_code}
 use Rattle.place_gen.specs.Correct.{addr_of, Comes, scene_of}
-use Rattle.place_gen.proofs.Spans.{found, reads_one, fetch_wider}
+use Rattle.place_gen.proofs.Spans.{found, reads_one, fetch_wider, place_fits, looks_same}
 use Rattle.place_gen.proofs.Lines.{HasAt, has_front, has_rest, join_sized}
 use Rattle.place_gen.proofs.Cells.{Use, OfValue, OfLimit, Uses, AtPlace, Keeps, get_left, cuts, limit_forgotten, extends_one}
 use Rattle.eu_base.proofs.Results.{fits_in_range}
@@ -65,12 +64,12 @@ module _ (p : Program) (body : Option ℕ) where
   -- it is looked then whether the counter is there
   counter_there : (L : Uses) (d : Control) (ks : List Kind) (x : Place) (go : World → Outcome (Unit {0})) (f : Unit {0} → World → Outcome (Unit {0})) (move : Move)
       (k : Unit {0} → World → Ending) (l : Exit' → Option (List Value) → World → Ending) (w : World) (memory : Mem) → Keeps (P p) L w memory
-      → Does p d (scene_of w memory) (looks ks (addr_of x) memory move)
+      → cells_fit (x.variable + length ks) ≡ true → Does p d (scene_of w memory) (looks ks (addr_of x) memory move)
       → (is_there ks x w ≡ true → Does p d (scene_of w memory) move → Comes p d (scene_of w memory) (finish (bind (go (with_count w)) f) k l))
       → Comes p d (scene_of w memory) (finish (bind (if_there ks x go (with_count w)) f) k l)
-  counter_there L d ks x go f move k l w memory h does next =
+  counter_there L d ks x go f move k l w memory h fits does next =
       by (is_there ks x w) refl
-      (does ∙ ap (λ (t : Bool). move_stage (cond t move (Halts NoSpace)) d (scene_of w memory)) (ap (is_in ks x.area x.variable) h.spaces.heads))
+      (does ∙ ap (λ (t : Bool). move_stage (cond t move (Halts NoSpace)) d (scene_of w memory)) (looks_same ks x w memory.heads h.spaces.heads fits))
     where
       by : (t : Bool) → is_there ks x w ≡ t → Does p d (scene_of w memory) (cond t move (Halts NoSpace))
           → Comes p d (scene_of w memory) (finish (bind (branch t go (Stopped NoSpace) (with_count w)) f) k l)
@@ -136,7 +135,8 @@ module _ (p : Program) (body : Option ℕ) where
             here p end Unlimit (drop 2 ks) (deeper m) h1.0 c1 ops memory
             ∙ ap (λ n. Goes (using (at c (end + 1) ops) n) (with_cells (without n (c.used + 1) memory.cells) memory)) n in
             let fuller = λ (e : cells_fit (c.used + 1) ≡ true) (does : Does p (free now) (scene_of w memory) looked).
-            counter_there L (free now) (kinds.Int ∷ []) x tests behind counter k l w memory keeps does (λ there found_it.
+            counter_there L (free now) (kinds.Int ∷ []) x tests behind counter k l w memory keeps
+            (place_fits (P p) (kinds.Int ∷ []) L x le.stands.packets le.stands.room at_x) does (λ there found_it.
             let is = found (P p) (kinds.Int ∷ []) L w x at_x there in
             let read = reads_one (P p) L w memory x kinds.Int goes_on keeps is in
             let past = is_past way z (number_of (fetch x w)) in

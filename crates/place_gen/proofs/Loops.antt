@@ -31,7 +31,7 @@ use Rattle.elan_types.specs.Eval.{is_there, load, while_true, until_true, then_o
 use Rattle.elan_types.specs.Command.{Ending}
 use Rattle.code_draft.specs.Stretch.{Stretch, PlaceCode, never_code, none, one, pushes, join, Exit, stays, exit_join, while_code, until_code, step_code, step_to_code, turn_code, turns_code}
 use Rattle.place_gen.specs.Correct.{addr_of, Comes, scene_of}
-use Rattle.place_gen.proofs.Spans.{IsFound, found, reads_one}
+use Rattle.place_gen.proofs.Spans.{IsFound, found, reads_one, place_fits}
 use Rattle.eu_base.specs.declared.address.Area.TheVariants as areas
 use Rattle.eu_base.specs.declared.address.TheConstants.{CELLS}
 use Rattle.place_gen.proofs.Lines.{HasAt, has_front, has_rest, join_sized}
@@ -298,6 +298,7 @@ module _ (p : Program) (body : Option ℕ) where
                   let looks_on = λ (lim : ℤ). looks (kinds.Int ∷ []) (addr_of x) memory (on_number (memory.cells (addr_of x)) (go lim)) in
                   there_ends p (free now) (kinds.Int ∷ []) x (λ (w : World). step_from x way limit (number_of (fetch x w)) w)
                   (on_number (memory.cells (addr_of x)) (go limit)) k e w memory h
+                  (place_fits (P p) (kinds.Int ∷ []) U x le.stands.packets le.stands.room at_one_x)
                   (does p now (scene_of w memory) _ (here p q1 (Step way end) (f.leaves ks) m rest.0 c (keep_place x ops) memory
                   ∙ limit_read limit U now w.store memory.cells looks_on l le.stands.used h.command)) (λ there looked.
                   let z = number_of (fetch x w) in

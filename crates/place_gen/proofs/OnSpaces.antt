@@ -1,11 +1,10 @@
 -- What phrases on data spaces do, whatever their parts are.
-use Rattle.std.proofs.Common.{inl, inr, ◌≡◌, ℕ, ◌+◌, ◌<◌, ◌≤◌, List, [], ◌∷◌, map, length, drop, Option, Some, None, Bool, true, false, cond, refl, sym, ap, ◌∙◌, subst, arith}
+use Rattle.std.proofs.Common.{inl, inr, ◌≡◌, ℕ, ◌+◌, ◌≤◌, List, [], ◌∷◌, length, drop, Option, Some, None, Bool, true, false, cond, refl, sym, ap, ◌∙◌, subst, arith}
 use Rattle.std.specs.Prelude.{Ok, Err, ◌&&◌, zero, suc, pos, slice_index_or}
 use Rattle.std.proofs.lemmas.Bool.{leb-true}
 use Rattle.std.specs.Int.{w16}
 use Rattle.std.specs.Int.RustNames.{FitsSigned}
 use Rattle.eu_base.specs.declared.address.TheConstants.{CELLS}
-use Rattle.eu_base.specs.declared.address.Area.TheVariants as areas
 use Rattle.eu_base.specs.declared.value.Kind.{Kind}
 use Rattle.eu_base.specs.declared.value.Kind.TheVariants as kinds
 use Rattle.eu_base.specs.declared.value.Value.{Value}
@@ -14,10 +13,9 @@ use Rattle.eu_base.specs.declared.shape.Shape.{Shape}
 use Rattle.eu_base.specs.declared.shape.Shape.TheVariants.{Cell}
 use Rattle.eu_base.specs.Shapes.{cell_kinds}
 use Rattle.eu_base.specs.declared.space_operation.SpaceOperation.{SpaceOperation}
-use Rattle.eu_base.specs.declared.space_operation.SpaceOperation.TheVariants as calls
 use Rattle.eu_base.specs.declared.stop.Stop.TheVariants.{CellRoom, OperandRoom}
-use Rattle.eu_base.specs.Values.{SpaceNo, IsOf, IsSpaceNumber, number_of, space_of, space_in}
-use Rattle.eu_base.specs.Room.{value_bytes, values_bytes, place_bytes, bytes_fit}
+use Rattle.eu_base.specs.Values.{SpaceNo, IsOf, IsSpaceNumber, number_of, space_of}
+use Rattle.eu_base.specs.Room.{values_bytes, place_bytes, bytes_fit}
 use Rattle.eu_base.specs.Operations.{number_at}
 use Rattle.eu_base.specs.DataSpaces.{Heads, Spaces, heads_of, last_number, SpaceChange, Makes, Fills}
 use Rattle.eu_base.specs.Room.{cells_fit}
@@ -31,21 +29,20 @@ use Rattle.code_form.specs.declared.operand.Operand.TheVariants.{Value as Of, Pl
 use Rattle.code_form.specs.declared.operand.OperandKind.TheVariants as operand
 use Rattle.code_form.specs.declared.operand.OperandKind.{OperandKind}
 use Rattle.code_form.specs.declared.instr.Instr.TheVariants.{Content, OnSpaces, Copy, Bind}
-use Rattle.code_form.specs.declared.code.Spot.{Spot}
 use Rattle.code_form.specs.Program.{Program}
-use Rattle.code_form.specs.Valid.{cell_value, with_answer}
-use Rattle.code_form.specs.Machine.{with_cells, takes_number, keeps_space, fills, can_all_change, without_held as forgotten, Unknown, Mem, Position, Control, Move, Goes, Halts, free, at, goes, on_word, on_cell, content_at, changes, answers, mem_after, pushes, move_stage, bytes_on, bytes_of}
+use Rattle.code_form.specs.Valid.{with_answer}
+use Rattle.code_form.specs.Machine.{with_cells, takes_number, keeps_space, fills, can_all_change, without_held as forgotten, Unknown, Mem, Position, Control, Move, Halts, free, at, goes, on_cell, content_at, changes, answers, mem_after, pushes, move_stage, bytes_on, bytes_of}
 use Rattle.elan_types.specs.declared.core_phrase.Exit.{Exit}
-use Rattle.elan_types.specs.Eval.{Calls, Place, World, Outcome, Gives, Stopped, Run, bind, branch, fetch, load, the, assign, without_held, copy_into, bind_to, holding_place, deliver, deliver_place, content_of, consult, or_refused, changed_by, values, answer}
+use Rattle.elan_types.specs.Eval.{Calls, Place, World, Outcome, Gives, Stopped, Run, bind, branch, fetch, load, the, assign, without_held, copy_into, bind_to, holding_place, deliver_place, content_of, consult, or_refused, changed_by, values}
 use Rattle.elan_types.specs.Command.{Ending}
 use Rattle.code_draft.specs.Stretch.{Stretch, one, join}
 use Rattle.place_gen.specs.Correct.{addr_of, Comes, scene_of}
 use Rattle.place_gen.proofs.Lines.{join_sized}
 use Rattle.place_gen.proofs.Cells.{Uses, Keeps, AtPlace}
-use Rattle.place_gen.proofs.Spans.{AreOf, IsFound, found, reads_one, takes_values}
+use Rattle.place_gen.proofs.Spans.{AreOf, IsFound, found, reads_one, takes_values, place_fits}
 use Rattle.place_gen.proofs.Spaces.{writes_all}
 use Rattle.place_gen.proofs.Changes.{changes_keep, can_fill, NoShape, GivesAs, planned_so, CopiesSo, copy_so, BindsSo, bind_so, forgets_can, forgets_not, found_then, unknown_there}
-use Rattle.place_gen.proofs.Carry.{P, finish, Any, AtAll, at_one, reach, of_one, Ends, Does, does, does_go, there_ends, stop_comes, read_comes, here, join_carries, join_one}
+use Rattle.place_gen.proofs.Carry.{P, finish, at_one, reach, of_one, Ends, Does, does, does_go, there_ends, stop_comes, read_comes, here, join_carries, join_one}
 use Rattle.place_gen.proofs.Forms.{keep, keep_place, pushed, AllOf, all_taken, push_is, Is, IsValue, IsPlace, IsPlaceOf, IsAction}
 
 -- the place where the content of a data space begins is one that there can be
@@ -252,6 +249,7 @@ module _ (p : Program) (body : Option ℕ) where
                   let go = λ (v : Value). pushes now (At (content_at (space_of v))) ops memory in
                   let read = on_cell kinds.Space (memory.cells (addr_of x)) go in
                   there_ends p (free now) (kinds.Space ∷ []) x (λ (w : World). deliver_place (content_of (space_of (fetch x w))) r w) read k l w memory keeps
+                  (place_fits (P p) (kinds.Space ∷ []) L x le.stands.packets le.stands.room at_one_x)
                   (does p now (scene_of w memory) _ (here p z Content (f.leaves os) m h.0 c (keep_place x ops) memory)) (λ there looked.
                   let v = fetch x w in
                   let got = reads_one (P p) L w memory x kinds.Space go keeps (found (P p) (kinds.Space ∷ []) L w x at_one_x there) in
@@ -353,6 +351,7 @@ module _ (p : Program) (body : Option ℕ) where
                   or_refused (copy_plan None from (heads_of w.spaces))
                   (λ s w'. Gives (tt {0}) (without_held (space_of (fetch x w)) (assign x (item.Space (Some s) ∷ []) w'))) w in
                   there_ends p (free now) (kinds.Space ∷ []) x run read k l w memory keeps
+                  (place_fits (P p) (kinds.Space ∷ []) L x le.stands.packets le.stands.room at_one_x)
                   (does p now (scene_of w memory) _ (here p z Copy (f.leaves (e.leaves ks)) m h.0 c (Of v ∷ keep_place x ops) memory)) (λ there looked.
                   let is = found (P p) (kinds.Space ∷ []) L w x at_one_x there in
                   let got = reads_one (P p) L w memory x kinds.Space (next memory.heads) keeps is in
@@ -394,6 +393,7 @@ module _ (p : Program) (body : Option ℕ) where
                   (bind_so shape (space_of v) w.spaces (leb-true (length (cell_kinds shape)) CELLS fits))
                   (does ∙ ap (λ heads. move_stage (fills_it heads) (free now) (scene_of w memory)) keeps.spaces.heads) in
                   there_ends p (free now) (kinds.Space ∷ []) x (branch fit store (Stopped CellRoom)) (cond fit (fills_it memory.heads) (Halts CellRoom)) k l w memory keeps
+                  (place_fits (P p) (kinds.Space ∷ []) L x le.stands.packets le.stands.room at_one_x)
                   (does p now (scene_of w memory) _ (here p z (Bind shape) (f.leaves (e.leaves ks)) m h.0 c (Of v ∷ keep_place x ops) memory)) (λ there looked.
                   fitting fit (free now) w memory store k l (fills_it memory.heads) keeps looked (by (found (P p) (kinds.Space ∷ []) L w x at_one_x there)));
             }));

@@ -18,7 +18,6 @@ use Rattle.eu_base.specs.Values.{IsOf, kind_of, space_of, numbers_of_spaces}
 use Rattle.eu_base.specs.Cells.{held_of, written}
 use Rattle.eu_base.specs.DataSpaces.{Heads, heads_of}
 use Rattle.eu_base.specs.SpaceOperations.{forgetting}
-use Rattle.eu_base.specs.SpacePlaces.{is_in}
 use Rattle.eu_base.specs.Operations.{Given}
 use Rattle.eu_base.specs.Requests.{request_kinds, request_places, request_result, request_size, is_message, sends, request_of, read_as, answer_of}
 use Rattle.eu_base.specs.Requests.{Answer, message_values, Suits}
@@ -30,7 +29,7 @@ use Rattle.code_form.specs.declared.instr.Instr.TheVariants.{Ask}
 use Rattle.code_form.specs.Program.{Program, instr_of}
 use Rattle.code_form.specs.Machine.{Control, free, Move, Refuses, Unknown, Scene, step, with_cells, mem_after, on_cell, takes, without_held as forgotten, receives_at, receives}
 use Rattle.code_form.specs.Machine.{puts_reply, asks_with, asks_for}
-use Rattle.code_form.specs.Machine.{Mem, Frame, Position, given, Asks, Spends, Goes, Halts, move_stage, bytes_of, bytes_on, operand_of, at, or_halt, value_in, keeps, pushes, settles, takes_reply}
+use Rattle.code_form.specs.Machine.{Mem, Frame, Position, given, Asks, Spends, Goes, Halts, move_stage, bytes_of, bytes_on, operand_of, at, or_halt, keeps, pushes, settles, takes_reply}
 use Rattle.code_form.specs.Valid.{request_operands, cell_value, cell_place, with_answer}
 use Rattle.elan_types.specs.declared.core_phrase.Exit.{Exit}
 use Rattle.elan_types.specs.Eval.{Place, AsPlace, Outcome, spend, ask_at, ask, ask_for, with_sent, settle, receive_at, receive, last_made, is_there, fetch, without_held, changed_by}
@@ -41,7 +40,7 @@ use Rattle.place_gen.specs.Correct.{addr_of, Comes, scene_of}
 use Rattle.place_gen.proofs.Lines.{join_sized}
 use Rattle.place_gen.proofs.Tables.{size_is}
 use Rattle.place_gen.proofs.Cells.{Uses, Keeps, AtPlace}
-use Rattle.place_gen.proofs.Spans.{found, reads_one, takes_values}
+use Rattle.place_gen.proofs.Spans.{found, reads_one, takes_values, place_fits, looks_same}
 use Rattle.place_gen.proofs.Spaces.{writes_all}
 use Rattle.place_gen.proofs.Changes.{changes_keep, can_fill, forgets_can, forgets_not}
 use Rattle.place_gen.proofs.Carry.{P, finish, reach, Ends, Does, does_given, does_go, stop_comes, put_ends, at_one, TakeAll, passed_operand, pushed_passed, here}
@@ -92,7 +91,8 @@ module _ (p : Program) (L : Uses) (few : length (P p) ≤ CELLS) (room : length 
       let at_x : AtPlace (P p) (kind_of v ∷ []) L x = subst (λ (kind : Kind). AtPlace (P p) (kind ∷ []) L x) (sym suits.0.2) var.1.1 in
       let does' =
       does ∙ ap (λ (o : Option Operand). move_stage (receives_at c ops o v m (receives c ops os es)) from (scene_of was first)) there
-      ∙ ap (λ (heads : Heads). move_stage (cond (is_in (kind_of v ∷ []) x.area x.variable heads) (read x) missed) from (scene_of was first)) kept.spaces.heads in
+      ∙ ap (λ (t : Bool). move_stage (cond t (read x) missed) from (scene_of was first))
+      (looks_same (kind_of v ∷ []) x w m.heads kept.spaces.heads (place_fits (P p) (kind_of v ∷ []) L x few room at_x)) in
       subst (λ (o : Option Passed). Comes p from (scene_of was first) (finish (receive_at o v (receive ss es) w) k l)) (sym var.1.0)
       (by (λ w m marks replies kept does. receive_ends es suits.1 are.1 w m marks replies kept does) x at_x (is_there (kind_of v ∷ []) x w) refl does')
     where
@@ -234,7 +234,8 @@ module _ (p : Program) (body : Option ℕ) where
             moves
 
   -- it is made with its values, and where it sends a data space, with that
-  module _ (L : Uses) (next : Position) (b : ℕ) (home : Option ℕ) (frames : List Frame) (name : RequestName) (now : Position) (ss : List Passed)
+  module _ (L : Uses) (few : length (P p) ≤ CELLS) (room : length L ≤ CELLS) (next : Position) (b : ℕ) (home : Option ℕ) (frames : List Frame)
+      (name : RequestName) (now : Position) (ss : List Passed)
       (takes_all : TakeAll p (map cell_place (request_places name)) L (drop (length (request_kinds name)) ss)) (run : Reply → World → Outcome (Unit {0}))
       (settled : (b' : ℕ) (r : Reply) → Answers p L Any b' now r (run r) (λ _. next)) where
     abbrev vs : List Value
@@ -253,7 +254,7 @@ module _ (p : Program) (body : Option ℕ) where
         let x = first_variable name is L places takes_all in
         subst (λ (places : List Passed). Carries p L home frames Any b now
         (spend (with_sent vs places (λ vs w. ask_at w.replies (request_of name vs) w run))) (λ _. next)) (sym x.1.1.0)
-        (send_carries p b name vs x.0 (map passed_operand x.1.0) now run (λ _. next) x.1.1.1
+        (send_carries p b name vs x.0 (map passed_operand x.1.0) now run (λ _. next) (place_fits (P p) (kinds.Space ∷ []) L x.0 few room x.1.1.1) x.1.1.1
         (λ memory. asks memory
         ∙ ap (λ vs. Spends (asks_with name vs (drop (length (request_kinds name)) (map passed_operand ss)) now memory)) (values_same ss)
         ∙ ap (λ os. Spends (asks_with name vs os now memory)) (drop-map passed_operand (length (request_kinds name)) ss ∙ ap (map passed_operand) x.1.1.0))
@@ -280,7 +281,7 @@ module _ (p : Program) (body : Option ℕ) where
             let takes_all =
             subst (λ n. TakeAll p (map cell_place (request_places name)) L (drop n ss)) (length-map (request_kinds name) cell_value)
             (behind p L (map cell_value (request_kinds name)) (map cell_place (request_places name)) ss oks) in
-            asked_so L (at c (q + 1) ops) b m.body c.frames name now ss takes_all (settle name (drop n ss))
+            asked_so L le.stands.packets le.stands.room (at c (q + 1) ops) b m.body c.frames name now ss takes_all (settle name (drop n ss))
             (λ b' r.
             settles_so L name le.stands.packets le.stands.room now ops (drop n ss) takes_all b' r (λ memory.
             ap (λ o. takes_reply (instr_of o) r now memory) h.0

@@ -1,7 +1,8 @@
 -- Values of several cells in the cells of the machine: how they are read and written, and their parts.
 use Rattle.std.proofs.Common.{◌≡◌, ℕ, zero, suc, ◌+◌, ◌*◌, ◌<◌, ◌≤◌, ◌%◌, List, [], ◌∷◌, ◌++◌, map, length, take, drop, Some, Bool, true, false, cond}
-use Rattle.std.proofs.Common.{◌&&◌, ◌-◌, replicate, Option, None, nat_le, refl, sym, ap, ◌∙◌, subst, arith}
+use Rattle.std.proofs.Common.{◌&&◌, ◌-◌, replicate, None, nat_le, refl, sym, ap, ◌∙◌, subst, arith}
 use Rattle.std.specs.Prelude.{◌==◌, slice_get, option_map, ℤ, pos, negsuc}
+use Rattle.std.proofs.lemmas.Bool.{le-leb}
 use Rattle.std.proofs.lemmas.Bool.Decides.{nat_tests}
 use Rattle.std.proofs.lemmas.List.Concat.{flat_map-cons}
 use Rattle.std.proofs.lemmas.List.{get_or_append_left, length-map}
@@ -17,9 +18,9 @@ use Rattle.eu_base.specs.declared.value.Kind.{Kind}
 use Rattle.eu_base.specs.declared.value.Value.{Value}
 use Rattle.eu_base.specs.declared.value.Value.TheVariants.{Int, Truth, Text, Task, Space}
 use Rattle.eu_base.specs.Values.{IsOf}
-use Rattle.eu_base.specs.DataSpaces.{Heads, heads_of, is_live}
-use Rattle.eu_base.specs.SpacePlaces.{kinds_of, begin_with, is_in}
-use Rattle.eu_base.specs.Room.{value_bytes, values_bytes}
+use Rattle.eu_base.specs.DataSpaces.{Heads, heads_of}
+use Rattle.eu_base.specs.SpacePlaces.{kinds_of, begin_with, is_in, lies_in}
+use Rattle.eu_base.specs.Room.{value_bytes, values_bytes, cells_fit}
 use Rattle.eu_base.specs.declared.address.Area.{Area}
 use Rattle.eu_base.specs.declared.address.Area.TheVariants.{Run, Packets}
 use Rattle.eu_base.specs.declared.address.Area.TheVariants as areas
@@ -339,6 +340,24 @@ pub stands_low : (P : List Kind) (k : Kind) (js : List Kind) (L : Uses) (area : 
 stands_low P k js L Run x few room h = omega (arith, slice_get_within L x (OfValue k) h.0, room)
 stands_low P k js L Packets x few room h = omega (arith, slice_get_within (map OfValue P) x (OfValue k) h.0, few, length-map P OfValue)
 stands_low P k js L (areas.Space s) x few room h = omega (arith, h)
+
+-- its cells are among those of the area
+kinds_within : (ks : List Kind) (L : Uses) (x : ℕ) → AtKinds ks L x → x + length ks ≤ length L
+kinds_within [] L x h = omega (arith, h)
+kinds_within (k ∷ ks) L x h = omega (arith, kinds_within ks L (x + 1) h.1)
+
+stands_within : (P ks : List Kind) (L : Uses) (area : Area) (x : ℕ) → length P ≤ CELLS → length L ≤ CELLS → StandsIn P ks L area x → x + length ks ≤ CELLS
+stands_within P ks L Run x few room h = omega (arith, kinds_within ks L x h, room)
+stands_within P ks L Packets x few room h = omega (arith, kinds_within ks (map OfValue P) x h, few, length-map P OfValue)
+stands_within P ks L (areas.Space s) x few room h = h
+
+pub place_fits : (P ks : List Kind) (L : Uses) (x : Place) → length P ≤ CELLS → length L ≤ CELLS → AtPlace P ks L x → cells_fit (x.variable + length ks) ≡ true
+place_fits P ks L x few room at_x = le-leb (x.variable + length ks) CELLS (stands_within P ks L x.area x.variable few room at_x.0)
+
+-- the machine finds there what evaluation finds
+pub looks_same : (ks : List Kind) (x : Place) (w : World) (heads : Heads) → heads ≡ heads_of w.spaces → cells_fit (x.variable + length ks) ≡ true
+    → lies_in ks x.area x.variable heads ≡ is_there ks x w
+looks_same ks x w heads same fits = ap (λ t. t && is_in ks x.area x.variable heads) fits ∙ ap (is_in ks x.area x.variable) same
 
 -- a value stands where it stood, with more slots behind
 pub fetch_wider : (P : List Kind) (L : Uses) (w : World) (m : Mem) (x : Place) (k : Kind) (more : List Slot) → Keeps P L w m

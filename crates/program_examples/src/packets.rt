@@ -4,7 +4,7 @@ use crate::rows::put;
 use crate::typed;
 use code_form::listing;
 use elan_types::Why;
-use eu_base::{Bytes, Memory, decimal};
+use eu_base::{Bytes, Memory, Nowhere, decimal};
 use packet_store::{CompileError, InstallError, Library, PACKETS, Refusal, Unit};
 use page_pool::Pool;
 use space_memory::SpaceMemory;
@@ -349,6 +349,7 @@ impl Task {
 
     // Installs a unit, where it is a packet; its number.
     fn install(&mut self, alloc: Global, unit: Unit) -> Result<u32, InstallError> {
+        let unit = unit.loaded();
         if unit.compiled().shown.is_none() {
             unit.let_go();
             return Err(InstallError::NoMemory);
@@ -456,9 +457,12 @@ impl Task {
 
 /// Adds the steps of a scene with their answers.
 pub fn answer(alloc: Global, out: &mut Bytes, row: &str) {
-    let mut pool = Pool::new(alloc);
+    let Ok(mut pool) = Pool::new(alloc) else {
+        return;
+    };
     let mut memory = SpaceMemory::new(alloc);
-    let mut lent = memory.over(&mut pool);
+    let mut nowhere = Nowhere;
+    let mut lent = memory.over(&mut pool, &mut nowhere);
     let mut task = Task {
         library: Library::new(alloc),
         packets: Vec::new(alloc),

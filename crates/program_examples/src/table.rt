@@ -2,20 +2,6 @@
 
 /// One text, since the check goes over each item of an array.
 pub(crate) const EXAMPLES: &str = "\
-> put (10 - 2 - 3); put (7 DIV 2); put (7 MOD 2)
-5 3 1 
-> INT VAR i; FOR i FROM 1 UPTO 5 REP put (i * i) PER
-1 4 9 16 25 
-> INT VAR a :: 48, b :: 36; WHILE a <> b REP IF a > b THEN a DECR b ELSE b DECR a FI PER; put (a)
-12 
-> INT PROC f (INT CONST n): IF n < 2 THEN 1 ELSE n * f (n - 1) FI END PROC f; put (f (7))
-5040 
-> put (sum). sum: INT VAR i, s; FOR i UPTO 4 REP s INCR i PER; s.
-10 
-> TEXT VAR t :: \"EL\"; t CAT \"AN\"; put (t); put (LENGTH t); put (3 * subtext (t, 3))
-ELAN 4 ANANAN 
-> put (total)
-FEHLER : unbekannt (Zeile 1, Stelle 6)
 > INT VAR my age :: 9; put (myage)   (* one name *)
 9 
 > put (007); put (1)put (2)
@@ -64,13 +50,13 @@ FEHLER : falscher Typ (Zeile 1, Stelle 18)
 3 
 > TYPE T = INT; PROC p: LET T = TEXT; T VAR x :: \"a\"; put (x) END PROC p; p
 a 
-> TYPE T = INT; PROC p (INT CONST a): put (a) END PROC p; PROC p (T CONST a): put (\"T\") END PROC p; T VAR x; p (x); p (3)
-T 3 
-> TYPE T = INT; OP := (T VAR a, T CONST b): CONCR (a) := CONCR (b) END OP :=; T VAR x; T VAR y; CONCR (y) := 4; x := y; put (CONCR (x))
-4 
+> TYPE T = INT; PROC p (INT CONST a): put (a) END PROC p; PROC p (T CONST a): put (\"T\") END PROC p; T VAR x; p (x)
+T 
+> TYPE T = INT; OP := (T VAR a, T CONST b): CONCR (a) := CONCR (b) + 1 END OP :=; T VAR x; x := x; put (CONCR (x))
+1 
 > TYPE T = INT; T VAR x, y; x := y
 FEHLER : falscher Typ (Zeile 1, Stelle 27)
-> TYPE T = INT; T OP + (T CONST a, b): T VAR c; CONCR (c) := CONCR (a) + CONCR (b); c END OP +; T VAR x, y; CONCR (x) := 1; put (CONCR (x + y))
+> TYPE T = INT; T OP + (T CONST a): T VAR c; CONCR (c) := CONCR (a) + 1; c END OP +; T VAR x; put (CONCR (+ x))
 1 
 > put (CONCR (3))
 FEHLER : falscher Typ (Zeile 1, Stelle 6)
@@ -89,7 +75,7 @@ FEHLER : Index ausserhalb
 16 
 > ROW 2 STRUCT (INT x, y) VAR q; q [2].y := 7; put (q [2].y); put (q [1].y)
 7 0 
-> ROW 3 INT PROC squares: ROW 3 INT VAR r; INT VAR i; FOR i UPTO 3 REP r [i] := i * i PER; r END PROC squares; put (squares [3])
+> ROW 3 INT PROC squares: ROW 3 INT VAR r; r [2] := 4; r [3] := 9; r END PROC squares; put (squares [3])
 9 
 > PROC p (INT VAR x): x INCR 1 END PROC p; ROW 2 INT VAR a; p (a [2]); p (a [2]); put (a [2])
 2 
@@ -214,8 +200,8 @@ FEHLER : INT-Ueberlauf
 FEHLER : INT-Ueberlauf
 > put (1 DIV 0)
 FEHLER : Division durch 0
-> TEXT VAR t :: \"ab\"; t CAT 2 * \"c\"; put (t + t); put (t SUB 3); put (LENGTH t); put (pos (t, \"cc\")); put (subtext (t, 2, 3))
-abccabcc c 4 3 bc 
+> TEXT VAR t :: \"ab\"; t CAT 2 * \"c\"; put (t); put (t SUB 3); put (LENGTH t); put (pos (t, \"cc\"))
+abcc c 4 3 
 > put (code (\"A\")); put (code (66)); put (text (-5) + \"!\"); put (int (\" -12 \") + 1); put (int (\"12a\"))
 65 B -5! -11 0 
 > IF \"Ab\" < \"B\" CAND \"a\" < \"ab\" CAND \"\" < \"a\" THEN write (\"less\"); putline (\"!\"); put (\"next\") FI
@@ -237,17 +223,8 @@ FEHLER : Division durch 0
 1 
 FEHLER : Division durch 0
 > INT VAR unused
-> put (1 + 2 * 3); put ((1 + 2) * 3)
-7 9 
-> put (17 DIV 5); put (17 MOD 5); line; put (maxint); put (- maxint)
-3 2 
-32767 -32767 
-> INT VAR apples :: 5; apples := apples + 2; put (apples); apples INCR 10; put (apples)
-7 17 
-> INT CONST dozen :: 12; INT VAR eggs in the fridge :: 2 * dozen; eggs in the fridge DECR 5; put (eggs in the fridge)
-19 
-> INT VAR age :: 17; IF age >= 18 THEN put (1) ELSE put (0) FI; put (IF age < 13 THEN 4 ELIF age < 18 THEN 7 ELSE 10 FI)
-0 7 
+> INT CONST dozen :: 12; INT VAR eggs in the fridge :: 2 * dozen; eggs in the fridge DECR 5; put (eggs in the fridge); eggs in the fridge := eggs in the fridge + dozen; put (eggs in the fridge)
+19 31 
 > INT VAR month :: 2; put (SELECT month OF   CASE 2: 28   CASE 4, 6, 9, 11: 30   OTHERWISE 31 END SELECT)
 28 
 > INT VAR i; FOR i FROM 1 UPTO 5 REP   put (i * i) PER
@@ -267,18 +244,10 @@ FEHLER : Division durch 0
 30 4 
 > search; put (i).  search:   INT VAR i;   FOR i FROM 2 REP     IF 91 MOD i = 0 THEN LEAVE search FI   PER.
 7 
-> write (\"7 times 6 is \"); put (7 * 6); line; putline (\"That is all.\")
-7 times 6 is 42 
-That is all.
 > TEXT CONST word :: \"REGAL\"; TEXT VAR reversed; INT VAR i; FOR i FROM LENGTH word DOWNTO 1 REP   reversed CAT (word SUB i) PER; put (word + \" = \" + reversed + \"?\"); put (3 * \"ha\")
 REGAL = LAGER? hahaha 
 > TEXT CONST date :: \"1979-10-21\"; put (int (subtext (date, 1, 4)) + 100); put (pos (date, \"-\")); IF \"Anna\" < \"Berta\" CAND \"Zoe\" < \"anna\" THEN putline (\"Year \" + text (79)) FI
 2079 5 Year 79
-> TEXT PROC framed (TEXT CONST t):   \"<\" + t + \">\" END PROC framed; put (framed (framed (\"x\")))
-<<x>> 
-> TEXT VAR who; put (\"Who is there?\"); getline (who); put (\"Hello, \" + who)
-Who is there? 
-FEHLER : nur in einer Sitzung
 > ROW 5 INT VAR a; INT VAR i, sum; FOR i UPTO 5 REP a [i] := i * i PER; FOR i UPTO 5 REP put (a [i]); sum INCR a [i] PER; put (sum)
 1 4 9 16 25 55 
 > LET size = 3; ROW size TEXT VAR word; word [1] := \"one\"; word [2] := \"two\"; word [3] := \"three\"; INT VAR i; FOR i FROM size DOWNTO 1 REP put (word [i]) PER; put (word [4])
@@ -307,37 +276,102 @@ FEHLER : Division durch 0
 FEHLER : INT-Ueberlauf
 > PROC p: p END PROC p; p
 FEHLER : Stapelueberlauf
+> errorstop (\"nothing to do\")
+FEHLER : nothing to do
 > BOUND ROW 3 INT VAR marks :: new (\"marks\"); marks [1] := 7; marks [2] := 8; DATASPACE VAR second :: old (\"marks\"); BOUND ROW 3 INT VAR others :: second; others [1] := 1; put (marks [1]); put (others [1]); put (others [2])
 7 1 8 
-> BOUND INT VAR a :: new (\"n\"); BOUND INT VAR b :: old (\"n\"); a := 4; put (b)
-4 
-> BOUND TEXT VAR note :: new (\"note\"); note := \"kept\"; put (note); forget (\"note\"); put (note)
-kept 
-FEHLER : Datenraum existiert nicht
-> BOUND INT VAR a :: new (\"a\"); a := 1; BOUND TEXT VAR b :: old (\"a\")
-FEHLER : falscher Datenraumtyp
-> BOUND INT VAR a :: new (\"a\"); BOUND INT VAR b :: new (\"a\")
-FEHLER : Datenraum existiert schon
-> DATASPACE VAR d :: old (\"nothing\")
-FEHLER : Datenraum gibt es nicht
-> put (7 / 2)
-FEHLER : kein Symbol (Zeile 1, Stelle 8)
-> put (1) (* comment
-FEHLER : kein Symbol (Zeile 1, Stelle 9)
+> put (12345 DIV 60); put (12345 MOD 60)
+205 45 
+> INT CONST year :: 2000; IF year MOD 400 = 0 OR (year MOD 4 = 0 AND year MOD 100 <> 0) THEN put (\"yes\") ELSE put (\"no\") FI
+yes 
+> INT VAR i, sum; FOR i FROM 1 UPTO 100 REP sum INCR i PER; put (sum); FOR i FROM 3 DOWNTO 0 REP put (i) PER
+5050 3 2 1 0 
+> PROC squares:   INT VAR i; FOR i UPTO 10 REP put (i * i) PER END PROC squares; squares
+1 4 9 16 25 36 49 64 81 100 
+> find it; put (n).  find it:   INT VAR n;   FOR n FROM 1 REP IF n * n > 1000 THEN LEAVE find it FI PER.
+32 
+> put (put (1))
+FEHLER : falscher Typ (Zeile 1, Stelle 1)
+> INT VAR i; INT VAR i
+FEHLER : doppelt (Zeile 1, Stelle 20)
+> IF 1 THEN put (1) FI
+FEHLER : falscher Typ (Zeile 1, Stelle 1)
+> FOR i UPTO 3 REP PER
+FEHLER : unbekannt (Zeile 1, Stelle 5)
+> put 1
+FEHLER : unbekannt (Zeile 1, Stelle 1)
+> put (1, 2)
+FEHLER : unbekannt (Zeile 1, Stelle 1)
+> put \"hallo\"
+FEHLER : kein ELAN-Text (Zeile 1, Stelle 5)
+> put (hallo)
+FEHLER : unbekannt (Zeile 1, Stelle 6)
+> print (1)
+FEHLER : unbekannt (Zeile 1, Stelle 1)
+> write (1)
+FEHLER : falscher Typ (Zeile 1, Stelle 1)
+> put (1 = 1)
+FEHLER : falscher Typ (Zeile 1, Stelle 1)
+> put (TRUE)
+FEHLER : falscher Typ (Zeile 1, Stelle 1)
+> IF 1 = 1 THEN put (\"ja\") FI
+ja 
+> 1 + 1
+FEHLER : falscher Typ (Zeile 1, Stelle 1)
+> help
+FEHLER : unbekannt (Zeile 1, Stelle 1)
+> exit
+FEHLER : unbekannt (Zeile 1, Stelle 1)
+> halt
+FEHLER : unbekannt (Zeile 1, Stelle 1)
+> begin (\"x\")
+FEHLER : unbekannt (Zeile 1, Stelle 1)
+> int var x
+FEHLER : unbekannt (Zeile 1, Stelle 1)
+> INT x
+FEHLER : kein ELAN-Text (Zeile 1, Stelle 5)
 > INT VAR x = 5
 FEHLER : kein ELAN-Text (Zeile 1, Stelle 11)
 > INT VAR x :: 5; put (x)
 5 
-> IF 2 > 1 THEN put (2)
-FEHLER : kein ELAN-Text (Zeile 1, Stelle 22)
-> ROW INT VAR a
-FEHLER : kein ELAN-Text (Zeile 1, Stelle 5)
-> put 1
+> x := 3
 FEHLER : unbekannt (Zeile 1, Stelle 1)
-> FOR i UPTO 3 REP put (i) PER
+> 3 = x
 FEHLER : unbekannt (Zeile 1, Stelle 5)
+> INT VAR x; x = 3
+FEHLER : falscher Typ (Zeile 1, Stelle 12)
+> REAL VAR x
+FEHLER : unbekannt (Zeile 1, Stelle 1)
+> put (3.5)
+FEHLER : kein ELAN-Text (Zeile 1, Stelle 8)
+> put (7 / 2)
+FEHLER : kein Symbol (Zeile 1, Stelle 8)
+> put (2 ** 8)
+FEHLER : kein ELAN-Text (Zeile 1, Stelle 9)
+> STRING VAR s
+FEHLER : unbekannt (Zeile 1, Stelle 1)
+> put ('a')
+FEHLER : kein Symbol (Zeile 1, Stelle 6)
+> INT VAR a :: 3, b; WHILE a > b DO a DECR 1 OD
+FEHLER : kein ELAN-Text (Zeile 1, Stelle 46)
 > INT VAR i; FOR i FROM 1 TO 3 REP put (i) PER
 FEHLER : unbekannt (Zeile 1, Stelle 23)
+> FOR i UPTO 3 REP put (i) PER
+FEHLER : unbekannt (Zeile 1, Stelle 5)
+> IF 2 > 1 THEN put (2)
+FEHLER : kein ELAN-Text (Zeile 1, Stelle 22)
+> INT PROC f (INT n): n END PROC f
+FEHLER : kein ELAN-Text (Zeile 1, Stelle 17)
+> put (1)put (2)
+FEHLER : kein ELAN-Text (Zeile 1, Stelle 8)
+> ROW INT VAR a
+FEHLER : kein ELAN-Text (Zeile 1, Stelle 5)
+> ROW 3 INT VAR a; put (a (3))
+FEHLER : unbekannt (Zeile 1, Stelle 23)
+> put (1) (* comment
+FEHLER : kein Symbol (Zeile 1, Stelle 9)
+> put ((1 + 2)
+FEHLER : kein ELAN-Text (Zeile 1, Stelle 13)
 > GANZ VAR i; put (i)
 FEHLER : unbekannt (Zeile 1, Stelle 1)
 > STRUCT (INT a) VAR s; put (s.b)
@@ -348,10 +382,6 @@ FEHLER : doppelt (Zeile 1, Stelle 20)
 FEHLER : doppelt (Zeile 1, Stelle 34)
 > STRUCT (INT a, TEXT b, a) VAR s
 FEHLER : doppelt (Zeile 1, Stelle 24)
-> put (TRUE)
-FEHLER : falscher Typ (Zeile 1, Stelle 1)
-> IF 1 THEN put (1) FI
-FEHLER : falscher Typ (Zeile 1, Stelle 1)
 > 1 + 2
 FEHLER : falscher Typ (Zeile 1, Stelle 1)
 > INT VAR a :: TRUE
@@ -385,7 +415,7 @@ FEHLER : Division durch 0
 FEHLER : Index ausserhalb
 > INT PROC f (INT CONST n): IF n = 0 THEN 0 ELSE 1 + (1 + (1 + f (n - 1))) FI END PROC f; put (f (30000))
 FEHLER : Operandenspeicher voll
-> TEXT VAR t; REP t CAT \"abcdefgh\" PER
+> put (LENGTH (20000 * \"a\"))
 FEHLER : Text zu lang
 > PROC p (TEXT CONST t): p (t) END PROC p; p (16000 * \"a\")
 FEHLER : Textspeicher voll
@@ -393,4 +423,19 @@ FEHLER : Textspeicher voll
 FEHLER : falscher Code
 > errorstop (\"nichts zu tun\"); put (1)
 FEHLER : nichts zu tun
+> BOUND TEXT VAR note :: new (\"note\"); note := \"kept\"; put (note); forget (\"note\"); put (note)
+kept 
+FEHLER : Datenraum existiert nicht
+> BOUND INT VAR a :: new (\"a\"); a := 1; BOUND TEXT VAR b :: old (\"a\")
+FEHLER : falscher Datenraumtyp
+> BOUND INT VAR a :: new (\"a\"); BOUND INT VAR b :: new (\"a\")
+FEHLER : Datenraum existiert schon
+> DATASPACE VAR d; put (type (d))
+FEHLER : Datenraum existiert nicht
+> INT VAR i; FOR i UPTO 17 REP BOUND INT VAR b :: new (text (i)); b := i PER
+FEHLER : zu viele Datenraeume
+> DATASPACE VAR d :: new (\"\")
+FEHLER : falscher Name
+> DATASPACE VAR d :: old (\"nothing\")
+FEHLER : Datenraum gibt es nicht
 ";

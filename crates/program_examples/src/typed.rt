@@ -5,7 +5,7 @@ ghost use Rattle.code_form.specs.Valid.{Fits};
 use crate::rows::put;
 use crate::tasks::reply_to;
 use code_form::{Code, Halt};
-use eu_base::{Bytes, Memory, Reply, Request};
+use eu_base::{Bytes, Memory, Nowhere, Reply, Request};
 use page_pool::Pool;
 use space_memory::SpaceMemory;
 use std::alloc::Global;
@@ -194,9 +194,12 @@ pub fn run_over<M: Memory>(
 
 /// Runs code from its start over a memory of its own.
 pub fn run(alloc: Global, out: &mut Bytes, code: &Code, row: &str, marks: u32) {
-    let mut pool = Pool::new(alloc);
+    let Ok(mut pool) = Pool::new(alloc) else {
+        return;
+    };
     let mut memory = SpaceMemory::new(alloc);
-    let mut lent = memory.over(&mut pool);
+    let mut nowhere = Nowhere;
+    let mut lent = memory.over(&mut pool, &mut nowhere);
     run_over(alloc, out, code, row, marks, &mut lent);
 }
 

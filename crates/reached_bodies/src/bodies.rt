@@ -1,6 +1,7 @@
 //! The bodies of a core, of which those do nothing that its command does not reach.
 
-ghost use Rattle.std.specs.Prelude.{◌≡◌, ℕ, cond, length, option_map, slice_get, IfOk};
+ghost use Rattle.std.specs.Prelude.{◌≡◌, ℕ, Bool, List, cond, length, option_map, slice_get, IfOk};
+ghost use Rattle.elan_types.specs.declared.core_phrase.Core.{Core as Cores};
 ghost use Rattle.elan_types.specs.Eval.{World};
 ghost use Rattle.elan_types.specs.Typing.{IsWellTyped};
 ghost use Rattle.elan_types.specs.Command.{evaluate_from};
@@ -42,6 +43,7 @@ fn all_left(
 /// result alone. With them the core is well typed as before, and does the same. It takes the time of looking at what is reached
 /// once, and a little for each other body.
 pub fn reached(alloc: Global, core: &Core) -> Result<List<Shared<Body>>, NoMemory>
+    ensures left { IfOk result (walks.AreLeft core.now) }
     ensures kept { IfOk result (λ made. (n : ℕ) → IsReached core.now n → slice_get made n ≡ slice_get core.now.bodies n) }
     ensures emptied { IfOk result (λ made. (n : ℕ) → (IsReached core.now n → ⊥) → slice_get made n ≡ option_map nothing_left (slice_get core.now.bodies n)) }
     ensures count { IfOk result (λ made. length made ≡ length core.now.bodies) }
@@ -51,3 +53,8 @@ pub fn reached(alloc: Global, core: &Core) -> Result<List<Shared<Body>>, NoMemor
     let marks = marks(alloc, core)?;
     all_left(alloc, marks.as_slice(), core.bodies.as_slice())
 }
+
+/// Law: a command leaves one list of bodies.
+pub fn one_left()
+    ensures { (core : Cores) (a b : List Bool) → walks.AreMarks core a → walks.AreMarks core b → walks.left_from 0 a core.bodies ≡ walks.left_from 0 b core.bodies }
+{}

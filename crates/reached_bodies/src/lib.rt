@@ -6,4 +6,4 @@ mod marks;
 mod names;
 mod without;
 
-pub use bodies::reached;
+pub use bodies::{one_left, reached};

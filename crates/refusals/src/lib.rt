@@ -3,5 +3,5 @@
 
 mod refusal;
 
-pub use packet_store::{CompileError, Library, PACKETS, Unit, one_meaning, one_unit};
+pub use packet_store::{CompileError, Library, Loaded, PACKETS, Unit, one_meaning, one_unit};
 pub use refusal::refusal_text;

@@ -1,5 +1,5 @@
 -- The ready list: the numbers of the ready tasks, that of the next turn first.
-use Rattle.std.specs.Prelude.{◌≡◌, ◌≤◌, Bool, false, length, AllPairs, not, List, [], ◌∷◌, ◌++◌, filter}
+use Rattle.std.specs.Prelude.{◌≡◌, ◌≤◌, Bool, false, length, AllPairs, not, ◌&&◌, nat_lt, List, [], ◌∷◌, ◌++◌, filter}
 use Rattle.std.specs.List.{list_any}
 use Rattle.task_numbers.specs.declared.number.TaskNo.{TaskNo}
 use Rattle.task_numbers.specs.declared.limits.TheConstants.{TASKS}
@@ -11,6 +11,10 @@ at_back t ready = ready ++ t ∷ []
 
 abbrev pub is_ready : TaskNo → List TaskNo → Bool
 is_ready t ready = list_any (λ u. is_task u t) ready
+
+-- there is a place in the list for a task that is not there
+abbrev pub has_place : TaskNo → List TaskNo → Bool
+has_place t ready = nat_lt (length ready) TASKS && not (is_ready t ready)
 
 -- a task that is not ready any more; the others keep their order
 abbrev pub without : TaskNo → List TaskNo → List TaskNo

@@ -1,8 +1,9 @@
 //! The ready tasks in rotation.
-ghost use Rattle.std.specs.Prelude.{◌≡◌, ◌<◌, false, [], length, drop, slice_get, IfOk};
-ghost use Rattle.slicer.specs.Rotation.{IsRotation, at_back, is_ready, without};
+ghost use Rattle.std.specs.Prelude.{◌≡◌, ◌≢◌, ◌<◌, false, [], length, drop, slice_get, IfErr, IfOk};
+ghost use Rattle.slicer.specs.Rotation.{IsRotation, at_back, has_place, is_ready, without};
 
 use containers::NoMemory;
+use eu_base::ReviveError;
 use std::alloc::Global;
 use std::collections::VecDeque;
 use std::marker::Model;
@@ -37,6 +38,29 @@ impl Slicer {
     {
         let ready = VecDeque::with_capacity(alloc, TASKS)?;
         Ok(Slicer { ready })
+    }
+
+    /// A list with these tasks, in their order. `NotSystem` comes exactly where they are no rotation: a task stands twice, or there
+    /// are more than 16. It takes the room for all tasks.
+    pub fn of(alloc: Global, rows: &[TaskNo]) -> Result<Slicer, ReviveError>
+        ensures rows { IfOk result (λ made. made ≡ rows.now) }
+        ensures refused { IfErr result (λ cause. cause ≢ ReviveError.NoMemory → IsRotation rows.now → ⊥) }
+    {
+        let mut made = Slicer::new(alloc)?;
+        for task in rows {
+            if !made.has_place(*task) {
+                return Err(ReviveError::NotSystem);
+            }
+            made.wake(*task);
+        }
+        Ok(made)
+    }
+
+    /// The task at a place of the list, from 0; `None` exactly past its end.
+    pub fn row(&self, place: u32) -> Option<TaskNo>
+        ensures { result ≡ slice_get self.now place }
+    {
+        self.ready.get(place as usize).copied()
     }
 
     /// Takes the task whose turn is next out of the list; `None` exactly where none is ready.
@@ -77,6 +101,13 @@ impl Slicer {
         ensures { self.new ≡ without task self.old }
     {
         self.ready.retain(|other| !other.is(task));
+    }
+
+    /// Whether a task can come into the list: it is not there, and fewer than 16 tasks are.
+    fn has_place(&self, task: TaskNo) -> bool
+        ensures { result ≡ has_place task self.now }
+    {
+        self.ready.len() < TASKS && !self.is_ready(task)
     }
 
     /// What holds of every ready list: no task stands twice, and there are at most 16.

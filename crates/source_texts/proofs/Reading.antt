@@ -18,8 +18,7 @@ use Rattle.eu_base.specs.Spaces.{Content}
 use Rattle.eu_base.specs.Values.{number_in}
 use Rattle.eu_base.specs.Values as base
 use Rattle.cell_layout.specs.Layout.{cell_in}
-use Rattle.page_pool.specs.Pool.{Pages}
-use Rattle.page_table.specs.Frames.{content_at}
+use Rattle.page_table.specs.Frames.{Over as Pages, content_at}
 use Rattle.data_space.specs.Data.{SpaceData}
 use Rattle.text_blocks.specs.Blocks.{text_in}
 use Rattle.text_heap.specs.Held.{text_of, HoldsCells}

@@ -6,8 +6,7 @@ use Rattle.eu_base.specs.Cells.{Cell, Cells}
 use Rattle.eu_base.specs.SpaceCells.{value_cell}
 pub use Rattle.eu_base.specs.DataSpaces.{Space}
 pub use Rattle.eu_base.specs.SoundSpaces.{shape_kinds, AreOf, none, one}
-use Rattle.page_pool.specs.Pool.{Pages}
-use Rattle.page_table.specs.Frames.{content_at}
+use Rattle.page_table.specs.Frames.{Over as Pages, Knows, content_at}
 use Rattle.text_heap.specs.Held.{HoldsCells}
 use Rattle.data_space.specs.Data.{SpaceData}
 
@@ -18,8 +17,9 @@ held o = value_cell o
 abbrev pub cells_of : List Value → Cells
 cells_of values = λ at. held (slice_get values at.cell)
 
--- pages hold a space: its values lie in its cells by its shape, and it has no other text
+-- pages hold a space, where bytes are told: its values lie in its cells by its shape, and it has no other text
 pub record HoldsSpace (pages : Pages) (paged : SpaceData) (space : Space) : Type 0 where
+  pub knows : Knows pages
   pub kind : paged.kind ≡ space.kind
   pub shape : paged.shape ≡ space.shape
   pub typed : AreOf (shape_kinds space.shape) space.values

@@ -1,37 +1,66 @@
 //! A space that is lent to be read.
 ghost use Rattle.std.specs.Prelude.{◌≡◌, [], ◌∷◌};
+ghost use Rattle.page_pool.specs.Pool.{Backed};
 ghost use Rattle.page_table.specs.Frames.{Stands};
 
 use data_space::DataSpace;
 use eu_base::{MemFault, Space};
-use page_pool::Pool;
+use page_pool::{Backing, Pool};
 
-/// The bytes of a space, over its pool. Nothing is written: a write is refused.
+/// The bytes of a space, over its pool and what stands behind that. Nothing is written: a write is refused.
 #[derive(Drop)]
-pub(crate) struct ReadSpace<'a> {
+pub(crate) struct ReadSpace<'a, B: Backing> {
     /// The space.
     pub space: &'a DataSpace,
     /// The pool that its pages are in.
-    pub pool: &'a Pool,
+    pub pool: &'a mut Pool,
+    /// What stands behind the pool.
+    pub backing: &'a mut B,
     ghost agree: { Stands pool.now (space.now.root ∷ []) 0 },
+    ghost backed: { Backed (B.holds backing.now) pool.now },
 }
 
-impl<'a> Space for ReadSpace<'a> {
-    ghost use Rattle.page_table.specs.Frames.{content_at};
-    ghost use Rattle.source_texts.specs.View.{ReadFollows, read_reflexive, read_transitive};
+/// The bytes of a space, over its pool.
+pub(crate) fn view<'a, B: Backing>(
+    space: &'a DataSpace,
+    pool: &'a mut Pool,
+    backing: &'a mut B,
+) -> ReadSpace<'a, B>
+    requires agree { Stands pool.old (space.now.root ∷ []) 0 }
+    requires backed { Backed (B.holds backing.old) pool.old }
+    ensures pool_name { result.pool.ghost_name ≡ pool.entry.ghost_name }
+    ensures backing_name { result.backing.ghost_name ≡ backing.entry.ghost_name }
+    ensures space_same { result.space.now ≡ space.now }
+    ensures pool_same { result.pool.now ≡ pool.old }
+    ensures backing_same { result.backing.now ≡ backing.old }
+{
+    ReadSpace {
+        space,
+        pool,
+        backing,
+    }
+}
 
-    ghost content = { λ view. content_at view.pool.now view.space.now.root };
+impl<'a, B: Backing> Space for ReadSpace<'a, B> {
+    ghost use Rattle.page_table.specs.Frames.{content_at, Knows};
+    ghost use Rattle.source_texts.specs.View.{pages_of, ReadFollows, read_known, read_reflexive, read_transitive};
 
-    ghost faults = { λ _. 0 };
+    ghost content = { λ view. content_at (pages_of ⟦<B as Backing>⟧ view) view.space.now.root };
 
-    ghost follows = { ReadFollows };
+    ghost known = { λ view. Knows (pages_of ⟦<B as Backing>⟧ view) };
 
-    ghost reflexive = { read_reflexive };
+    ghost faults = { λ view. B.faults view.backing.now };
 
-    ghost transitive = { read_transitive };
+    ghost follows = { ReadFollows ⟦<B as Backing>⟧ };
+
+    ghost stays_known = { read_known ⟦<B as Backing>⟧ };
+
+    ghost reflexive = { read_reflexive ⟦<B as Backing>⟧ B.reflexive };
+
+    ghost transitive = { read_transitive ⟦<B as Backing>⟧ B.transitive };
 
     fn read(&mut self, at: u32, into: &mut [u8]) -> Result<(), MemFault> {
-        self.space.read(self.pool, at, into);
+        self.space.read(self.pool, at, into, self.backing)?;
         Ok(())
     }
 

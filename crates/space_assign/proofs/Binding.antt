@@ -21,7 +21,7 @@ use Rattle.eu_base.specs.Shapes.{cell_kinds, cell_count, same_shape}
 use Rattle.eu_base.specs.Cells.{Cell, Free, Word, Letters, Cells, AreBare, held_of, written, cell_blocks, area_cell, same_area}
 use Rattle.eu_base.specs.DataSpaces.{Head, Heads, SpaceChange, Fills, is_live, IsLive, the_head, heads_by}
 use Rattle.eu_base.specs.SpaceCells.{IsThere, blank_cells, cells_by}
-use Rattle.eu_base.specs.SpacePlaces.{shaped_kinds, kinds_of, begin_with, is_in}
+use Rattle.eu_base.specs.SpacePlaces.{shaped_kinds, kinds_of, begin_with, lies_in}
 use Rattle.eu_base.specs.SpaceOperations.{Plan, unless, for_one, life_refusal, fitting_plan, bind_plan}
 use Rattle.code_form.specs.declared.operand.Operand.{Operand}
 use Rattle.code_form.specs.Machine.{Mem, Position, Move, Halts, Unknown, goes, is_free, takes_number, with_cells, mem_by, mem_after, are_unknown, can_all_change, fills, keeps_space, binds}
@@ -78,12 +78,12 @@ module _ (before after : Cells → Type 0) (had has : Heads) (a : Addr) (shape :
     kept = kept;
   }
 
-  pub away_so : (next : Next) → IsStop next NoSpace → is_in (kinds.Space ∷ []) a.area a.cell had ≡ false → has ≡ had
+  pub away_so : (next : Next) → IsStop next NoSpace → lies_in (kinds.Space ∷ []) a.area a.cell had ≡ false → has ≡ had
       → ((cells : Cells) → before cells → after cells) → Refused before after had has act next
   away_so next stops gone =
       refused_so NoSpace next stops (λ c ops cells. ap (λ (b : Bool). cond b (inner c ops (mem_of had cells)) (Halts NoSpace)) gone)
 
-  module _ (here : is_in (kinds.Space ∷ []) a.area a.cell had ≡ true) where
+  module _ (here : lies_in (kinds.Space ∷ []) a.area a.cell had ≡ true) where
     entered : (c : Position) (ops : List Operand) (cells : Cells) → act c ops (mem_of had cells) ≡ inner c ops (mem_of had cells)
     entered c ops cells = ap (λ (b : Bool). cond b (inner c ops (mem_of had cells)) (Halts NoSpace)) here
 
@@ -142,7 +142,7 @@ nothing_there : (n : ℕ) → begin_with (kinds.Space ∷ []) (drop n []) ≡ fa
 nothing_there zero = refl
 nothing_there (suc n) = refl
 
-elsewhere : (area : Area) (x : ℕ) (s : SpaceNo) (heads : Heads) → is_in (kinds.Space ∷ []) area x heads ≡ true → (the_head s heads).shape ≡ None
+elsewhere : (area : Area) (x : ℕ) (s : SpaceNo) (heads : Heads) → lies_in (kinds.Space ∷ []) area x heads ≡ true → (the_head s heads).shape ≡ None
     → same_area area (areas.Space s) ≡ false
 elsewhere areas.Run x s heads here empty = refl
 elsewhere areas.Packets x s heads here empty = refl
@@ -153,7 +153,8 @@ elsewhere (areas.Space t) x s heads here empty = by (t.0 == s.0) refl
     by true e =
         let same : t ≡ s = ap (λ (n : ℕ). record { 0 = n }) (eqb-true t.0 s.0 e) in
         let none : kinds_of t heads ≡ [] = ap (λ (u : SpaceNo). kinds_of u heads) same ∙ ap shaped_kinds empty in
-        let begins : begin_with (kinds.Space ∷ []) (drop x (kinds_of t heads)) ≡ true = (both (is_live t heads) _ here).1 in
+        let begins : begin_with (kinds.Space ∷ []) (drop x (kinds_of t heads)) ≡ true =
+        (both (is_live t heads) _ (both (cells_fit (x + 1)) _ here).1).1 in
         let f : true ≡ false = sym begins ∙ ap (λ (ks : List Kind). begin_with (kinds.Space ∷ []) (drop x ks)) none ∙ nothing_there x in
         f
 
@@ -189,7 +190,7 @@ pub few_cells : (shape : Shape) → cells_fit (length (cell_kinds shape)) ≡ tr
 few_cells shape e = subst (λ n. n ≤ CELLS) (kinds_counted shape) (leb-true (length (cell_kinds shape)) CELLS e)
 
 module _ (before after : Cells → Type 0) (had has : Heads) (a : Addr) (shape : Shape) (s : SpaceNo)
-    (here : is_in (kinds.Space ∷ []) a.area a.cell had ≡ true) (room : cells_fit (length (cell_kinds shape)) ≡ true) (live : is_live s had ≡ true) where
+    (here : lies_in (kinds.Space ∷ []) a.area a.cell had ≡ true) (room : cells_fit (length (cell_kinds shape)) ≡ true) (live : is_live s had ≡ true) where
   abbrev acts : Act
   acts c ops m = binds c shape (Some s) a ops m
 

@@ -1,5 +1,5 @@
 -- A DATASPACE variable gets a copy.
-use Rattle.std.proofs.Common.{◌≡◌, ℕ, Bool, true, false, cond, List, [], ◌∷◌, Option, Some, None, refl, sym, ap, ◌∙◌, subst, ◌⊎◌, inl, inr}
+use Rattle.std.proofs.Common.{◌≡◌, ℕ, ◌+◌, Bool, true, false, cond, List, [], ◌∷◌, Option, Some, None, refl, sym, ap, ◌∙◌, subst, ◌⊎◌, inl, inr}
 use Rattle.std.specs.Prelude.{Ok, Err, ◌&&◌}
 use Rattle.eu_base.specs.declared.address.Addr.{Addr}
 use Rattle.eu_base.specs.declared.address.Area.{Area}
@@ -12,7 +12,8 @@ use Rattle.eu_base.specs.Values.{SpaceNo, cell_of, space_in}
 use Rattle.eu_base.specs.Cells.{Cell, Free, Word, Letters, Cells, held_of, written, cell_blocks, same_area}
 use Rattle.eu_base.specs.DataSpaces.{Heads, SpaceChange, Makes, next_number, heads_by, heads_after, head_from, is_live}
 use Rattle.eu_base.specs.SpaceCells.{IsThere, cells_from, cells_by}
-use Rattle.eu_base.specs.SpacePlaces.{is_in}
+use Rattle.eu_base.specs.Room.{cells_fit}
+use Rattle.eu_base.specs.SpacePlaces.{lies_in, is_in}
 use Rattle.eu_base.specs.SpaceOperations.{Plan, unless, copy_refusal, room_refusal, copy_plan, forgetting}
 use Rattle.code_form.specs.declared.operand.Operand.{Operand}
 use Rattle.code_form.specs.Machine.{Mem, Position, Move, Halts, Unknown, goes, if_there, on_word, takes_number, with_cells, mem_by, mem_after, changes, keeps_space, without_held, copies}
@@ -38,7 +39,7 @@ module _ (before after : Cells → Type 0) (had has : Heads) (a : Addr) (from : 
       changes (copy_plan None from m.heads) m (λ s m'. keeps_space a s m' (λ m''. goes c ops (without_held (space_in held) m'')))
 
   -- the variable is not there
-  pub gone_so : (next : Next) → IsStop next NoSpace → is_in (kinds.Space ∷ []) a.area a.cell had ≡ false → has ≡ had
+  pub gone_so : (next : Next) → IsStop next NoSpace → lies_in (kinds.Space ∷ []) a.area a.cell had ≡ false → has ≡ had
       → ((cells : Cells) → before cells → after cells) → Refused before after had has act next
   gone_so next stops gone heads kept = record {
     stop = NoSpace;
@@ -50,7 +51,7 @@ module _ (before after : Cells → Type 0) (had has : Heads) (a : Addr) (from : 
     kept = kept;
   }
 
-  module _ (n : ℕ) (here : is_in (kinds.Space ∷ []) a.area a.cell had ≡ true) where
+  module _ (n : ℕ) (here : lies_in (kinds.Space ∷ []) a.area a.cell had ≡ true) where
     opened : (c : Position) (ops : List Operand) (cells : Cells) → act c ops (mem_of had cells) ≡ on_word (cells a) (rest c ops (mem_of had cells))
     opened c ops cells = ap (λ (b : Bool). cond b (on_word (cells a) (rest c ops (mem_of had cells))) (Halts NoSpace)) here
 
@@ -170,11 +171,18 @@ still_area from had has area e h = subst (λ (heads : Heads). IsThere heads area
     by (areas.Space s) h = still_lives s (head_from from had) had h
 
 -- where cells stand, their area is there
-pub area_of : (area : Area) (x : ℕ) (heads : Heads) → is_in (kinds.Space ∷ []) area x heads ≡ true → IsThere heads area
-area_of areas.Run x heads e = tt
-area_of areas.Packets x heads e = tt
-area_of (areas.Space s) x heads e = first (is_live s heads) _ e
+pub area_of : (area : Area) (x : ℕ) (heads : Heads) → lies_in (kinds.Space ∷ []) area x heads ≡ true → IsThere heads area
+area_of area x heads e = by area (second (cells_fit (x + 1)) (is_in (kinds.Space ∷ []) area x heads) e)
   where
+    second : (a b : Bool) → (a && b) ≡ true → b ≡ true
+    second true b e = e
+    second false b e = absurd (cc e)
+
     first : (a b : Bool) → (a && b) ≡ true → a ≡ true
     first true b e = refl
     first false b e = absurd (cc e)
+
+    by : (area : Area) → is_in (kinds.Space ∷ []) area x heads ≡ true → IsThere heads area
+    by areas.Run e = tt
+    by areas.Packets e = tt
+    by (areas.Space s) e = first (is_live s heads) _ e

@@ -5,7 +5,7 @@ ghost use Rattle.eu_base.specs.Room.{cells_fit};
 ghost use Rattle.eu_base.specs.Shapes.{cell_kinds, same_shape};
 ghost use Rattle.eu_base.specs.Cells.{IsCell, HasFaultCause};
 ghost use Rattle.eu_base.specs.DataSpaces.{IsLive, the_head};
-ghost use Rattle.eu_base.specs.SpacePlaces.{is_in};
+ghost use Rattle.eu_base.specs.SpacePlaces.{lies_in};
 ghost use Rattle.code_form.specs.Machine.{binds};
 ghost use Rattle.space_assign.specs.Assigned.{Assigned, Assigns, Shaped};
 
@@ -76,7 +76,7 @@ fn has_shape<M: Memory>(m: &M, s: SpaceNo, shape: &Shape) -> Option<bool>
 // Binds it to a data space in which nothing stands.
 fn bind_new<M: Memory>(m: &mut M, at: Addr, shape: &Shape, s: SpaceNo) -> Result<(), MemFault>
     requires cell { IsCell at }
-    requires there { is_in (kinds.Space ∷ []) at.area at.cell (M.heads m.old) ≡ true }
+    requires there { lies_in (kinds.Space ∷ []) at.area at.cell (M.heads m.old) ≡ true }
     requires room { cells_fit (length (cell_kinds shape.now)) ≡ true }
     requires live { IsLive s (M.heads m.old) }
     requires empty { (the_head s (M.heads m.old)).shape ≡ None }
@@ -92,7 +92,7 @@ fn bind_new<M: Memory>(m: &mut M, at: Addr, shape: &Shape, s: SpaceNo) -> Result
 // Binds it to a data space in which something of this shape stands.
 fn bind_same<M: Memory>(m: &mut M, at: Addr, _shape: &Shape, s: SpaceNo) -> Result<(), MemFault>
     requires cell { IsCell at }
-    requires there { is_in (kinds.Space ∷ []) at.area at.cell (M.heads m.old) ≡ true }
+    requires there { lies_in (kinds.Space ∷ []) at.area at.cell (M.heads m.old) ≡ true }
     requires room { cells_fit (length (cell_kinds _shape.now)) ≡ true }
     requires live { IsLive s (M.heads m.old) }
     requires same { Shaped _shape.now (the_head s (M.heads m.old)).shape (Some true) }

@@ -11,8 +11,7 @@ use Rattle.eu_base.specs.Spaces.{IsKept}
 use Rattle.eu_base.specs.DataSpaces.{Head, heads_in}
 use Rattle.eu_base.specs.SpaceCells.{IsThere}
 use Rattle.eu_base.proofs.Heads.{live_there}
-use Rattle.page_pool.specs.Pool.{Pages}
-use Rattle.page_table.specs.Frames.{content_at, Frames}
+use Rattle.page_table.specs.Frames.{Over as Pages, content_at, Frames}
 use Rattle.data_space.specs.Data.{SpaceData}
 use Rattle.live_spaces.specs.Kept.{KeepsBytes, IsOfKind}
 use Rattle.live_spaces.specs.Live.{space_at, IsLive, no_space, the_space, without, with_space, space_roots}
@@ -124,7 +123,7 @@ module _ (old new : Pages) (was now : MemoryData) where
     run_kind = only.kind;
     packets_kind = subst (IsOfKind was.packets) (sym packets) (kind_none was.packets);
     long = ap (λ (m : MemoryData). length (roots m)) only.memory;
-    leaves = record { there = spaces_there (ap (λ (m : MemoryData). m.spaces) only.memory); others = others };
+    leaves = record { knows = only.keeps.knows; there = spaces_there (ap (λ (m : MemoryData). m.spaces) only.memory); others = others };
   }
     where
       packets : now.packets ≡ was.packets
@@ -141,7 +140,7 @@ module _ (old new : Pages) (was now : MemoryData) where
     run_kind = subst (IsOfKind was.run) (sym run) (kind_none was.run);
     packets_kind = only.kind;
     long = ap (λ (m : MemoryData). length (roots m)) only.memory;
-    leaves = record { there = spaces_there (ap (λ (m : MemoryData). m.spaces) only.memory); others = others };
+    leaves = record { knows = only.keeps.knows; there = spaces_there (ap (λ (m : MemoryData). m.spaces) only.memory); others = others };
   }
     where
       run : now.run ≡ was.run
@@ -178,7 +177,7 @@ module _ (old new : Pages) (was now : MemoryData) where
         (subst (λ (d : SpaceData). same_bytes d.root) left (root_among same_bytes s.0 (without n.0 was.spaces) there keeps.each.1.1))
 
     pub leaves_others : LeavesOthers (Space n) old new was now
-    leaves_others = record { there = area_there; others = area_kept }
+    leaves_others = record { knows = keeps.knows; there = area_there; others = area_kept }
 
   pub of_space : (n : SpaceNo) → OnlySpace n.0 old new was now → OnlyIn (Space n) old new was now
   of_space n only = record {
@@ -194,11 +193,11 @@ module _ (old new : Pages) (was now : MemoryData) where
 -- ---- what a call on one space leaves of a memory over its pool
 pub record Left (area : Area) (old new : Pages) (was now : MemoryData) : Type 0 where
   pub only : OnlyIn area old new was now
-  pub whole : StandsWhole new (roots now)
+  pub whole : StandsWhole new.pool (roots now)
   pub frames : MemoryFrames old new (roots was) (roots now)
 
 pub left : (area : Area) (old new : Pages) (was now : MemoryData) → OnlyIn area old new was now → Frames old new (roots was) (roots now)
-    → StandsWhole old (roots was) → Left area old new was now
+    → StandsWhole old.pool (roots was) → Left area old new was now
 left area old new was now only f s =
     let few : length (roots now) ≤ most_roots = omega (arith, only.long, s.few) in
     record { only = only; whole = whole_after old new (roots was) (roots now) few f s; frames = frames_before old new (roots was) (roots now) few f }

@@ -17,7 +17,7 @@ use Rattle.eu_base.specs.DataSpaces as data_spaces
 use Rattle.eu_base.specs.SpaceCells.{with_area, cells_from, blank_or, blank_cells, cells_by}
 use Rattle.eu_base.proofs.Heads.{append_heads, remove_head, set_head, head_there, live_there, long_heads}
 use Rattle.eu_base.proofs.Places.{same_area_is, same_area_self}
-use Rattle.page_pool.specs.Pool.{Pages}
+use Rattle.page_table.specs.Frames.{Over as Pages, Knows}
 use Rattle.page_table.specs.Frames.{content_at}
 use Rattle.cell_layout.specs.Layout.{cell_in}
 use Rattle.cell_layout.proofs.Counts.{kinds_counted}
@@ -148,7 +148,7 @@ module _ (old new : Pages) (m : MemoryData) (from : Option SpaceNo) (live : IfSo
   like cells b c apart = other_there mine b (cells_from from cells) cells c apart
 
   pub made_held : (cells : Cells) → HoldsAll old m cells → HoldsAll new now (cells_by (Makes from) (memory_heads m) cells)
-  made_held cells h = record { there = λ b is. by b is (same_area b mine) refl; gone = λ b not k. none b not k (same_area b mine) refl }
+  made_held cells h = record { knows = keeps.knows h.knows; there = λ b is. by b is (same_area b mine) refl; gone = λ b not k. none b not k (same_area b mine) refl }
     where
       by : (b : Area) → is_there b now ≡ true → (one : Bool) → same_area b mine ≡ one
           → HoldsCells b (bytes_in b new now) (cells_by (Makes from) (memory_heads m) cells)
@@ -186,7 +186,7 @@ module _ (old new : Pages) (m : MemoryData) (s : SpaceNo) (keeps : KeepsBytes ol
       (root_among (same_bytes old new less less) t.0 less.spaces there keeps.each.1.1)
 
   less_held : (cells : Cells) → HoldsAll old m cells → HoldsAll new less (cells_by (Forgets s) (memory_heads m) cells)
-  less_held cells h = record { there = λ b is. by b is (same_area b (Space s)) refl; gone = λ b not k. none b not k (same_area b (Space s)) refl }
+  less_held cells h = record { knows = keeps.knows h.knows; there = λ b is. by b is (same_area b (Space s)) refl; gone = λ b not k. none b not k (same_area b (Space s)) refl }
     where
       by : (b : Area) → is_there b less ≡ true → (one : Bool) → same_area b (Space s) ≡ one
           → HoldsCells b (bytes_in b new less) (cells_by (Forgets s) (memory_heads m) cells)
@@ -230,10 +230,10 @@ module _ (old new : Pages) (m n : MemoryData) (s : SpaceNo) (shape : Shape) (few
   kind_at : (c : ℕ) → c < cell_count shape → slice_get (cell_kinds shape) c ≡ Some (get_or (cell_kinds shape) c kinds.Int)
   kind_at c low = slice_get-get_or (cell_kinds shape) c kinds.Int (omega (arith, kinds_counted shape, low))
 
-  zero_at : (c : ℕ) → c < cell_count shape → cell_in (bytes_in (Space s) new n) c ≡ 0
-  zero_at c low =
+  zero_at : Knows old → (c : ℕ) → c < cell_count shape → cell_in (bytes_in (Space s) new n) c ≡ 0
+  zero_at known c low =
       let same : 0 + c ≡ c = omega arith in
-      ap (cell_in (bytes_in (Space s) new n)) (sym same) ∙ filled.blank c (get_or (cell_kinds shape) c kinds.Int) (kind_at c low)
+      ap (cell_in (bytes_in (Space s) new n)) (sym same) ∙ filled.blank known c (get_or (cell_kinds shape) c kinds.Int) (kind_at c low)
       ∙ blank_zero (get_or (cell_kinds shape) c kinds.Int)
 
   module _ (cells : Cells) (h : HoldsAll old m cells) (bare : AreBare (Space s) 0 (cell_count shape) cells) where
@@ -246,17 +246,17 @@ module _ (old new : Pages) (m n : MemoryData) (s : SpaceNo) (shape : Shape) (few
     own_held : HoldsCells (Space s) (bytes_in (Space s) new n) after
     own_held =
         blank_held (Space s) (bytes_in (Space s) old m) (bytes_in (Space s) new n) cells after (cell_count shape) few (h.there (Space s) live)
-        (λ c low. bare c (omega arith) (omega (arith, low))) zero_at
+        (λ c low. bare c (omega arith) (omega (arith, low))) (zero_at h.knows)
         (λ c low. subst (λ x. IsBlankCell x) (sym (at_cell c ∙ ap (λ o. blank_or o (cells (space_cell s c))) (kind_at c low)))
         (blank_there (get_or (cell_kinds shape) c kinds.Int)))
         (λ c past. at_cell c ∙ ap (λ o. blank_or o (cells (space_cell s c))) (slice_get_past (cell_kinds shape) c (omega (arith, kinds_counted shape, past))))
-        filled.kept
+        (filled.kept h.knows)
 
     apart_cell : (b : Area) (c : ℕ) → same_area b (Space s) ≡ false → after (area_cell b c) ≡ cells (area_cell b c)
     apart_cell b c e = other_there (Space s) b (blank_cells s (cell_kinds shape) cells) cells c e
 
     pub filled_held : HoldsAll new n after
-    filled_held = record { there = λ b is. by b is (same_area b (Space s)) refl; gone = λ b not k. none b not k (same_area b (Space s)) refl }
+    filled_held = record { knows = leaves.knows h.knows; there = λ b is. by b is (same_area b (Space s)) refl; gone = λ b not k. none b not k (same_area b (Space s)) refl }
       where
         by : (b : Area) → is_there b n ≡ true → (one : Bool) → same_area b (Space s) ≡ one → HoldsCells b (bytes_in b new n) after
         by b is true e = subst (λ x. HoldsCells x (bytes_in x new n) after) (sym (same_area_is b (Space s) e)) own_held
@@ -273,7 +273,7 @@ module _ (old new : Pages) (m n : MemoryData) (s : SpaceNo) (shape : Shape) (few
 -- where only names are others, all is known still
 pub named_still : (pages : Pages) (m : MemoryData) (names : List (List ℕ × SpaceNo)) (cells : Cells) → HoldsAll pages m cells
     → HoldsAll pages (record m { names = names }) cells
-named_still pages m names cells h = record { there = there; gone = gone }
+named_still pages m names cells h = record { knows = h.knows; there = there; gone = gone }
   where
     there : (b : Area) → is_there b (record m { names = names }) ≡ true → HoldsCells b (bytes_in b pages (record m { names = names })) cells
     there Run is = h.there Run is

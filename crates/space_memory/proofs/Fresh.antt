@@ -3,8 +3,7 @@ use Rattle.std.proofs.Common.{◌≡◌, ℕ, ◌%◌, [], ◌∷◌, None, get_
 use Rattle.std.specs.Option.{is_some}
 use Rattle.std.proofs.lemmas.Bool.{cases_lt}
 use Rattle.std.proofs.lemmas.List.{get_or-replicate, get_or_past, length-replicate}
-use Rattle.page_pool.specs.Pool.{Pages}
-use Rattle.page_table.specs.Frames.{content_at, Stands}
+use Rattle.page_table.specs.Frames.{Over as Pages, Knows, content_at, Stands}
 use Rattle.page_table.proofs.Framing.{nil_agree, stands_of}
 use Rattle.eu_base.specs.declared.address.Area.{Area}
 use Rattle.eu_base.specs.declared.address.Area.TheVariants.{Run, Packets, Space}
@@ -15,8 +14,8 @@ use Rattle.space_memory.specs.Memories.{MemoryData, HoldsAll, new_memory, roots,
 use Rattle.data_space.specs.Data.{SpaceData}
 use Rattle.live_spaces.specs.Live.{no_space, space_at}
 
-pub new_stands : Stands [] (roots new_memory) 0
-new_stands = stands_of [] (None ∷ None ∷ []) [] 0 (omega arith) ∣ nil_agree (None ∷ None ∷ []) (λ p. omega arith) (omega arith) ∣₁
+pub new_stands : Stands (record { slots = []; clean = [] }) (roots new_memory) 0
+new_stands = stands_of (record { slots = []; clean = [] }) (None ∷ None ∷ []) [] 0 (omega arith) ∣ nil_agree (None ∷ None ∷ []) (λ p. omega arith) (omega arith) ∣₁
 
 -- a space without pages is one of zeros
 zeros : (n i : ℕ) → let zero_byte : ℕ = 0 in get_or (replicate n zero_byte) i zero_byte ≡ zero_byte
@@ -29,9 +28,9 @@ pub nothing_held : (area : Area) (pages : Pages) → HoldsCells area (content_at
 nothing_held area pages = zeros_held area (content_at pages None) (λ n. zeros 512 (n % 512))
 
 -- of a memory without bytes and spaces nothing need be known
-pub new_held : (pages : Pages) (memory : MemoryData) → memory.run ≡ no_space → memory.packets ≡ no_space → memory.spaces ≡ []
+pub new_held : (pages : Pages) (memory : MemoryData) → memory.run ≡ no_space → memory.packets ≡ no_space → memory.spaces ≡ [] → Knows pages
     → HoldsAll pages memory (λ _. Free)
-new_held pages memory run packets spaces = record { there = there; gone = λ area not k. refl }
+new_held pages memory run packets spaces known = record { knows = known; there = there; gone = λ area not k. refl }
   where
     there : (area : Area) → is_there area memory ≡ true → HoldsCells area (bytes_in area pages memory) (λ _. Free)
     there Run is = subst (λ (s : SpaceData). HoldsCells Run (content_at pages s.root) (λ _. Free)) (sym run) (nothing_held Run pages)

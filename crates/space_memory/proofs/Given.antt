@@ -1,5 +1,5 @@
 -- A memory after another task's data space was given to it, and after one of its own was taken out.
-use Rattle.std.proofs.Common.{◌≡◌, ◌+◌, ℕ, Bool, true, false, cond, List, [], ◌∷◌, ◌++◌, Option, None, Some, refl, sym, ap, ◌∙◌, subst, true≢false}
+use Rattle.std.proofs.Common.{◌≡◌, ◌+◌, ℕ, Bool, true, false, List, [], ◌∷◌, Option, None, refl, sym, ap, ◌∙◌, subst, true≢false}
 use Rattle.std.specs.Prelude.{slice_get}
 use Rattle.std.specs.Option.{is_some, unwrap_or}
 use Rattle.task_numbers.specs.declared.number.SpaceNo.{SpaceNo}
@@ -11,7 +11,7 @@ use Rattle.eu_base.specs.DataSpaces as data_spaces
 use Rattle.eu_base.specs.SpaceCells.{value_cell, content_cells, cells_by}
 use Rattle.eu_base.proofs.Heads.{append_heads}
 use Rattle.eu_base.proofs.Places.{same_area_is}
-use Rattle.page_pool.specs.Pool.{Pages}
+use Rattle.page_table.specs.Frames.{Over as Pages}
 use Rattle.page_table.specs.Frames.{content_at}
 use Rattle.text_heap.specs.Held.{HoldsCells}
 use Rattle.text_heap.proofs.Kept.{moved_held}
@@ -55,7 +55,7 @@ module _ (pages : Pages) (m : MemoryData) (d : SpaceData) (content : data_spaces
 
   -- its cells hold what stands in it, and those of the others what they held
   pub given_held : (cells : Cells) → HoldsAll pages m cells → HoldsAll pages now (cells_by (Gets content) (memory_heads m) cells)
-  given_held cells h = record { there = λ b is. by b is (same_area b mine) refl; gone = λ b not k. none b not k (same_area b mine) refl }
+  given_held cells h = record { knows = h.knows; there = λ b is. by b is (same_area b mine) refl; gone = λ b not k. none b not k (same_area b mine) refl }
     where
       like : (b : Area) (c : ℕ) → same_area b mine ≡ false → cells_by (Gets content) (memory_heads m) cells (area_cell b c) ≡ cells (area_cell b c)
       like b c apart = other_there mine b (content_cells content) cells c apart

@@ -10,7 +10,7 @@ use Rattle.eu_base.specs.Spaces.{Content}
 use Rattle.eu_base.specs.Room.{most_blocks}
 use Rattle.eu_base.specs.Cells.{Cell, Word, Letters, Cells, IsCell, area_cell, same_area, written, cell_blocks, area_blocks, HasText, Puts}
 use Rattle.eu_base.proofs.Places.{same_area_is}
-use Rattle.page_pool.specs.Pool.{Pages}
+use Rattle.page_table.specs.Frames.{Over as Pages, Knows}
 use Rattle.cell_layout.specs.Layout.{cell_in, HoldsIn, IsKeptBut}
 use Rattle.text_heap.specs.Texts.{Texts, Holds, Sets, KeepsCells}
 use Rattle.text_heap.specs.Texts as heap
@@ -22,25 +22,25 @@ use Rattle.space_memory.specs.Laws.{gone_still}
 
 -- the free blocks of an area
 pub blocks_left : (area a : Area) (pages : Pages) (memory : MemoryData) (rooms : ℕ) → a ≡ area → is_there area memory ≡ true
-    → ((texts : Texts) → Holds (bytes_in area pages memory) texts → rooms + heap.blocks_in texts ≡ most_blocks) → (cells : Cells)
+    → (Knows pages → (texts : Texts) → Holds (bytes_in area pages memory) texts → rooms + heap.blocks_in texts ≡ most_blocks) → (cells : Cells)
     → HoldsAll pages memory cells → rooms + area_blocks a cells ≡ most_blocks
 blocks_left area a pages memory rooms is there left cells h =
     subst (λ x. rooms + area_blocks x cells ≡ most_blocks) (sym is)
-    (rooms_left area (bytes_in area pages memory) cells rooms left (h.there area there))
+    (rooms_left area (bytes_in area pages memory) cells rooms (left h.knows) (h.there area there))
 
 -- what was read in the space of an area is what is known of the cell
 module _ (area : Area) (pages : Pages) (memory : MemoryData) (there : is_there area memory ≡ true) (at : Addr) (own : at.area ≡ area) where
-  pub number_known : {E : Type 0} (result : Result ℕ E) → IsCell at → IfOk result (λ number. number ≡ cell_in (bytes_in area pages memory) at.cell)
+  pub number_known : {E : Type 0} (result : Result ℕ E) → IsCell at → IfOk result (λ number. Knows pages → number ≡ cell_in (bytes_in area pages memory) at.cell)
       → IfOk result (λ number. (cells : Cells) (n : ℕ) → HoldsAll pages memory cells → cells at ≡ Word n → number ≡ n)
   number_known (Ok number) low is = λ cells n h e.
-      is ∙ (h.there area there).words at.cell n low (ap (λ x. cells (area_cell x at.cell)) (sym own) ∙ e)
+      is h.knows ∙ (h.there area there).words at.cell n low (ap (λ x. cells (area_cell x at.cell)) (sym own) ∙ e)
   number_known (Err e) low is = tt
 
   pub text_known : {E : Type 0} (result : Result (List ℕ) E)
-      → IfOk result (λ text. (texts : Texts) → Holds (bytes_in area pages memory) texts → IsSome (texts at.cell) → texts at.cell ≡ Some text)
+      → IfOk result (λ text. Knows pages → (texts : Texts) → Holds (bytes_in area pages memory) texts → IsSome (texts at.cell) → texts at.cell ≡ Some text)
       → IfOk result (λ text. (cells : Cells) (t : List ℕ) → HoldsAll pages memory cells → cells at ≡ Letters t → text ≡ t)
   text_known (Ok text) found = λ cells t h e.
-      text_read (bytes_in area pages memory) cells at text t found
+      text_read (bytes_in area pages memory) cells at text t (found h.knows)
       (subst (λ x. HoldsCells x (bytes_in area pages memory) cells) (sym own) (h.there area there)) e
   text_known (Err e) found = tt
 
@@ -67,6 +67,7 @@ module _ (area : Area) (old new : Pages) (before after : MemoryData) (is_here : 
   -- where its bytes are as they were, all is known still
   pub known_still : KeepsSpace old new (space_in area before) (space_in area after) → (cells : Cells) → HoldsAll old before cells → HoldsAll new after cells
   known_still same cells h = record {
+    knows = leaves.knows h.knows;
     there = λ b is. by b is (same_area b area) refl;
     gone = λ b not k. h.gone b (was_gone b not) k;
   }
@@ -85,6 +86,7 @@ module _ (area : Area) (old new : Pages) (before after : MemoryData) (is_here : 
     -- something was put into one of its cells
     put_there : (cells : Cells) (x : Cell) → HoldsAll old before cells → HoldsCells at.area now (written cells at x) → HoldsAll new after (written cells at x)
     put_there cells x h here = record {
+      knows = leaves.knows h.knows;
       there = λ b is. by b is (same_area b area) refl;
       gone = λ b not k.
           gone_still before cells at x b k (ap (λ a. is_there a before) own ∙ is_here) (was_gone b not) (h.gone b (was_gone b not) k);
@@ -100,18 +102,19 @@ module _ (area : Area) (old new : Pages) (before after : MemoryData) (is_here : 
     here_before : (cells : Cells) → HoldsAll old before cells → HoldsCells at.area was cells
     here_before cells h = subst (λ x. HoldsCells x was cells) (sym own) (h.there area is_here)
 
-    pub number_put : {T E : Type 0} (result : Result T E) (n : ℕ) → OnOk result (HoldsIn was now at.cell n) → IsKeptBut was now at.cell 1
+    pub number_put : {T E : Type 0} (result : Result T E) (n : ℕ) → OnOk result (Knows old → HoldsIn was now at.cell n) → (Knows old → IsKeptBut was now at.cell 1)
         → OnOk result ((cells : Cells) → HoldsAll old before cells → cell_blocks (cells at) ≡ 0 → HoldsAll new after (written cells at (Word n)))
     number_put (Ok x) n put kept = λ cells h none.
-        put_there cells (Word n) h (word_held was now cells at n low (here_before cells h) none put kept)
+        put_there cells (Word n) h (word_held was now cells at n low (here_before cells h) none (put h.knows) (kept h.knows))
     number_put (Err e) n put kept = tt
 
-    text_there : (t : List ℕ) (set : Set) → ((texts : Texts) → Holds was texts → IsSome (texts at.cell) → Sets was now texts at.cell t set)
-        → KeepsCells was now at.cell → (cells : Cells) → HoldsAll old before cells → HasText (cells at) → Puts (HoldsAll new after) cells at t set
-    text_there t set sets kept cells h has = by set (text_held was now cells at t set low (here_before cells h) has sets kept)
+    text_there : (t : List ℕ) (set : Set) → (Knows old → (texts : Texts) → Holds was texts → IsSome (texts at.cell) → Sets was now texts at.cell t set)
+        → (Knows old → KeepsCells was now at.cell) → (cells : Cells) → HoldsAll old before cells → HasText (cells at) → Puts (HoldsAll new after) cells at t set
+    text_there t set sets kept cells h has = by set (text_held was now cells at t set low (here_before cells h) has (sets h.knows) (kept h.knows))
       where
         same_bytes : HoldsCells at.area now cells → HoldsAll new after cells
         same_bytes here = record {
+          knows = leaves.knows h.knows;
           there = λ b is. again b is (same_area b area) refl;
           gone = λ b not k. h.gone b (was_gone b not) k;
         }
@@ -126,8 +129,8 @@ module _ (area : Area) (old new : Pages) (before after : MemoryData) (is_here : 
         by HeapFull put = (put.0, same_bytes put.1)
 
     pub text_put : {E : Type 0} (result : Result Set E) (t : List ℕ)
-        → IfOk result (λ set. (texts : Texts) → Holds was texts → IsSome (texts at.cell) → Sets was now texts at.cell t set)
-        → OnOk result (KeepsCells was now at.cell)
+        → IfOk result (λ set. Knows old → (texts : Texts) → Holds was texts → IsSome (texts at.cell) → Sets was now texts at.cell t set)
+        → OnOk result (Knows old → KeepsCells was now at.cell)
         → IfOk result (λ set. (cells : Cells) → HoldsAll old before cells → HasText (cells at) → Puts (HoldsAll new after) cells at t set)
     text_put (Ok set) t sets kept = text_there t set sets kept
     text_put (Err e) t sets kept = tt

@@ -4,10 +4,9 @@ use Rattle.std.proofs.Common.{◌∙◌, arith}
 use Rattle.std.proofs.lemmas.List.{length-append}
 use Rattle.eu_base.specs.declared.address.Area.{Area}
 use Rattle.eu_base.specs.Cells.{same_area}
-use Rattle.page_pool.specs.Pool.{Pages}
 use Rattle.page_table.specs.Entries.{Names}
 use Rattle.data_space.specs.Data.{SpaceData}
-use Rattle.page_table.specs.Frames.{Frames}
+use Rattle.page_table.specs.Frames.{Over as Pages, Knows, Frames}
 use Rattle.page_table.proofs.Framing.{frames_none}
 use Rattle.page_table.proofs.Moving.{homes_then}
 use Rattle.live_spaces.specs.Kept.{KeepsBytes, IsOfKind}
@@ -34,6 +33,7 @@ pub record OnlySpace (s : ℕ) (old new : Pages) (was now : MemoryData) : Type 0
 
 -- the same areas are there, and of all bytes those of the space of one area alone change
 pub record LeavesOthers (area : Area) (old new : Pages) (was now : MemoryData) : Type 0 where
+  pub knows : Knows old → Knows new
   pub there : (b : Area) → is_there b now ≡ is_there b was
   pub others : (b : Area) → same_area b area ≡ false → is_there b was ≡ true → KeepsSpace old new (space_in b was) (space_in b now)
 
@@ -48,18 +48,24 @@ pub record OnlyIn (area : Area) (old new : Pages) (was now : MemoryData) : Type 
 -- one call after the other, and none
 pub frames_before : (old new : Pages) (before after : Names) → length after ≤ most_roots → Frames old new before after → MemoryFrames old new before after
 frames_before old new before after few f = record {
+  tell = f.tell;
+  knows = f.knows;
   homes = f.homes;
   frame = λ rest agree room. f.frame rest agree (omega (arith, few, room, length-append after rest));
 }
 
 pub memory_frames_none : (pages : Pages) (names : Names) → MemoryFrames pages pages names names
 memory_frames_none pages names = record {
+  tell = refl;
+  knows = λ k. k;
   homes = (frames_none pages names).homes;
   frame = λ rest agree room. record { agrees = agree; same = λ root among n. refl };
 }
 
 pub memory_frames_then : (p0 p1 p2 : Pages) (a b c : Names) → MemoryFrames p0 p1 a b → MemoryFrames p1 p2 b c → MemoryFrames p0 p2 a c
 memory_frames_then p0 p1 p2 a b c f g = record {
+  tell = g.tell ∙ f.tell;
+  knows = λ k. g.knows (f.knows k);
   homes = homes_then f.homes g.homes;
   frame = λ rest agree room.
       let first = f.frame rest agree room in

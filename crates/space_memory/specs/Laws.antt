@@ -6,7 +6,7 @@ use Rattle.eu_base.specs.declared.address.Addr.{Addr}
 use Rattle.eu_base.specs.Room.{most_blocks, total}
 use Rattle.eu_base.specs.Cells.{Cell, Free, Word, Letters, Cells, IsCell, area_cell, same_area, written, cell_blocks, area_blocks, Within}
 use Rattle.eu_base.proofs.Places.{same_area_is}
-use Rattle.page_pool.specs.Pool.{Pages}
+use Rattle.page_table.specs.Frames.{Over as Pages}
 use Rattle.text_heap.specs.Held.{HoldsCells}
 use Rattle.text_heap.proofs.Kept.{other_held, fewer_held, empty_held, room_held}
 use Rattle.space_memory.specs.Memories.{MemoryData, HoldsAll, is_there, bytes_in}
@@ -15,6 +15,7 @@ use Rattle.space_memory.specs.Memories.{MemoryData, HoldsAll, is_there, bytes_in
 pub all_fewer : (pages : Pages) (memory : MemoryData) (cells fewer : Cells) → HoldsAll pages memory cells → Within fewer cells
     → HoldsAll pages memory fewer
 all_fewer pages memory cells fewer h within = record {
+  knows = h.knows;
   there = λ area is. fewer_held area (bytes_in area pages memory) cells fewer (h.there area is) within;
   gone = λ area not k.
       ⊎_elim (λ same. same ∙ h.gone area not k) (λ none. none.0) (within (area_cell area k));
@@ -46,6 +47,7 @@ word_is_there pages memory cells at n h is = by (is_there at.area memory) refl
 pub all_empty : (pages : Pages) (memory : MemoryData) (cells : Cells) (at : Addr) → IsCell at → HoldsAll pages memory cells → cells at ≡ Word 0
     → HoldsAll pages memory (written cells at (Letters []))
 all_empty pages memory cells at low h is = record {
+  knows = h.knows;
   there = λ area there. by area there (same_area area at.area) refl;
   gone = λ area not k. gone_still memory cells at (Letters []) area k (word_is_there pages memory cells at 0 h is) not (h.gone area not k);
 }

@@ -9,7 +9,7 @@ use Rattle.eu_base.specs.Spaces.{Content, IsKept}
 use Rattle.eu_base.specs.DataSpaces.{Head, Heads, heads_in}
 use Rattle.page_pool.specs.Pool.{Pages}
 use Rattle.page_table.specs.Entries.{Names}
-use Rattle.page_table.specs.Frames.{content_at, Stands, KeepsHomes, Framed}
+use Rattle.page_table.specs.Frames.{Over, Knows, content_at, Stands, KeepsHomes, Framed}
 use Rattle.page_table.specs.Sharing.{most_spaces, Agree}
 use Rattle.text_heap.specs.Held.{HoldsCells}
 use Rattle.data_space.specs.Data.{SpaceData}
@@ -69,11 +69,12 @@ space_in Run memory = memory.run
 space_in Packets memory = memory.packets
 space_in (Space s) memory = the_space s.0 memory.spaces
 
-abbrev pub bytes_in : Area → Pages → MemoryData → Content
+abbrev pub bytes_in : Area → Over → MemoryData → Content
 bytes_in area pages memory = content_at pages (space_in area memory).root
 
--- what is known of the cells of each area that is there; of those of others nothing is
-pub record HoldsAll (pages : Pages) (memory : MemoryData) (cells : Cells) : Type 0 where
+-- what is known of the cells of each area that is there, where bytes are told; of those of others nothing is
+pub record HoldsAll (pages : Over) (memory : MemoryData) (cells : Cells) : Type 0 where
+  pub knows : Knows pages
   pub there : (area : Area) → is_there area memory ≡ true → HoldsCells area (bytes_in area pages memory) cells
   pub gone : (area : Area) → is_there area memory ≡ false → (k : ℕ) → cells (area_cell area k) ≡ Free
 
@@ -95,10 +96,12 @@ pub record StandsWhole (pages : Pages) (mine : Names) : Type 0 where
 
 -- The spaces of a memory become others. Whatever the rest is, where a whole memory has room beside it, pool and spaces agree, and no byte
 -- of the rest changes.
-pub record MemoryFrames (old new : Pages) (before after : Names) : Type 0 where
-  pub homes : KeepsHomes old new
-  pub frame : (rest : Names) → Agree old (before ++ rest) → length rest + most_roots ≤ most_spaces → Framed old new after rest
+pub record MemoryFrames (old new : Over) (before after : Names) : Type 0 where
+  pub tell : new.tell ≡ old.tell
+  pub knows : Knows old → Knows new
+  pub homes : KeepsHomes old.pool new.pool
+  pub frame : (rest : Names) → Agree old.pool (before ++ rest) → length rest + most_roots ≤ most_spaces → Framed old new after rest
 
 -- a space is the one that it was, with each byte
-abbrev pub KeepsSpace : Pages → Pages → SpaceData → SpaceData → Type 0
+abbrev pub KeepsSpace : Over → Over → SpaceData → SpaceData → Type 0
 KeepsSpace old new before after = IsKept (content_at old before.root) (content_at new after.root)

@@ -1,9 +1,9 @@
 //! What a task has in its memory.
 ghost use Rattle.std.specs.Prelude.{◌≡◌, ◌+◌, ◌≤◌, ◌++◌, [], IfOk, OnErr};
 ghost use Rattle.eu_base.specs.Cells.{Free};
-ghost use Rattle.page_pool.specs.Pool.{Pages, used_of};
+ghost use Rattle.page_pool.specs.Pool.{used_of, Tell};
 ghost use Rattle.page_table.specs.Changes.{ChangesOnly, FreesOnly};
-ghost use Rattle.page_table.specs.Frames.{content_at, Frames, Stands};
+ghost use Rattle.page_table.specs.Frames.{Over, over, Knows, content_at, Frames, Stands};
 ghost use Rattle.page_table.specs.Sharing.{Agree};
 ghost use Rattle.text_heap.specs.Held.{HoldsCells};
 ghost use Rattle.live_spaces.specs.Kept.{KeepsBytes};
@@ -52,7 +52,7 @@ impl SpaceMemory {
     /// A memory whose spaces are empty: over any pool no number and no text is known, and all blocks are free.
     pub fn new(alloc: Global) -> SpaceMemory
         ensures empty { result ≡ new_memory }
-        ensures nothing { (pages : Pages) → HoldsAll pages result (λ _. Free) }
+        ensures nothing { (pages : Over) → Knows pages → HoldsAll pages result (λ _. Free) }
     {
         SpaceMemory {
             run: DataSpace::nil(),
@@ -82,9 +82,9 @@ impl SpaceMemory {
     pub fn clear_run(&mut self, pool: &mut Pool)
         requires agree { Stands pool.old (roots self.old) 0 }
         ensures cleared { self.new ≡ record self.old { run = no_space } }
-        ensures nothing { HoldsCells Run (content_at pool.new self.new.run.root) (λ _. Free) }
-        ensures frames { Frames pool.old pool.new (roots self.old) (roots self.new) }
-        ensures keeps { KeepsBytes pool.old pool.new (roots self.new) }
+        ensures nothing { (tell : Tell) → HoldsCells Run (content_at (over pool.new tell) self.new.run.root) (λ _. Free) }
+        ensures frames { (tell : Tell) → Frames (over pool.old tell) (over pool.new tell) (roots self.old) (roots self.new) }
+        ensures keeps { (tell : Tell) → KeepsBytes (over pool.old tell) (over pool.new tell) (roots self.new) }
         ensures frees { FreesOnly pool.old pool.new }
         ensures used { used_of pool.new ≤ used_of pool.old }
     {
@@ -97,8 +97,8 @@ impl SpaceMemory {
     pub fn inherit(&self, pool: &mut Pool) -> Result<SpaceMemory, NoMemory>
         requires agree { Stands pool.old (roots self.now) 2 }
         ensures son { IfOk result (λ son. son ≡ heir self.now) }
-        ensures frames { IfOk result (λ son. Frames pool.old pool.new (roots self.now) (roots self.now ++ roots son)) }
-        ensures keeps { KeepsBytes pool.old pool.new (roots self.now) }
+        ensures frames { IfOk result (λ son. (tell : Tell) → Frames (over pool.old tell) (over pool.new tell) (roots self.now) (roots self.now ++ roots son)) }
+        ensures keeps { (tell : Tell) → KeepsBytes (over pool.old tell) (over pool.new tell) (roots self.now) }
         ensures changes { ChangesOnly pool.old pool.new [] }
         ensures used { used_of pool.new ≤ used_of pool.old + 1 }
         ensures err { OnErr result (pool.new ≡ pool.old) }
@@ -116,7 +116,7 @@ impl SpaceMemory {
     /// Lets all spaces go.
     pub fn end(self, pool: &mut Pool)
         requires agree { Stands pool.old (roots self) 0 }
-        ensures frames { Frames pool.old pool.new (roots self) [] }
+        ensures frames { (tell : Tell) → Frames (over pool.old tell) (over pool.new tell) (roots self) [] }
         ensures frees { FreesOnly pool.old pool.new }
         ensures used { used_of pool.new ≤ used_of pool.old }
         ensures last { Agree pool.old (roots self) → used_of pool.new ≡ 0 }

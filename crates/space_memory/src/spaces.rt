@@ -2,10 +2,10 @@
 ghost use Rattle.std.specs.Prelude.{◌≡◌, ◌≢◌, ◌+◌, ◌<◌, ◌≤◌, [], ◌∷◌, length, None, slice_get, is_some, option_map, IfOk, IfErr, OnOk, OnErr, IfSome, Err};
 ghost use Rattle.std.specs.Option.{option_copied};
 ghost use Rattle.eu_base.specs.Shapes.{cell_count};
-ghost use Rattle.eu_base.specs.declared.cells.MemFault.TheVariants.{Failed};
-ghost use Rattle.page_pool.specs.Pool.{Pages, used_of};
+ghost use Rattle.eu_base.specs.Cells.{HasFaultCause};
+ghost use Rattle.page_pool.specs.Pool.{used_of, Tell, Backed};
 ghost use Rattle.page_table.specs.Changes.{ChangesOnly, FreesOnly};
-ghost use Rattle.page_table.specs.Frames.{Frames, Stands};
+ghost use Rattle.page_table.specs.Frames.{Over, over, Frames, Stands};
 ghost use Rattle.live_spaces.specs.Kept.{KeepsBytes, IsFilled, IsNotFilled};
 ghost use Rattle.live_spaces.specs.Live.{space_at, IsLive, IsNumbered, the_space, without, space_roots};
 ghost use Rattle.space_memory.specs.Memories.{roots, with_new, source, changed, forgotten};
@@ -14,7 +14,7 @@ use crate::space_memory::SpaceMemory;
 use data_space::DataSpace;
 use eu_base::{CELLS, MemFault, NoMemory, Shape};
 use live_spaces::MOST_LIVE;
-use page_pool::Pool;
+use page_pool::{Backing, Pool};
 use task_numbers::SpaceNo;
 
 impl SpaceMemory {
@@ -50,8 +50,8 @@ impl SpaceMemory {
         requires agree { Stands pool.old (roots self.old) 1 }
         ensures number { IfOk result (λ s. s.0 ≡ self.old.last + 1) }
         ensures made { OnOk result (self.new ≡ with_new (source from self.old) self.old) }
-        ensures frames { Frames pool.old pool.new (roots self.old) (roots self.new) }
-        ensures keeps { KeepsBytes pool.old pool.new (roots self.old) }
+        ensures frames { (tell : Tell) → Frames (over pool.old tell) (over pool.new tell) (roots self.old) (roots self.new) }
+        ensures keeps { (tell : Tell) → KeepsBytes (over pool.old tell) (over pool.new tell) (roots self.old) }
         ensures changes { ChangesOnly pool.old pool.new [] }
         ensures used { used_of pool.new ≤ used_of pool.old + 1 }
         ensures err { OnErr result (self.new ≡ self.old) }
@@ -73,8 +73,8 @@ impl SpaceMemory {
         requires agree { Stands pool.old (roots self.old) 1 }
         ensures number { IfOk result (λ s. s.0 ≡ self.old.last + 1) }
         ensures made { OnOk result (self.new ≡ with_new (the_space of.0 self.old.spaces) self.old) }
-        ensures frames { Frames pool.old pool.new (roots self.old) (roots self.new) }
-        ensures keeps { KeepsBytes pool.old pool.new (roots self.old) }
+        ensures frames { (tell : Tell) → Frames (over pool.old tell) (over pool.new tell) (roots self.old) (roots self.new) }
+        ensures keeps { (tell : Tell) → KeepsBytes (over pool.old tell) (over pool.new tell) (roots self.old) }
         ensures changes { ChangesOnly pool.old pool.new [] }
         ensures used { used_of pool.new ≤ used_of pool.old + 1 }
         ensures err { OnErr result (self.new ≡ self.old) }
@@ -92,8 +92,8 @@ impl SpaceMemory {
         requires agree { Stands pool.old (roots self.old) 0 }
         ensures forgotten { self.new ≡ forgotten s.0 self.old }
         ensures gone { space_at s.0 self.new.spaces ≡ None }
-        ensures frames { Frames pool.old pool.new (roots self.old) (roots self.new) }
-        ensures keeps { KeepsBytes pool.old pool.new (roots self.new) }
+        ensures frames { (tell : Tell) → Frames (over pool.old tell) (over pool.new tell) (roots self.old) (roots self.new) }
+        ensures keeps { (tell : Tell) → KeepsBytes (over pool.old tell) (over pool.new tell) (roots self.new) }
         ensures frees { FreesOnly pool.old pool.new }
         ensures used { used_of pool.new ≤ used_of pool.old }
     {
@@ -134,20 +134,28 @@ impl SpaceMemory {
 
     /// Gives a space without a shape one, and lets its cells from 0 on hold what variables of it hold before anything was
     /// stored. After a refusal some of the cells may hold it, and no byte outside them has changed.
-    pub fn fill(&mut self, pool: &mut Pool, s: SpaceNo, shape: &Shape) -> Result<(), MemFault>
+    pub fn fill<B: Backing>(
+        &mut self,
+        pool: &mut Pool,
+        s: SpaceNo,
+        shape: &Shape,
+        backing: &mut B,
+    ) -> Result<(), MemFault>
         requires live { IsLive s.0 self.old.spaces }
         requires empty { (the_space s.0 self.old.spaces).shape ≡ None }
         requires cells { cell_count shape.now ≤ CELLS }
         requires agree { Stands pool.old (roots self.old) 0 }
+        requires backed { Backed (B.holds backing.old) pool.old }
         ensures others { self.new ≡ changed s.0 (the_space s.0 self.new.spaces) self.old }
-        ensures filled { OnOk result (IsFilled pool.old pool.new shape.now (the_space s.0 self.old.spaces) (the_space s.0 self.new.spaces)) }
-        ensures err { OnErr result (IsNotFilled pool.old pool.new shape.now (the_space s.0 self.old.spaces) (the_space s.0 self.new.spaces)) }
-        ensures frames { Frames pool.old pool.new (roots self.old) (roots self.new) }
-        ensures keeps { KeepsBytes pool.old pool.new
+        ensures filled { OnOk result (IsFilled (over pool.old (B.tells backing.old)) (over pool.new (B.tells backing.new)) shape.now (the_space s.0 self.old.spaces) (the_space s.0 self.new.spaces)) }
+        ensures err { OnErr result (IsNotFilled (over pool.old (B.tells backing.old)) (over pool.new (B.tells backing.new)) shape.now (the_space s.0 self.old.spaces) (the_space s.0 self.new.spaces)) }
+        ensures frames { Frames (over pool.old (B.tells backing.old)) (over pool.new (B.tells backing.new)) (roots self.old) (roots self.new) }
+        ensures keeps { KeepsBytes (over pool.old (B.tells backing.old)) (over pool.new (B.tells backing.new))
             (self.old.run.root ∷ self.old.packets.root ∷ space_roots (without s.0 self.old.spaces)) }
-        ensures cause { result ≢ Err Failed }
+        ensures cause { HasFaultCause (B.faults backing.old) (B.faults backing.new) result }
+        ensures follows { B.follows backing.old backing.new }
     {
-        self.spaces.fill(self.alloc, pool, s, shape)
+        self.spaces.fill(self.alloc, pool, s, shape, backing)
     }
 
     /// Takes a space out: it is no longer the task's, and its names leave the directory. It takes no memory.
@@ -155,7 +163,7 @@ impl SpaceMemory {
         requires live { IsLive s.0 self.old.spaces }
         ensures space { result ≡ the_space s.0 self.old.spaces }
         ensures forgotten { self.new ≡ forgotten s.0 self.old }
-        ensures frames { (pages : Pages) → Frames pages pages (roots self.old) (result.root ∷ roots self.new) }
+        ensures frames { (pages : Over) → Frames pages pages (roots self.old) (result.root ∷ roots self.new) }
     {
         self.names.forget(s);
         self.spaces.take(s)
@@ -167,7 +175,7 @@ impl SpaceMemory {
         requires left { self.old.last < 4294967295 }
         ensures number { IfOk result (λ s. s.0 ≡ self.old.last + 1) }
         ensures given { OnOk result (self.new ≡ with_new space self.old) }
-        ensures frames { OnOk result ((pages : Pages) → Frames pages pages (space.root ∷ roots self.old) (roots self.new)) }
+        ensures frames { OnOk result ((pages : Over) → Frames pages pages (space.root ∷ roots self.old) (roots self.new)) }
         ensures back { IfErr result (λ back. back ≡ space) }
         ensures err { OnErr result (self.new ≡ self.old) }
     {

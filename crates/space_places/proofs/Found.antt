@@ -1,13 +1,16 @@
 -- Cells of shapes are found where they stand.
 use Rattle.std.proofs.Common.{◌≡◌, ℕ, zero, suc, ◌+◌, ◌-◌, ◌*◌, ◌/◌, ◌%◌, ◌<◌, ◌≤◌, Bool, true, false, List, [], ◌∷◌, ◌++◌, map, length, take, drop, replicate, refl, sym, ap, ◌∙◌}
-use Rattle.std.proofs.Common.{arith, length-append, subst, min, nat_eq}
-use Rattle.std.proofs.lemmas.Bool.{ne_eqb}
+use Rattle.std.proofs.Common.{arith, length-append, subst, nat_eq, nat_le}
+use Rattle.std.proofs.lemmas.Bool.{ne_eqb, lt-leb}
+use Rattle.std.proofs.lemmas.Bool.Decides.{nat_tests}
 use Rattle.std.proofs.lemmas.Nat.{div-add-mod', mod_below, mul-le}
-use Rattle.std.proofs.lemmas.List.{map_more, take-map, length-take, take_all}
+use Rattle.std.proofs.lemmas.List.{map_more, take-map}
 use Rattle.std.specs.Prelude.{◌&&◌, get_or, Result, Ok, Err}
 use Rattle.eu_base.specs.declared.value.Kind.{Kind}
 use Rattle.eu_base.specs.declared.shape.Shape.{Shape}
 use Rattle.eu_base.specs.Shapes.{cell_kinds, joined}
+use Rattle.eu_base.specs.declared.address.TheConstants.{CELLS}
+use Rattle.eu_base.specs.Room.{cells_fit}
 use Rattle.eu_base.specs.SpacePlaces.{begin_with}
 use Rattle.eu_base.proofs.Shapes.{joined_more}
 use Rattle.space_places.specs.Kinds.{found_in, found_in_row, kind_is}
@@ -27,6 +30,20 @@ pub found_behind : (xs : List Kind) (n m : ℕ) → found_in xs n ≡ Err m → 
 found_behind [] n m e = let f : n ≡ m = cc in omega (arith, f)
 found_behind (x ∷ xs) zero m e = let f : ⊥ = cc in absurd f
 found_behind (x ∷ xs) (suc n) m e = let f = found_behind xs n m e in omega (arith, f)
+
+-- whether an area has as many cells as these from a place on is told by where the cell behind its last one is found
+found_among : (xs : List Kind) (n : ℕ) (k : Kind) → found_in xs n ≡ Ok k → n < length xs
+found_among [] n k e = let f : ⊥ = cc in absurd f
+found_among (x ∷ xs) zero k e = omega arith
+found_among (x ∷ xs) (suc n) k e = let f = found_among xs n k e in omega (arith, f)
+
+pub too_many : (xs : List Kind) (from : ℕ) (k : Kind) → Ok k ≡ found_in xs CELLS → false ≡ cells_fit (from + length xs)
+too_many xs from k e = let f = found_among xs CELLS k (sym e) in sym (lt-leb (from + length xs) CELLS (omega (arith, f)))
+
+pub so_many : (xs : List Kind) (from same left : ℕ) → same ≡ from → Err left ≡ found_in xs CELLS → nat_le same left ≡ cells_fit (from + length xs)
+so_many xs from same left is e =
+    let f = found_behind xs CELLS left (sym e) in
+    grind (arith, nat_tests, f, is)
 
 behind_all : (xs : List Kind) (m : ℕ) → found_in xs (length xs + m) ≡ Err m
 behind_all [] m = let e : 0 + m ≡ m = omega arith in ap (λ (n : ℕ). found_in [] n) e
@@ -173,9 +190,3 @@ module _ (parts : List Shape) (i : ℕ) (p d : Shape) (lt : i < length parts) (i
       let here : found_in (joined (map cell_kinds (take (i + 1) parts))) n ≡ Ok k = parts_go_on ∙ sym e in
       sym (still (map cell_kinds parts) (i + 1) n k
       (ap (λ (ls : List (List Kind)). found_in (joined ls) n) (take-map cell_kinds (i + 1) parts) ∙ here))
-
--- all kinds, where they are fewer than could be listed
-pub all_listed : (most : ℕ) (listed ks : List Kind) → listed ≡ take most ks → length listed < most → listed ≡ ks
-all_listed most listed ks is few =
-    let cut : length listed ≡ min most (length ks) = ap length is ∙ length-take most ks in
-    is ∙ take_all most ks (omega (arith, cut, few))

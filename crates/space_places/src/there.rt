@@ -1,21 +1,47 @@
 //! Whether cells are there: a data space may be gone, or something of another type may stand in it.
-ghost use Rattle.std.specs.Prelude.{◌≡◌, ◌<◌, drop, map, IfOk};
+ghost use Rattle.std.specs.Prelude.{◌≡◌, ◌<◌, ◌+◌, drop, length, map, IfOk};
 ghost use Rattle.std.specs.Option.{option_copied};
 ghost use Rattle.eu_base.specs.Shapes.{cell_kinds, joined};
 ghost use Rattle.eu_base.specs.Values.{same_kind, kind_of};
-ghost use Rattle.eu_base.specs.SpacePlaces.{shaped_kinds, begin_with, is_in};
+ghost use Rattle.eu_base.specs.SpacePlaces.{shaped_kinds, begin_with, is_in, lies_in};
+ghost use Rattle.eu_base.specs.Room.{cells_fit};
 ghost use Rattle.space_places.specs.Kinds.{kind_is, found_in, found_in_row};
 
-use eu_base::{Addr, Area, Kind, List, Memory, NoMemory, Shape, Value};
+use eu_base::{Addr, Area, CELLS, Kind, List, Memory, NoMemory, Shape, Value};
 use std::alloc::Global;
 
-/// Whether cells of these kinds stand at a place.
+/// Whether cells of these kinds stand at a place, all of them within its area.
 pub fn are_there<M: Memory>(m: &M, at: Addr, kinds: &[Kind]) -> bool
+    ensures { result ≡ lies_in kinds.now at.area at.cell (M.heads m.now) }
+{
+    have_room(at.cell, kinds.len()) && stand_there(m, at, kinds)
+}
+
+// The same, where it is known that they are within the area.
+fn stand_there<M: Memory>(m: &M, at: Addr, kinds: &[Kind]) -> bool
     ensures { result ≡ is_in kinds.now at.area at.cell (M.heads m.now) }
 {
     match at.area {
         Area::Run | Area::Packets => true,
         Area::Space(s) => m.live(s) && stand_in(m.has_shape(s), usize::from(at.cell), kinds),
+    }
+}
+
+// Whether an area has so many cells from one on.
+fn have_room(from: u16, count: usize) -> bool
+    ensures { result ≡ cells_fit (from + count) }
+{
+    let most = usize::from(CELLS);
+    count <= most && usize::from(from) + count <= most
+}
+
+// Whether it has as many as a shape.
+fn has_room(from: u16, shape: &Shape) -> bool
+    ensures { result ≡ cells_fit (from + length (cell_kinds shape.now)) }
+{
+    match found(shape, usize::from(CELLS)) {
+        Ok(_) => false,
+        Err(left) => usize::from(from) <= left,
     }
 }
 
@@ -26,17 +52,16 @@ pub fn shape_is_there<M: Memory>(
     at: Addr,
     shape: &Shape,
 ) -> Result<bool, NoMemory>
-    ensures { IfOk result (λ there. there ≡ is_in (cell_kinds shape.now) at.area at.cell (M.heads m.now)) }
+    ensures { IfOk result (λ there. there ≡ lies_in (cell_kinds shape.now) at.area at.cell (M.heads m.now)) }
 {
+    if !has_room(at.cell, shape) {
+        return Ok(false);
+    }
     match at.area {
         Area::Run | Area::Packets => Ok(true),
         Area::Space(_) => {
-            let kinds = shape.kinds(alloc, usize::MAX)?;
-            // More than can be counted fit no memory.
-            if kinds.len() == usize::MAX {
-                return Err(NoMemory);
-            }
-            Ok(are_there(m, at, kinds.as_slice()))
+            let kinds = shape.kinds(alloc, usize::from(CELLS))?;
+            Ok(stand_there(m, at, kinds.as_slice()))
         }
     }
 }
@@ -48,13 +73,16 @@ pub fn values_are_there<M: Memory>(
     at: Addr,
     values: &[Value],
 ) -> Result<bool, NoMemory>
-    ensures { IfOk result (λ there. there ≡ is_in (map kind_of values.now) at.area at.cell (M.heads m.now)) }
+    ensures { IfOk result (λ there. there ≡ lies_in (map kind_of values.now) at.area at.cell (M.heads m.now)) }
 {
+    if !have_room(at.cell, values.len()) {
+        return Ok(false);
+    }
     match at.area {
         Area::Run | Area::Packets => Ok(true),
         Area::Space(_) => {
             let kinds = kinds_of(alloc, values)?;
-            Ok(are_there(m, at, kinds.as_slice()))
+            Ok(stand_there(m, at, kinds.as_slice()))
         }
     }
 }

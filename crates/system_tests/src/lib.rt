@@ -1,5 +1,5 @@
 //! Tests of the parts of a system of tasks: the ready list, channels, lines and pieces, the tree, names,
-//! messages, and the commands that lines spell.
+//! messages, the commands that lines spell, and rows of which parts are rebuilt.
 #![tactic(auto)]
 
 #[cfg(test)]
@@ -18,6 +18,8 @@ mod messages;
 mod notes;
 #[cfg(test)]
 mod rotation;
+#[cfg(test)]
+mod rows;
 #[cfg(test)]
 mod sessions;
 #[cfg(test)]

@@ -1,7 +1,7 @@
 //! Lines and scenes, each with the text that is noted of it.
 use crate::notes::put;
 use crate::{
-    channels, commands, directory, display, lines, messages, rotation, sessions, tables, tree,
+    channels, commands, directory, display, lines, messages, rotation, rows, sessions, tables, tree,
 };
 use containers::Bytes;
 use std::alloc::Global;
@@ -173,4 +173,9 @@ fn wrong_scene(alloc: Global) -> &'static str {
 fn scenes_go_as_told(rt: HostRuntime) {
     assert_eq!(rt; wrong_scene(rt.alloc()), "");
     assert!(rt; TASKS == 16 && QUEUED_LINES == 16);
+}
+
+#[test]
+fn rows_are_taken_or_refused(rt: HostRuntime) {
+    assert_eq!(rt; rows::wrong(rt.alloc()), "");
 }

@@ -1,6 +1,7 @@
 //! The tree of tasks.
 use crate::notes::{put, put_task};
 use containers::Bytes;
+use eu_base::is_name;
 use std::alloc::Global;
 use task_numbers::TaskNo;
 use task_tree::{BeginError, TaskTree};
@@ -20,7 +21,7 @@ fn put_begun(out: &mut Bytes, begun: Result<TaskNo, BeginError>) {
 }
 
 fn begin(alloc: Global, out: &mut Bytes, tree: &mut TaskTree, name: &[u8], father: TaskNo) {
-    if tree.lives(father) {
+    if tree.lives(father) && is_name(name) {
         put_begun(out, tree.begin(alloc, name, father));
     }
 }

@@ -2,6 +2,7 @@
 ghost use Rattle.std.specs.Prelude.{◌≡◌, ◌<◌, ◌≤◌, true, false, not, ◌&&◌, None, Some, [], ◌∷◌, ◌++◌, List as Lists, drop, length, slice_get, IfOk, IfSome, OnOk};
 ghost use Rattle.std.specs.Option.{option_copied, option_map};
 ghost use Rattle.task_numbers.specs.Numbers.{niltask};
+ghost use Rattle.eu_base.specs.SpaceOperations.{is_name};
 ghost use Rattle.task_tree.specs.Tree as trees;
 ghost use Rattle.task_walks.specs.Families as families;
 ghost use Rattle.slicer.specs.Rotation as rotation;
@@ -169,9 +170,10 @@ impl TaskDesk {
         }
     }
 
-    /// A son of a live task begins, which has the next number.
+    /// A son of a live task begins, which has the next number. Its name has 1 to 60 bytes.
     pub fn begin(&mut self, alloc: Global, name: &[u8], father: TaskNo) -> Result<TaskNo, NoMemory>
         requires live { trees.lives father self.old.tree ≡ true }
+        requires named { is_name name.now ≡ true }
         requires free { ends.number_refusal (trees.refusal name.now self.old.tree) ≡ None }
         ensures number { IfOk result (λ task. task ≡ trees.next self.old.tree) }
         ensures begun { OnOk result (self.new ≡ desks.begun name.now father self.old) }

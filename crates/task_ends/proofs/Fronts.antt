@@ -12,7 +12,8 @@ use Rattle.eu_base.specs.Cells.{Free, Cells, packet_cell}
 use Rattle.eu_base.specs.DataSpaces.{Spaces, heads_of}
 use Rattle.eu_base.specs.SpacePlaces.{kinds_of, values_of}
 use Rattle.page_pool.specs.Pool.{Pages}
-use Rattle.space_memory.specs.Memories.{MemoryData, HoldsAll, memory_heads}
+use Rattle.space_memory.specs.Memories.{MemoryData, memory_heads}
+use Rattle.live_task.specs.Below.task_job.specs.Here.{HoldsAll}
 use Rattle.place_gen.specs.Correct.{StandsFor, HasVariables}
 use Rattle.elan_types.specs.Eval.{Slot, Holds}
 use Rattle.packet_cells.specs.Freed.{HoldsOf, HoldEach, freed}

@@ -7,12 +7,11 @@ use Rattle.eu_base.specs.Cells.{Cell, Free, Cells, area_cell}
 use Rattle.eu_base.specs.DataSpaces.{Heads, Spaces, no_spaces}
 use Rattle.cell_kinds.specs.Kinds.{packet_kinds}
 use Rattle.page_pool.specs.Pool.{Pages}
-use Rattle.page_table.specs.Frames.{content_at}
 use Rattle.text_heap.specs.Held.{HoldsCells}
 use Rattle.text_heap.proofs.Kept.{kept_held, moved_held}
-use Rattle.live_spaces.specs.Kept.{KeepsBytes}
-use Rattle.space_memory.specs.Memories.{MemoryData, HoldsAll, heir, roots, is_there, bytes_in, memory_heads}
-use Rattle.space_memory.proofs.Fresh.{nothing_held}
+use Rattle.space_memory.specs.Memories.{MemoryData, heir, roots, is_there, memory_heads}
+use Rattle.live_task.specs.Below.task_job.specs.Here.{content_at, KeepsBytes, HoldsAll, bytes_in}
+use Rattle.live_task.specs.Below.task_job.proofs.Here.{nothing_held}
 use Rattle.live_task.specs.Below.source_machine.specs.Stores as stores
 use Rattle.live_task.specs.Below.source_machine.specs.Stores.{Store}
 use Rattle.live_task.specs.Below.source_machine.specs.Tasks.{Command, Doing, Idle, Entering, Running, Own, ending, world_of, store_in, settled, now}
@@ -40,7 +39,7 @@ left_alone cells = λ a. known_in a.area (cells a)
 
 module _ (old new : Pages) (m : MemoryData) (k : KeepsBytes old new (roots m)) where
   heir_holds : (cells : Cells) → HoldsAll old m cells → HoldsAll new (heir m) (left_alone cells)
-  heir_holds cells h = record { there = there; gone = gone }
+  heir_holds cells h = record { knows = k.knows h.knows; there = there; gone = gone }
     where
       there : (area : Area) → is_there area (heir m) ≡ true → HoldsCells area (bytes_in area new (heir m)) (left_alone cells)
       there Run is = moved_held Run Run (content_at new None) (λ _. Free) (left_alone cells) (λ c. refl) (nothing_held Run new)

@@ -8,15 +8,15 @@ use Rattle.std.proofs.lemmas.List.{length-append, append_assoc}
 use Rattle.eu_base.specs.Spaces.{IsKept}
 use Rattle.page_pool.specs.Pool.{Pages}
 use Rattle.page_table.specs.Entries.{Names}
-use Rattle.page_table.specs.Frames.{content_at, Frames, Stands}
+use Rattle.page_table.specs.Frames.{Stands}
 use Rattle.page_table.specs.Sharing.{occ, Agree, most_spaces}
 use Rattle.page_table.proofs.Counting.{occ-append}
 use Rattle.page_table.proofs.Moving.{equal, homes_then}
-use Rattle.page_table.proofs.Framing.{Same, reorder, frames_none, stands_same, stands_first, stands_after}
-use Rattle.live_spaces.specs.Kept.{KeepsBytes}
+use Rattle.page_table.proofs.Framing.{Same, reorder, stands_same, stands_first}
 use Rattle.live_spaces.proofs.Roots.{all_named}
-use Rattle.space_memory.specs.Memories.{MemoryData, StandsWhole, MemoryFrames, most_roots, heir, roots}
-use Rattle.space_memory.specs.Changes.{frames_before, memory_frames_then}
+use Rattle.space_memory.specs.Memories.{MemoryData, StandsWhole, most_roots, heir, roots}
+use Rattle.live_task.specs.Below.task_job.specs.Here.{content_at, Frames, KeepsBytes, MemoryFrames}
+use Rattle.live_task.specs.Below.task_job.proofs.Here.{frames_none, stands_after, frames_before, memory_frames_then}
 use Rattle.space_memory.proofs.Framed.{whole_of}
 use Rattle.task_ends.specs.Refused.{RoomFrames, Refused}
 
@@ -42,7 +42,7 @@ second_last : (a b rest : Names) → Same (b ++ (a ++ rest)) ((a ++ b) ++ rest)
 second_last a b rest = let s = second_first a b rest in record { long = sym s.long; occs = λ p. sym (s.occs p) }
 
 keeps_then : (p0 p1 p2 : Pages) (names : Names) → KeepsBytes p0 p1 names → KeepsBytes p1 p2 names → KeepsBytes p0 p2 names
-keeps_then p0 p1 p2 names k l = record { each = by names k.each l.each }
+keeps_then p0 p1 p2 names k l = record { knows = λ known. l.knows (k.knows known); each = by names k.each l.each }
   where
     by : (names : Names) → AllByRecursion (λ root. IsKept (content_at p0 root) (content_at p1 root)) names
         → AllByRecursion (λ root. IsKept (content_at p1 root) (content_at p2 root)) names → AllByRecursion (λ root. IsKept (content_at p0 root) (content_at p2 root)) names
@@ -62,11 +62,13 @@ memory_beside old new a b others more room f stands root among n = equal _ _ sta
 pub memory_beside_keep : (old new : Pages) (a b others : Names) (more : ℕ) → most_roots ≤ length a + more → MemoryFrames old new a b
     → Stands old (a ++ others) more → KeepsBytes old new others
 memory_beside_keep old new a b others more room f stands = record {
+  knows = f.knows;
   each = all_named (λ root. IsKept (content_at old root) (content_at new root)) others (memory_beside old new a b others more room f stands);
 }
 
 pub refused_none : (pages : Pages) (mine : Names) (more : ℕ) → Refused pages pages mine more
 refused_none pages mine more = record {
+  knows = λ known. known;
   homes = (frames_none pages mine).homes;
   frame = λ rest agree room. record { agrees = agree; same = λ root among n. refl };
 }
@@ -97,6 +99,7 @@ module _ (p0 p1 : Pages) (mine son : MemoryData) (is : son ≡ heir mine) (made 
   -- a son of an idle father is there
   pub made_frames : RoomFrames p0 p1 (roots mine) (roots mine ++ roots son) 18
   made_frames = record {
+    knows = made.knows;
     homes = made.homes;
     frame = λ rest agree room.
         made.frame rest agree
@@ -123,6 +126,7 @@ module _ (p0 p1 : Pages) (mine son : MemoryData) (is : son ≡ heir mine) (made 
 
       pub freed_frames : RoomFrames p0 p2 (roots mine) (roots mine ++ now) 18
       freed_frames = record {
+        knows = λ known. freed.knows (made.knows known);
         homes = homes_then made.homes freed.homes;
         frame = λ rest agree room.
             let first = made_frames.frame rest agree room in

@@ -6,7 +6,8 @@ use Rattle.eu_base.specs.DataSpaces.{Heads}
 use Rattle.eu_base.proofs.Heads.{long_heads}
 use Rattle.cell_kinds.specs.Kinds.{packet_kinds}
 use Rattle.page_pool.specs.Pool.{Pages}
-use Rattle.space_memory.specs.Memories.{MemoryData, StandsWhole, MemoryFrames, memory_heads, head_of, roots}
+use Rattle.space_memory.specs.Memories.{MemoryData, StandsWhole, memory_heads, head_of, roots}
+use Rattle.live_task.specs.Below.task_job.specs.Here.{MemoryFrames}
 use Rattle.space_memory.proofs.Framed.{roots_long}
 use Rattle.elan_types.specs.Eval.{World}
 use Rattle.live_task.specs.Below.packet_store.specs.declared.unit.Compiled.{Compiled}

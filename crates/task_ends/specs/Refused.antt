@@ -3,11 +3,13 @@ use Rattle.std.specs.Prelude.{ℕ, ◌+◌, ◌≤◌, ◌++◌, length}
 use Rattle.page_pool.specs.Pool.{Pages}
 use Rattle.page_table.specs.Entries.{Names}
 use Rattle.page_table.specs.Sharing.{most_spaces, Agree}
-use Rattle.page_table.specs.Frames.{KeepsHomes, Framed}
+use Rattle.page_table.specs.Frames.{KeepsHomes}
+use Rattle.live_task.specs.Below.task_job.specs.Here.{Knows, Framed}
 
 -- The spaces with the roots before become those with the roots after. Whatever the rest is, where there was room for so many spaces more,
--- pool and spaces agree, and no byte of the rest changed.
+-- pool and spaces agree, and no byte of the rest changed. What is known stays known.
 pub record RoomFrames (old new : Pages) (before after : Names) (more : ℕ) : Type 0 where
+  pub knows : Knows old → Knows new
   pub homes : KeepsHomes old new
   pub frame : (rest : Names) → Agree old (before ++ rest) → length (before ++ rest) + more ≤ most_spaces → Framed old new after rest
 

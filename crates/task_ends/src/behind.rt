@@ -3,13 +3,14 @@ ghost use Rattle.std.specs.Prelude.{◌≡◌, ◌+◌, ◌≤◌, length, OnOk}
 ghost use Rattle.eu_base.specs.declared.address.TheConstants.{CELLS};
 ghost use Rattle.eu_base.specs.Cells.{Cells};
 ghost use Rattle.cell_kinds.specs.Kinds.{all_kinds, packet_kinds};
-ghost use Rattle.space_memory.specs.Memories.{roots, HoldsAll, memory_heads, StandsWhole, MemoryFrames};
+ghost use Rattle.space_memory.specs.Memories.{roots, memory_heads, StandsWhole};
+ghost use Rattle.live_task.specs.Below.task_job.specs.Here.{HoldsAll, MemoryFrames};
 ghost use Rattle.packet_cells.specs.Freed.{HoldEach, freed};
 ghost use Rattle.live_task.specs.Below.source_machine.specs.Stores.{Store};
 ghost use Rattle.live_task.specs.Below.source_machine.specs.Tasks.{settled};
 ghost use Rattle.live_task.specs.Below.task_job.specs.Standing.{Keeps, Leaves};
 
-use eu_base::{CELLS, MemFault, NoMemory, Shape};
+use eu_base::{CELLS, MemFault, NoMemory, Nowhere, Shape};
 use live_task::Compiled;
 use packet_cells::{count_cells, free_shapes};
 use page_pool::Pool;
@@ -54,11 +55,12 @@ fn free_over(
     ensures heads { memory_heads memory.new ≡ memory_heads memory.old }
     ensures frames { MemoryFrames pool.old pool.new (roots memory.old) (roots memory.new) }
 {
-    let mut lent = memory.over(pool);
+    let mut nowhere = Nowhere;
+    let mut lent = memory.over(pool, &mut nowhere);
     match free_shapes(alloc, &mut lent, at, shapes) {
         Ok(()) => Ok(()),
         Err(MemFault::NoMemory) => Err(NoMemory),
-        // Pages in memory have no faults.
+        // What reads as zeros has no faults.
         Err(MemFault::Failed) => unreachable!(),
     }
 }

@@ -2,7 +2,7 @@
 ghost use Rattle.std.specs.Prelude.{◌≡◌, ◌++◌, List as Lists, length, IfOk, OnErr};
 ghost use Rattle.eu_base.specs.declared.value.Kind.{Kind};
 ghost use Rattle.page_table.specs.Frames.{Stands};
-ghost use Rattle.live_spaces.specs.Kept.{KeepsBytes};
+ghost use Rattle.live_task.specs.Below.task_job.specs.Here.{KeepsBytes};
 ghost use Rattle.space_memory.specs.Memories.{roots, most_roots};
 ghost use Rattle.live_task.specs.Below.source_machine.specs.Stores.{heir};
 ghost use Rattle.live_task.specs.Below.source_machine.specs.Tasks.{Own, Idle, now};

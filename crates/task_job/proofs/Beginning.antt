@@ -25,7 +25,8 @@ use Rattle.elan_types.specs.declared.core_phrase.Core.{Core}
 use Rattle.elan_types.specs.Eval.{Slot, Holds}
 use Rattle.elan_types.specs.Command.{blanks}
 use Rattle.place_gen.specs.Correct.{StandsFor, Image, HasVariables, HasSpaces, HasSlots}
-use Rattle.code_gen.specs.Correct.{Behaves}
+use Rattle.command_code.specs.Codes.{IsCodeOf}
+use Rattle.command_code.proofs.Coding.{code_behaves}
 use Rattle.code_gen.proofs.Plays.{has_blank}
 use Rattle.task_job.specs.Runs.{Reaches}
 
@@ -258,9 +259,9 @@ module _ (p : Program) (slots : List Slot) (spaces : Spaces) (heads : Heads) (ce
   pub can_be_made : CanBeMade p cells
   can_be_made = (λ k le lt. ap cell_blocks (command k), λ k le lt. ap cell_blocks (h.beyond k le))
 
-  pub begins : (core : Core) → Behaves core p → Reaches core slots spaces 0 [] p (start p) (mem_of heads (made p cells))
-  begins core b = record {
-    behaves = b;
+  pub begins : (core : Core) → IsCodeOf core p → Reaches core slots spaces 0 [] p (start p) (mem_of heads (made p cells))
+  begins core i = let b = code_behaves core p i in record {
+    code_is = i;
     first = mem_of heads (made p cells);
     has =
         subst (λ ks. HasSlots p (blanks ks) (slots ++ blanks core.inserted) spaces (mem_of heads (made p cells))) b.first

@@ -9,7 +9,8 @@ use Rattle.code_form.specs.Machine.{Control, Rest}
 use Rattle.code_form.specs.Runs.{Rests}
 use Rattle.zero_state.specs.Stepping.{mem_of, scene_of}
 use Rattle.zero_machine.specs.Running.{RestsSo}
-use Rattle.space_memory.specs.Memories.{MemoryData, HoldsAll, StandsWhole, memory_heads}
+use Rattle.space_memory.specs.Memories.{MemoryData, StandsWhole, memory_heads}
+use Rattle.task_job.specs.Here.{HoldsAll}
 
 -- what is known of the cells of equal memories
 pub holds_there : (p p' : Pages) (m m' : MemoryData) (cells : Cells) → m' ≡ m → p' ≡ p → HoldsAll p m cells → HoldsAll p' m' cells

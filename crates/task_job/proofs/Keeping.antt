@@ -10,12 +10,11 @@ use Rattle.eu_base.specs.Cells.{Cell, Free, Cells, area_cell, space_cell}
 use Rattle.eu_base.specs.DataSpaces.{Heads, Spaces, heads_of, no_spaces, last_number}
 use Rattle.eu_base.specs.SpacePlaces.{kinds_of, values_of}
 use Rattle.page_pool.specs.Pool.{Pages}
-use Rattle.page_table.specs.Frames.{content_at}
 use Rattle.text_heap.specs.Held.{HoldsCells}
 use Rattle.text_heap.proofs.Kept.{kept_held, moved_held}
-use Rattle.live_spaces.specs.Kept.{KeepsBytes}
 use Rattle.live_spaces.specs.Live.{no_space, the_space}
-use Rattle.space_memory.specs.Memories.{MemoryData, HoldsAll, roots, is_there, bytes_in, memory_heads}
+use Rattle.space_memory.specs.Memories.{MemoryData, roots, is_there, memory_heads}
+use Rattle.task_job.specs.Here.{content_at, KeepsBytes, HoldsAll, bytes_in}
 use Rattle.space_memory.proofs.Areas.{root_among}
 use Rattle.zero_state.specs.Stepping.{mem_of}
 use Rattle.place_gen.specs.Correct.{HasSpaces}
@@ -76,7 +75,7 @@ module _ (old new : Pages) (m : MemoryData) where
     gone (Space s) not x = h.gone (Space s) not x
 
     rest_holds : HoldsAll new rest (idle cells)
-    rest_holds = record { there = known; gone = gone }
+    rest_holds = record { knows = k.knows h.knows; there = known; gone = gone }
 
 module _ (old new : Pages) (m n : MemoryData) (is : n ≡ record m { run = no_space }) (nothing : HoldsCells Run (content_at new n.run.root) (λ _. Free))
     (k : KeepsBytes old new (roots n)) where

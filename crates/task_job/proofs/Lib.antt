@@ -6,3 +6,4 @@ pub mod Keeping
 pub mod Standing
 pub mod Receiving
 pub mod Framed
+pub mod Here

@@ -26,6 +26,7 @@ use Rattle.code_form.proofs.Spent.{falls, stands_run, stands_reply}
 use Rattle.place_gen.specs.Correct.{Image, HasVariables, RestsAs, Shows}
 use Rattle.code_gen.specs.Correct.{Behaves}
 use Rattle.code_gen.proofs.Plays.{plays}
+use Rattle.command_code.proofs.Coding.{code_behaves}
 use Rattle.elan_types.specs.declared.core_phrase.Core.{Core}
 use Rattle.elan_types.specs.Typing.{all_packet_kinds}
 use Rattle.elan_types.specs.Eval.{Slot, Holds, World}
@@ -98,13 +99,16 @@ front_is (x ∷ xs) ys = ap (λ l. x ∷ l) (front_is xs ys)
 
 module _ (core : Core) (variables : List Slot) (spaces : Spaces) (spent : ℕ) (replies : List Answer) (code : Program) (c : Control) (now : Mem)
     (k : Reaches core variables spaces spent replies code c now) where
+  does : Behaves core code
+  does = code_behaves core code k.code_is
+
   abbrev with_marks : ℕ → Scene
   with_marks left = record { mem = now; marks = left; replies = [] }
 
   -- it comes to rest
   pub next : (left : ℕ) → (r : Rest) × Rests code c (record { mem = now; marks = left; replies = [] }) r
   next left =
-      let e = k.behaves.ends (at_start core variables spaces (spent + left) replies) k.first (k.has, k.contents) in (
+      let e = does.ends (at_start core variables spaces (spent + left) replies) k.first (k.has, k.contents) in (
         e.rest,
         k.comes left [] e.rest
             (subst (λ rs. Rests code (start code) (record { mem = k.first; marks = spent + left; replies = rs }) e.rest) (sym (append-nil replies))
@@ -114,7 +118,7 @@ module _ (core : Core) (variables : List Slot) (spaces : Spaces) (spent : ℕ) (
   -- and shows what the evaluation gives
   pub shows : (left : ℕ) (r : Rest) → Rests code c (record { mem = now; marks = left; replies = [] }) r
       → Shows code (evaluate core variables spaces (spent + left) replies) r
-  shows left r h = plays core code variables spaces k.first now spent left replies c r k.behaves (k.has, k.contents) k.stands h
+  shows left r h = plays core code variables spaces k.first now spent left replies c r does (k.has, k.contents) k.stands h
 
   -- where there is no room its cells are those of the start
   still_first : (left : ℕ) (r : Rest) → Rests code c (record { mem = now; marks = left; replies = [] }) r → have_room code ≡ false
@@ -131,15 +135,15 @@ module _ (core : Core) (variables : List Slot) (spaces : Spaces) (spent : ℕ) (
       fits : (h : Halt) (w : World) → RestsAs code h w r → start_fits core ≡ true → Image Packets (take (length variables) w.packets) r.scene.mem.cells
       fits h w a room = λ fit x s e.
           let many : length w.packets ≡ length (all_packet_kinds core) =
-          a.packets.as_many ∙ ap (λ ps. length (packet_kinds ps ++ code.inserted)) k.behaves.packets
-          ∙ ap (λ ks. length (packet_kinds core.packets ++ ks)) k.behaves.inserted in
+          a.packets.as_many ∙ ap (λ ps. length (packet_kinds ps ++ code.inserted)) does.packets
+          ∙ ap (λ ks. length (packet_kinds core.packets ++ ks)) does.inserted in
           a.packets.image (ap cells_fit many ∙ second_true (cells_fit (length (command.start_kinds core))) (cells_fit (length (all_packet_kinds core))) room) x s
           (front_slot (length variables) w.packets x s e)
 
       unmade : (e : Ending) → start_fits core ≡ false → packets_in e ≡ variables ++ blanks core.inserted
           → Image Packets (take (length variables) (packets_in e)) r.scene.mem.cells
       unmade e full is =
-          let same : r.scene.mem ≡ k.first = still_first left r h (room_is core code k.behaves ∙ full) in
+          let same : r.scene.mem ≡ k.first = still_first left r h (room_is core code does ∙ full) in
           let front : take (length variables) (packets_in e) ≡ variables = ap (take (length variables)) is ∙ front_is variables (blanks core.inserted) in
           subst (λ slots. Image Packets slots r.scene.mem.cells) (sym front) (subst (λ (m : Mem). Image Packets variables m.cells) (sym same) k.front)
 
@@ -155,7 +159,7 @@ module _ (core : Core) (variables : List Slot) (spaces : Spaces) (spent : ℕ) (
   pub reaches_on : (left : ℕ) (r : Rest) → IsPaused r.how ⊎ (left ≡ 0) → Rests code c (record { mem = now; marks = left; replies = [] }) r
       → r.scene.replies ≡ [] → Reaches core variables spaces (spent + (left - r.scene.marks)) replies code r.control r.scene.mem
   reaches_on left r calm h none = record {
-    behaves = k.behaves;
+    code_is = k.code_is;
     first = k.first;
     has = k.has;
     front = k.front;
@@ -184,7 +188,7 @@ module _ (core : Core) (variables : List Slot) (spaces : Spaces) (spent : ℕ) (
   pub reaches_reply : (q : Request) (a : Answer) → CanCome a.content → c.waits ≡ Asked q
       → Reaches core variables spaces spent (replies ++ a ∷ []) code (answered q a.reply c.position) (after_reply q a now)
   reaches_reply q a can asks = record {
-    behaves = k.behaves;
+    code_is = k.code_is;
     first = k.first;
     has = k.has;
     front = k.front;
@@ -210,7 +214,7 @@ module _ (core : Core) (variables : List Slot) (spaces : Spaces) (spent : ℕ) (
   module _ (kinds : List Kind) (is : packet_kinds core.packets ≡ kinds) where
     all_kinds : kinds_in_packets code ≡ kinds ++ core.inserted
     all_kinds =
-        ap (λ ps. packet_kinds ps ++ code.inserted) k.behaves.packets ∙ ap (λ ks. packet_kinds core.packets ++ ks) k.behaves.inserted
+        ap (λ ps. packet_kinds ps ++ code.inserted) does.packets ∙ ap (λ ks. packet_kinds core.packets ++ ks) does.inserted
         ∙ ap (λ ks. ks ++ core.inserted) is
 
     pub many_variables : length variables ≡ length kinds

@@ -13,10 +13,10 @@ use Rattle.eu_base.proofs.SoundSpaces.{no_space_comes}
 use Rattle.page_pool.specs.Pool.{Pages}
 use Rattle.data_space.specs.Data.{SpaceData}
 use Rattle.live_spaces.specs.Live.{space_at, without}
-use Rattle.space_memory.specs.Memories.{MemoryData, HoldsAll, memory_heads, with_new, forgotten}
+use Rattle.space_memory.specs.Memories.{MemoryData, memory_heads, with_new, forgotten}
 use Rattle.space_memory.proofs.Changed.{forgot_heads}
 use Rattle.space_memory.proofs.Given.{given_heads, given_held, taken_held}
-use Rattle.source_texts.specs.Spaces.{HoldsSpace}
+use Rattle.task_job.specs.Here.{here, HoldsAll, HoldsSpace}
 use Rattle.code_form.specs.Machine.{mem_after}
 use Rattle.zero_state.specs.Stepping.{mem_of}
 use Rattle.task_job.specs.Standing.{Receives}
@@ -46,7 +46,7 @@ pub sent_received : (q : Request) (n : ℕ) → sent_by q ≡ Forgets (record { 
     → space_at n (without n m.spaces) ≡ None → Receives q (plain Taken) pages pages m (forgotten n m)
 sent_received q n is pages m free =
     received q (plain Taken) pages pages m (forgotten n m) (Forgets (record { 0 = n }) ∷ []) is no_space_comes (forgot_heads (record { 0 = n }) m)
-    (λ cells h. taken_held pages m (record { 0 = n }) free cells h)
+    (λ cells h. taken_held (here pages) m (record { 0 = n }) free cells h)
 
 -- a number is left for what comes
 comes_in : (content : Space) (heads : Heads) → heads.last < last_number → coming content heads ≡ Gets content ∷ []
@@ -63,4 +63,4 @@ pub came_received : (q : Request) (code : ℤ) (from space : ℕ) (content : Spa
 came_received q code from space content pages m d can own left free =
     received q (record { reply = Message code from space; content = content }) pages pages m (with_new d m) (Gets content ∷ [])
     (comes_in content (memory_heads m) left) can (given_heads d content m own.kind own.shape)
-    (λ cells h. given_held pages m d content free own.holds cells h)
+    (λ cells h. given_held (here pages) m d content free own.holds cells h)

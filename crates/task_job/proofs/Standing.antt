@@ -9,7 +9,8 @@ use Rattle.eu_base.specs.Cells.{Cells}
 use Rattle.eu_base.specs.DataSpaces.{Heads, SpaceChange, heads_after}
 use Rattle.cell_kinds.specs.Kinds.{packet_kinds}
 use Rattle.page_pool.specs.Pool.{Pages}
-use Rattle.space_memory.specs.Memories.{MemoryData, HoldsAll, memory_heads}
+use Rattle.space_memory.specs.Memories.{MemoryData, memory_heads}
+use Rattle.task_job.specs.Here.{HoldsAll}
 use Rattle.code_form.specs.declared.halt.Halt.{Halt}
 use Rattle.code_form.specs.declared.halt.Halt.TheVariants as halts
 use Rattle.code_form.specs.declared.waits.Waits.{Waits}
@@ -20,7 +21,8 @@ use Rattle.code_form.specs.Runs.{IsPaused, Rests, asked}
 use Rattle.zero_state.specs.Stepping.{mem_of, scene_of}
 use Rattle.zero_machine.specs.Running.{RestsSo}
 use Rattle.place_gen.specs.Correct.{HasVariables, HasSpaces, Shows}
-use Rattle.code_gen.specs.Correct.{Behaves}
+use Rattle.command_code.specs.Codes.{IsCodeOf}
+use Rattle.command_code.proofs.Coding.{code_behaves}
 use Rattle.elan_types.specs.Eval.{World}
 use Rattle.elan_types.specs.Command.{Ending, Ended, Stopped, OutOfMarks, Asks}
 use Rattle.source_machine.specs.Below.packet_store.specs.declared.unit.Compiled.{Compiled}
@@ -239,11 +241,12 @@ module _ (kinds : List Kind) (old new : Pages) (m n : MemoryData) (job : Job) (c
   }
 
 -- a job at its start
-pub starts : (old new : Pages) (m n : MemoryData) (unit : Compiled) (code : Program) (run : Control) (store : Store) → Behaves unit.core code
+pub starts : (old new : Pages) (m n : MemoryData) (unit : Compiled) (code : Program) (run : Control) (store : Store) → IsCodeOf unit.core code
     → Keeps (packet_kinds unit.core.packets) old m store → run ≡ start code
     → ((cells : Cells) → HoldsAll old m cells → CanBeMade code cells → HoldsAll new n (made code cells)) → memory_heads n ≡ memory_heads m
     → ReachesFor (packet_kinds unit.core.packets) new n (record { unit = unit; code = code; run = run }) (starting unit store)
-starts old new m n unit code run store b h is put heads =
+starts old new m n unit code run store i h is put heads =
+    let b = code_behaves unit.core code i in
     let packets = subst (λ ps. HasVariables Packets (packet_kinds ps) store.variables h.cells) (sym b.packets) h.packets in
     record {
       unit = refl;
@@ -255,5 +258,5 @@ starts old new m n unit code run store b h is put heads =
       reaches =
           subst (λ (hs : Heads). Reaches unit.core store.variables store.spaces 0 [] code run (mem_of hs (made code h.cells))) (sym heads)
           (subst (λ (d : Control). Reaches unit.core store.variables store.spaces 0 [] code d (mem_of (memory_heads m) (made code h.cells))) (sym is)
-          (begins code store.variables store.spaces (memory_heads m) h.cells packets h.spaces h.command unit.core b));
+          (begins code store.variables store.spaces (memory_heads m) h.cells packets h.spaces h.command unit.core i));
     }

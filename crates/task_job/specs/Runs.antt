@@ -13,7 +13,7 @@ use Rattle.code_form.specs.Program.{Program, kinds_in_packets}
 use Rattle.code_form.specs.Machine.{Control, Mem, Rest, start}
 use Rattle.code_form.specs.Runs.{Rests, Stands, asked}
 use Rattle.place_gen.specs.Correct.{Image, HasSlots}
-use Rattle.code_gen.specs.Correct.{Behaves}
+use Rattle.command_code.specs.Codes.{IsCodeOf}
 use Rattle.elan_types.specs.declared.core_phrase.Core.{Core}
 use Rattle.elan_types.specs.Eval.{Slot}
 use Rattle.elan_types.specs.Command.{blanks, start_kinds}
@@ -30,12 +30,12 @@ pub record IsStill (code : Program) (c : Control) (mem : Mem) : Type 0 where
   pub mem_is : rest.scene.mem ≡ mem
   pub asks : asked c.waits ≡ asked_by rest.how
 
--- Code does what a command does that starts with these variables of packets and these data spaces. From the memory in which the command's
+-- The code is that of a command that starts with these variables of packets and these data spaces. From the memory in which the command's
 -- variables were made, with the marks that were spent and the answers that were given, it stands here, and it goes on as the command does. Where
 -- the variables of packets have no room with those of the packet that is inserted, these were not made.
 pub record Reaches (core : Core) (variables : List Slot) (spaces : Spaces) (spent : ℕ) (replies : List Answer) (code : Program) (c : Control) (now : Mem) :
     Type 0 where
-  pub behaves : Behaves core code
+  pub code_is : IsCodeOf core code
   pub first : Mem
   pub has : HasSlots code (blanks (start_kinds core)) (variables ++ blanks core.inserted) spaces first
   pub front : Image Packets variables first.cells

@@ -10,14 +10,14 @@ use Rattle.eu_base.specs.DataSpaces.{Spaces, heads_after}
 use Rattle.eu_base.specs.SoundSpaces.{CanCome}
 use Rattle.cell_kinds.specs.Kinds.{packet_kinds}
 use Rattle.page_pool.specs.Pool.{Pages}
-use Rattle.space_memory.specs.Memories.{MemoryData, HoldsAll, memory_heads}
+use Rattle.space_memory.specs.Memories.{MemoryData, memory_heads}
+use Rattle.task_job.specs.Here.{HoldsAll}
 use Rattle.code_form.specs.declared.halt.Halt.{Halt}
 use Rattle.code_form.specs.declared.halt.Halt.TheVariants as halts
 use Rattle.code_form.specs.Machine.{after_reply}
 use Rattle.code_form.specs.Valid.{Fits}
 use Rattle.zero_state.specs.Stepping.{mem_of}
 use Rattle.place_gen.specs.Correct.{Image, HasVariables, HasSpaces}
-use Rattle.code_gen.specs.Correct.{Behaves}
 use Rattle.elan_types.specs.Eval.{Slot}
 use Rattle.elan_types.specs.Command.{Ending, Ended, Stopped, OutOfMarks, Asks}
 use Rattle.source_machine.specs.Below.packet_store.specs.Units.{IsUnit}
@@ -62,7 +62,7 @@ pub record Leaves (kinds inserted : List Kind) (pages : Pages) (memory : MemoryD
 
 -- ---- what it does
 
--- A run stands for a command of the source machine: its code does what the command does, and it stands where the command stands.
+-- A run stands for a command of the source machine: its code is that of the command, and it stands where the command stands.
 pub record ReachesFor (kinds : List Kind) (pages : Pages) (memory : MemoryData) (job : Job) (c : Command) : Type 0 where
   pub unit : job.unit ≡ c.unit
   pub kinds_are : packet_kinds c.unit.core.packets ≡ kinds
@@ -87,7 +87,6 @@ pub record Receives (q : Request) (a : Answer) (old new : Pages) (m n : MemoryDa
 
 pub record IsSoundJob (job : Job) : Type 0 where
   pub unit : IsUnit job.unit
-  pub behaves : Behaves job.unit.core job.code
   pub fits : Fits job.code job.run
 
 -- ---- a command that goes on

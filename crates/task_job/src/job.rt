@@ -6,10 +6,11 @@ ghost use Rattle.eu_base.specs.Requests.{Answer};
 ghost use Rattle.cell_kinds.specs.Kinds.{packet_kinds};
 ghost use Rattle.code_form.specs.declared.waits.Waits.TheVariants as waits;
 ghost use Rattle.code_form.specs.Runs.{asked};
-ghost use Rattle.code_gen.specs.Correct.{Behaves};
+ghost use Rattle.command_code.specs.Codes.{IsCodeOf};
 ghost use Rattle.source_machine.specs.Below.packet_store.specs.Units.{IsUnit};
 ghost use Rattle.page_pool.specs.Pool.{Pages};
-ghost use Rattle.space_memory.specs.Memories.{MemoryData, roots, StandsWhole, MemoryFrames};
+ghost use Rattle.space_memory.specs.Memories.{MemoryData, roots, StandsWhole};
+ghost use Rattle.task_job.specs.Here.{MemoryFrames};
 ghost use Rattle.source_machine.specs.Stores.{Store};
 ghost use Rattle.source_machine.specs.Tasks.{Command, ending, starting, with_reply};
 ghost use Rattle.task_job.specs.Standing.{Keeps, ReachesFor, RunsFor, RestsFor, Receives, IsSoundJob};
@@ -41,9 +42,8 @@ impl Job {
         pool: &mut Pool,
     ) -> Result<Job, NoMemory>
         requires unit { IsUnit unit }
-        requires behaves { Behaves unit.core code }
         requires agree { StandsWhole pool.old (roots memory.old) }
-        ensures starts { IfOk result (λ job. (store : Store) → Keeps (packet_kinds unit.core.packets) pool.old memory.old store →
+        ensures starts { IfOk result (λ job. (store : Store) → IsCodeOf unit.core code → Keeps (packet_kinds unit.core.packets) pool.old memory.old store →
             RunsFor (packet_kinds unit.core.packets) pool.new memory.new job (starting unit store)) }
         ensures sound { IfOk result (λ job. IsSoundJob job) }
         ensures stands { StandsWhole pool.new (roots memory.new) }

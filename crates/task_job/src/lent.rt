@@ -8,10 +8,11 @@ ghost use Rattle.code_form.specs.Valid.{Fits};
 ghost use Rattle.code_form.specs.Runs.{Rests, asked};
 ghost use Rattle.zero_state.specs.Stepping.{mem_of, scene_of};
 ghost use Rattle.zero_machine.specs.Running.{RestsSo};
-ghost use Rattle.space_memory.specs.Memories.{roots, HoldsAll, memory_heads, StandsWhole, MemoryFrames};
+ghost use Rattle.space_memory.specs.Memories.{roots, memory_heads, StandsWhole};
+ghost use Rattle.task_job.specs.Here.{HoldsAll, MemoryFrames};
 
 use code_form::{Code, Halt};
-use eu_base::{MemFault, NoMemory, Reply};
+use eu_base::{MemFault, NoMemory, Nowhere, Reply};
 use page_pool::Pool;
 use space_memory::SpaceMemory;
 use std::alloc::Global;
@@ -33,11 +34,12 @@ pub(crate) fn start_over(
     ensures stands { StandsWhole pool.new (roots memory.new) }
     ensures frames { MemoryFrames pool.old pool.new (roots memory.old) (roots memory.new) }
 {
-    let mut lent = memory.over(pool);
+    let mut nowhere = Nowhere;
+    let mut lent = memory.over(pool, &mut nowhere);
     match TaskRun::start(alloc, code, &mut lent) {
         Ok(run) => Ok(run),
         Err(MemFault::NoMemory) => Err(NoMemory),
-        // Pages in memory have no faults.
+        // What reads as zeros has no faults.
         Err(MemFault::Failed) => unreachable!(),
     }
 }
@@ -60,11 +62,12 @@ pub(crate) fn go_over(
     ensures stands { StandsWhole pool.new (roots memory.new) }
     ensures frames { MemoryFrames pool.old pool.new (roots memory.old) (roots memory.new) }
 {
-    let mut lent = memory.over(pool);
+    let mut nowhere = Nowhere;
+    let mut lent = memory.over(pool, &mut nowhere);
     match run.go(code, &mut lent, marks) {
         Ok(halt) => Ok(halt),
         Err(MemFault::NoMemory) => Err(NoMemory),
-        // Pages in memory have no faults.
+        // What reads as zeros has no faults.
         Err(MemFault::Failed) => unreachable!(),
     }
 }
@@ -88,11 +91,12 @@ pub(crate) fn answer_over(
     ensures stands { StandsWhole pool.new (roots memory.new) }
     ensures frames { MemoryFrames pool.old pool.new (roots memory.old) (roots memory.new) }
 {
-    let mut lent = memory.over(pool);
+    let mut nowhere = Nowhere;
+    let mut lent = memory.over(pool, &mut nowhere);
     match run.answer(code, &mut lent, reply) {
         Ok(()) => Ok(()),
         Err(MemFault::NoMemory) => Err(NoMemory),
-        // Pages in memory have no faults.
+        // What reads as zeros has no faults.
         Err(MemFault::Failed) => unreachable!(),
     }
 }

@@ -21,7 +21,7 @@ use Rattle.data_space.specs.Data.{SpaceData}
 use Rattle.live_spaces.specs.Live.{IsLive, space_at}
 use Rattle.live_spaces.specs.Live as live_spaces
 use Rattle.space_memory.specs.Memories.{MemoryData, head_of, with_new, forgotten}
-use Rattle.source_texts.specs.Spaces.{HoldsSpace}
+use Rattle.task_texts.specs.Below.task_job.specs.Here.{HoldsSpace}
 use Rattle.place_gen.proofs.Cells.{fit_at}
 use Rattle.task_texts.specs.Below.source_machine.specs.Tasks.{Own, Doing, Idle, Entering, Running, now, request_of}
 use Rattle.task_texts.specs.Below.task_job.proofs.Receiving.{sent_received, came_received}

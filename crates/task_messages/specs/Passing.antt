@@ -4,7 +4,7 @@ use Rattle.eu_base.specs.DataSpaces.{Space}
 use Rattle.eu_base.specs.SoundSpaces.{CanCome}
 use Rattle.page_pool.specs.Pool.{Pages}
 use Rattle.data_space.specs.Data.{SpaceData}
-use Rattle.source_texts.specs.Spaces.{HoldsSpace}
+use Rattle.task_texts.specs.Below.task_job.specs.Here.{HoldsSpace}
 use Rattle.task_texts.specs.Below.live_task.specs.declared.task.Doing.{Doing as Does}
 use Rattle.task_texts.specs.Below.live_task.specs.declared.task.Doing.TheVariants as does
 

@@ -7,7 +7,7 @@ ghost use Rattle.eu_base.specs.Requests.{plain, sent_by};
 ghost use Rattle.eu_base.specs.DataSpaces.{Space, Forgets, heads_of, is_live, the_space};
 ghost use Rattle.eu_base.specs.SpaceOperations.{room_refusal};
 ghost use Rattle.page_pool.specs.Pool.{Pages};
-ghost use Rattle.page_table.specs.Frames.{Frames};
+ghost use Rattle.task_texts.specs.Below.task_job.specs.Here.{Frames};
 ghost use Rattle.live_spaces.specs.Live.{IsLive};
 ghost use Rattle.space_memory.specs.Memories.{roots, with_new, forgotten};
 ghost use Rattle.task_texts.specs.Below.source_machine.specs.Tasks.{Own, now, request_of};

@@ -1,5 +1,5 @@
 //! A command that runs.
-ghost use Rattle.std.specs.Prelude.{◌≡◌, ◌+◌, ◌-◌, ◌<◌, ◌≤◌, ◌⊎◌, ◌++◌, ◌∷◌, [], ℕ, List, None, IfOk, OnOk, IsSome, option_copied};
+ghost use Rattle.std.specs.Prelude.{◌≢◌, true, Err, ◌≡◌, ◌+◌, ◌-◌, ◌<◌, ◌≤◌, ◌⊎◌, ◌++◌, ◌∷◌, [], ℕ, List, None, IfOk, OnOk, IsSome, option_copied};
 ghost use Rattle.eu_base.specs.declared.request.Request.{Request};
 ghost use Rattle.eu_base.specs.Requests.{Answer};
 ghost use Rattle.code_form.specs.declared.halt.Halt.TheVariants as halts;
@@ -10,9 +10,14 @@ ghost use Rattle.code_form.specs.Valid.{Fits};
 ghost use Rattle.code_form.specs.Runs.{IsPaused, Rests, Stands, asked};
 ghost use Rattle.zero_state.specs.Stepping.{mem_of, scene_of};
 ghost use Rattle.zero_machine.specs.Running.{RestsSo};
+ghost use Rattle.byte_spelling.specs.declared.reading.ReadError.TheVariants as errors;
+ghost use Rattle.state_spelling.specs.Kept.{kept as spelling};
+ghost use Rattle.state_revival.specs.Standing.{kept_of};
 
+use byte_spelling::ReadError;
 use code_form::{Code, Halt, Waits};
-use eu_base::{MemFault, Memory, Reply, Request};
+use eu_base::{Bytes, MemFault, Memory, NoMemory, Reply, Request};
+use state_revival::{record_bytes, revive_bytes};
 use std::alloc::Global;
 use std::marker::Model;
 use zero_machine::State;
@@ -68,6 +73,25 @@ impl TaskRun {
     {
         let halt = zero_machine::run(c, &mut self.state, m, marks)?;
         Ok(halt)
+    }
+
+    /// What is kept of where the command stands, as bytes.
+    pub fn record(&self, alloc: Global) -> Result<Bytes, NoMemory>
+        ensures spelled { IfOk result (λ bytes. bytes ≡ spelling.spell (kept_of self.now)) }
+        ensures fine { IfOk result (λ _. spelling.fine (kept_of self.now) ≡ true) }
+    {
+        record_bytes(alloc, &self.state)
+    }
+
+    /// Where a command of this code stands, from the bytes that were kept of it. A refusal says that no state that fits the code has these bytes.
+    pub fn revive(alloc: Global, c: &Code, kept: &[u8]) -> Result<TaskRun, ReadError>
+        ensures fits { IfOk result (λ command. Fits c.now command) }
+        ensures kept { IfOk result (λ command. kept.now ≡ spelling.spell (kept_of command)) }
+        ensures same { (s : Control) → Fits c.now s → spelling.fine (kept_of s) ≡ true → kept.now ≡ spelling.spell (kept_of s) → IfOk result (λ command. command ≡ s) }
+        ensures refused { (s : Control) → Fits c.now s → spelling.fine (kept_of s) ≡ true → kept.now ≡ spelling.spell (kept_of s) → result ≢ Err errors.NotSpelled }
+    {
+        let state = revive_bytes(alloc, c, kept)?;
+        Ok(TaskRun { state })
     }
 
     /// The request that the command waits for.

@@ -1,11 +1,11 @@
 -- Tasks over one pool.
-use Rattle.std.specs.Prelude.{◌≡◌, ℕ, List, [], ◌∷◌, Option, None, pos, slice_index_or}
+use Rattle.std.specs.Prelude.{◌≡◌, ℕ, List, [], ◌∷◌, Option, Some, None, pos, replicate, slice_index_or}
 use Rattle.std.specs.List.{flat_map}
 use Rattle.eu_base.specs.Spaces.{IsKept}
-use Rattle.page_pool.specs.Pool.{Pages}
+use Rattle.page_pool.specs.Pool.{Pages, Tell}
 use Rattle.data_space.specs.Data.{SpaceData}
 use Rattle.data_space.specs.Owners.{ChangesOwner, LosesOwner}
-use Rattle.page_table.specs.Frames.{content_at}
+use Rattle.page_table.specs.Frames.{Over, over, content_at}
 use Rattle.task_spaces_tests.specs.declared.task.Task.{Task}
 
 abbrev pub roots : Task → List (Option ℕ)
@@ -23,20 +23,28 @@ no_task = record { first = no_space; second = no_space }
 abbrev pub task_at : List Task → ℕ → Task
 task_at tasks k = slice_index_or tasks k no_task
 
+-- what stands behind the pool: nothing, which tells zeros
+abbrev pub zeros : Tell
+zeros = Some (λ _. replicate 512 0)
+
+-- a pool over that
+abbrev pub whole : Pages → Over
+whole pages = over pages zeros
+
 -- every byte of a space is as it was
-abbrev pub SameBytes : Pages → Pages → Option ℕ → Type 0
+abbrev pub SameBytes : Over → Over → Option ℕ → Type 0
 SameBytes old new root = IsKept (content_at old root) (content_at new root)
 
 -- a space with the bytes, the type and the shape that another had
-pub record IsCopy (old new : Pages) (of copy : SpaceData) : Type 0 where
+pub record IsCopy (old new : Over) (of copy : SpaceData) : Type 0 where
   pub bytes : IsKept (content_at old of.root) (content_at new copy.root)
   pub kind : copy.kind ≡ of.kind
   pub shape : copy.shape ≡ of.shape
 
 -- task k is another one now; each other task is as it was, with every byte of its spaces
-abbrev pub ChangesTask : Pages → Pages → List Task → List Task → ℕ → Type 0
+abbrev pub ChangesTask : Over → Over → List Task → List Task → ℕ → Type 0
 ChangesTask old new tasks later k = ChangesOwner roots no_task old new tasks later k
 
 -- task k is gone; each other task is as it was, with every byte of its spaces
-abbrev pub LosesTask : Pages → Pages → List Task → List Task → ℕ → Type 0
+abbrev pub LosesTask : Over → Over → List Task → List Task → ℕ → Type 0
 LosesTask old new tasks later k = LosesOwner roots no_task old new tasks later k

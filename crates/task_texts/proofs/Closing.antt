@@ -12,10 +12,9 @@ use Rattle.eu_base.specs.SoundSpaces.{IsSpace}
 use Rattle.task_numbers.specs.declared.number.SpaceNo.{SpaceNo}
 use Rattle.page_pool.specs.Pool.{Pages}
 use Rattle.data_space.specs.Data.{SpaceData}
-use Rattle.source_texts.specs.Spaces.{HoldsSpace}
 use Rattle.source_texts.specs.Sources.{most_lines, source_shape, source_space}
 use Rattle.source_texts.proofs.Shapes.{kinds_source}
-use Rattle.live_spaces.specs.Kept.{KeepsBytes}
+use Rattle.live_task.specs.Below.task_job.specs.Here.{here, HoldsSpace, KeepsBytes}
 use Rattle.space_names.specs.Directory as directory
 use Rattle.space_memory.specs.Memories.{MemoryData, roots, with_new}
 use Rattle.named_texts.specs.Texts as texts
@@ -61,7 +60,7 @@ named_last kinds pages m store d name lines own left h =
     (data_spaces.next_number store.spaces) (ap (λ (n : ℕ). record { 0 = n + 1 }) last) (omega (arith, left, last))
     (comes kinds pages m store d space own (source_sound pages d lines own) (omega (arith, source_long)) left h)
 
-module _ (old new : Pages) (was now : MemoryData) (name : List ℕ) (lines : List (List ℕ)) (k : KeepsText old new was now name lines) (store : Store)
+module _ (old new : Pages) (was now : MemoryData) (name : List ℕ) (lines : List (List ℕ)) (k : KeepsText (here old) (here new) was now name lines) (store : Store)
     (left : was.last < last_number) (kinds : List Kind) (h : Keeps kinds old was store) where
   abbrev under : Option SpaceNo
   under = directory.get name was.names
@@ -71,7 +70,7 @@ module _ (old new : Pages) (was now : MemoryData) (name : List ℕ) (lines : Lis
 
   there : Keeps kinds new (texts.with_named name k.space was) (record less { spaces = stores.named_last name (source_space lines) less.spaces })
   there =
-      named_last kinds new (texts.without_named under was) less k.space name lines k.holds (omega (arith, left, last_same was under))
+      named_last kinds new (texts.without_named under was) less k.space name lines (k.holds h.holds.knows) (omega (arith, left, last_same was under))
       (gone kinds old new was store under k.keeps h)
 
   pub text_keeps : Keeps kinds new now (with_named name (source_space lines) store)
@@ -94,24 +93,17 @@ module _ (p0 p1 : Pages) (was taken : Task) (now : MemoryData) (n name' : List �
       let there : IsSoundDoing was.memory (does.Entering n ls) = subst (λ (d : Does). IsSoundDoing was.memory d) entered sound in
       there.number
 
-  closes : KeepsText p0 p1 taken.memory now name' lines' → (kinds : List Kind) (own : Own) (name : List ℕ) (lines : List (List ℕ)) (store : Store)
+  pub closes : KeepsText (here p0) (here p1) taken.memory now name' lines' → (kinds : List Kind) (own : Own) (name : List ℕ) (lines : List (List ℕ)) (store : Store)
       → own.doing ≡ Entering name lines store → StandsFor kinds p0 was own
       → StandsFor kinds p1 (record taken { memory = now }) (with_doing (Idle (with_named name (source_space lines) store)) own)
   closes k kinds own name lines store is h =
       let d : DoesAs kinds p0 was (Entering name lines store) = subst (λ d. DoesAs kinds p0 was d) is h.does in
       let same = same_text name lines d.0 in
-      let there : KeepsText p0 p1 was.memory now name lines =
-      subst (λ (m : MemoryData). KeepsText p0 p1 m now name lines) (ap (λ (t : Task). t.memory) idle)
-      (subst (λ ns. KeepsText p0 p1 taken.memory now ns lines) (named ∙ same.0)
-      (subst (λ ns. KeepsText p0 p1 taken.memory now name' ns) (lined ∙ same.1) k)) in
+      let there : KeepsText (here p0) (here p1) was.memory now name lines =
+      subst (λ (m : MemoryData). KeepsText (here p0) (here p1) m now name lines) (ap (λ (t : Task). t.memory) idle)
+      (subst (λ ns. KeepsText (here p0) (here p1) taken.memory now ns lines) (named ∙ same.0)
+      (subst (λ ns. KeepsText (here p0) (here p1) taken.memory now name' ns) (lined ∙ same.1) k)) in
       record {
         packets = ap (λ (t : Task). t.packets) idle ∙ h.packets;
         does = (ap (λ (t : Task). t.doing) idle, text_keeps p0 p1 was.memory now name lines there store number_left kinds d.1);
       }
-
-  pub closed_so : {A E : Type 0} (r : Result A E) → OnOk r (KeepsText p0 p1 taken.memory now name' lines')
-      → OnOk r ((kinds : List Kind) (own : Own) (name : List ℕ) (lines : List (List ℕ)) (store : Store)
-      → own.doing ≡ Entering name lines store → StandsFor kinds p0 was own
-      → StandsFor kinds p1 (record taken { memory = now }) (with_doing (Idle (with_named name (source_space lines) store)) own))
-  closed_so (Ok x) k = closes k
-  closed_so (Err e) k = tt

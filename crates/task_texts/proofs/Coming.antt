@@ -25,21 +25,20 @@ use Rattle.eu_base.proofs.Heads.{append_heads, by_same}
 use Rattle.eu_base.proofs.Places.{same_area_self}
 use Rattle.eu_base.proofs.SoundSpaces.{change_sound}
 use Rattle.page_pool.specs.Pool.{Pages}
-use Rattle.page_table.specs.Frames.{content_at}
 use Rattle.text_heap.specs.Held.{HoldsCells}
 use Rattle.data_space.specs.Data.{SpaceData}
-use Rattle.live_spaces.specs.Kept.{KeepsBytes}
 use Rattle.live_spaces.specs.Live as live_spaces
 use Rattle.live_spaces.specs.Live.{space_at}
 use Rattle.space_names.specs.Directory as directory
-use Rattle.space_memory.specs.Memories.{MemoryData, HoldsAll, roots, memory_heads, with_new, forgotten}
+use Rattle.space_memory.specs.Memories.{MemoryData, roots, memory_heads, with_new, forgotten}
 use Rattle.space_memory.specs.Memories as memories
 use Rattle.space_memory.proofs.Changed.{forgot_heads, forgot_held, named_still}
 use Rattle.space_memory.proofs.Given.{given_held}
 use Rattle.elan_types.specs.Eval.{Slot, Holds}
 use Rattle.place_gen.specs.Correct.{StandsFor, HasVariables, AreGiven}
 use Rattle.place_gen.proofs.Spaces.{numbers_apart, other_gone, kinds_same}
-use Rattle.source_texts.specs.Spaces.{HoldsSpace, held, cells_of}
+use Rattle.source_texts.specs.Spaces.{held, cells_of}
+use Rattle.live_task.specs.Below.task_job.specs.Here.{here, content_at, KeepsBytes, HoldsAll, HoldsSpace}
 use Rattle.live_task.specs.Below.source_machine.specs.Stores.{Store}
 use Rattle.live_task.specs.Below.task_job.specs.Standing.{KeepsSpaces, Keeps}
 use Rattle.live_task.specs.Below.task_job.proofs.Beginning.{same_variables, no_variables}
@@ -188,7 +187,7 @@ module _ (spaces : Spaces) (m : MemoryData) (cells : Cells) (h : KeepsSpaces m s
 
     pub new_holds : HoldsCells Run (content_at pages d.root) (cells_of space.values) → HoldsAll pages m cells → HoldsAll pages now put
     new_holds own all =
-        given_held pages m d space (none_next memories.head_of m.spaces m.last (given_there spaces m cells h).rise) own cells all
+        given_held (here pages) m d space (none_next memories.head_of m.spaces m.last (given_there spaces m cells h).rise) own cells all
 
   -- and the spaces
   module _ (is : IsSpace space) (fits : length (shaped_kinds space.shape) ≤ CELLS) (left : m.last < last_number) (head : memories.head_of d ≡ head_of space) where
@@ -248,7 +247,7 @@ pub forgets : (kinds : List Kind) (old new : Pages) (m : MemoryData) (store : St
 forgets kinds old new m store s k h = record {
   fits = h.fits;
   cells = with_area (areas.Space s) (λ x. Free) h.cells;
-  holds = forgot_held old new m (forgotten s.0 m) s refl k (gone_there store.spaces m h.cells h.spaces s) h.cells h.holds;
+  holds = forgot_held (here old) (here new) m (forgotten s.0 m) s refl k (gone_there store.spaces m h.cells h.spaces s) h.cells h.holds;
   packets = same_variables Packets kinds store.variables h.cells (with_area (areas.Space s) (λ x. Free) h.cells) (λ x. refl) h.packets;
   spaces = spaces_left store.spaces m h.cells h.spaces s;
   command = h.command;
@@ -279,7 +278,7 @@ pub gets_name : (kinds : List Kind) (pages : Pages) (m : MemoryData) (store : St
 gets_name kinds pages m store name s t same low h = record {
   fits = h.fits;
   cells = h.cells;
-  holds = named_still pages m (directory.put name s m.names) h.cells h.holds;
+  holds = named_still (here pages) m (directory.put name s m.names) h.cells h.holds;
   packets = h.packets;
   spaces = spaces_named store.spaces m h.cells h.spaces name s t same low;
   command = h.command;

@@ -22,15 +22,15 @@ use Rattle.eu_base.proofs.Heads.{lookup_head, long_heads}
 use Rattle.eu_base.proofs.SoundSpaces.{space_sound}
 use Rattle.task_numbers.specs.declared.number.SpaceNo.{SpaceNo}
 use Rattle.page_pool.specs.Pool.{Pages}
-use Rattle.page_table.specs.Frames.{content_at}
 use Rattle.text_heap.specs.Held.{HoldsCells}
 use Rattle.text_heap.proofs.Kept.{moved_held}
 use Rattle.data_space.specs.Data.{SpaceData}
-use Rattle.source_texts.specs.Spaces.{HoldsSpace, held, cells_of}
+use Rattle.source_texts.specs.Spaces.{held, cells_of}
 use Rattle.live_spaces.specs.Live as live_spaces
 use Rattle.live_spaces.specs.Live.{space_at}
 use Rattle.space_names.specs.Directory as directory
-use Rattle.space_memory.specs.Memories.{MemoryData, HoldsAll, memory_heads}
+use Rattle.space_memory.specs.Memories.{MemoryData, memory_heads}
+use Rattle.live_task.specs.Below.task_job.specs.Here.{content_at, HoldsSpace, HoldsAll}
 use Rattle.space_memory.specs.Memories as memories
 use Rattle.elan_types.specs.Eval.{Holds}
 use Rattle.place_gen.specs.Correct.{HasVariables}
@@ -113,6 +113,7 @@ module _ (pages : Pages) (memory : MemoryData) (all : Spaces) (h : Known pages m
 
     one_held : HoldsSpace pages paged space
     one_held = record {
+      knows = h.holds.knows;
       kind = ap (λ (x : Head). x.kind) head_same;
       shape = ap (λ (x : Head). x.shape) head_same;
       typed = (subst (λ (x : Space). IsSpace x) is_it (space_sound s all h.has.sound)).values;
@@ -222,12 +223,11 @@ module _ (pages : Pages) (name : List ℕ) (memory : MemoryData) (store : Store)
       by (Some paged) (Some space) (there k) is = text paged space is k
 
 -- what follows for the text that was looked up
-pub source_seen : {E : Type 0} (r : Result Source E) (pages : Pages) (task : Task) (name : List ℕ) → IfOk r (λ source. under name task.memory ≡ None → source ≡ NoSpace)
-    → IfOk r (λ source. (paged : SpaceData) (space : Space) → under name task.memory ≡ Some paged → HoldsSpace pages paged space → source ≡ source_in (Some space))
-    → IfOk r (λ source. (kinds : List Kind) (own : Own) → StandsFor kinds pages task own → source ≡ source_in (space_under name (now own.doing)))
-source_seen (Ok source) pages task name free text =
-    λ kinds own h. source_is pages name task.memory (now own.doing) (spaces_now kinds pages task own h) source free text
-source_seen (Err e) pages task name free text = tt
+pub source_seen : (source : Source) (pages : Pages) (task : Task) (name : List ℕ) → (under name task.memory ≡ None → source ≡ NoSpace)
+    → ((paged : SpaceData) (space : Space) → under name task.memory ≡ Some paged → HoldsSpace pages paged space → source ≡ source_in (Some space))
+    → (kinds : List Kind) (own : Own) → StandsFor kinds pages task own → source ≡ source_in (space_under name (now own.doing))
+source_seen source pages task name free text kinds own h =
+    source_is pages name task.memory (now own.doing) (spaces_now kinds pages task own h) source free text
 
 pub names_seen : {E : Type 0} (r : Result (List (List ℕ)) E) (task : Task) → IfOk r (λ names. names ≡ map (λ entry. entry.0) task.memory.names)
     → IfOk r (λ names. (kinds : List Kind) (pages : Pages) (own : Own) → StandsFor kinds pages task own → names ≡ directory_of (now own.doing))

@@ -1,7 +1,8 @@
 //! A text that ends, and becomes a space under its name.
 ghost use Rattle.std.specs.Prelude.{◌≡◌, ◌+◌, ◌≤◌, ◌∷◌, List, ℕ, length, None, OnOk, OnErr};
 ghost use Rattle.eu_base.specs.declared.value.Kind.{Kind};
-ghost use Rattle.page_table.specs.Frames.{Frames, Stands};
+ghost use Rattle.page_table.specs.Frames.{Stands};
+ghost use Rattle.live_task.specs.Below.task_job.specs.Here.{Frames};
 ghost use Rattle.space_memory.specs.Memories.{roots};
 ghost use Rattle.source_texts.specs.Sources.{source_space};
 ghost use Rattle.live_task.specs.Below.source_machine.specs.Stores.{Store, with_named};
@@ -9,7 +10,7 @@ ghost use Rattle.live_task.specs.Below.source_machine.specs.Tasks.{Own, Idle as 
 ghost use Rattle.live_task.specs.Stands.{StandsFor, IsSound};
 
 use crate::doing::take_text;
-use eu_base::NoMemory;
+use eu_base::{MemFault, NoMemory, Nowhere};
 use live_task::Task;
 use named_texts::keep_text;
 use page_pool::Pool;
@@ -31,11 +32,18 @@ pub fn close_text(alloc: Global, task: &mut Task, pool: &mut Pool) -> Result<(),
     let Some((name, lines)) = take_text(alloc, task) else {
         return Ok(());
     };
-    keep_text(
+    let mut nowhere = Nowhere;
+    match keep_text(
         alloc,
         &mut task.memory,
         pool,
         name.as_slice(),
         lines.as_slice(),
-    )
+        &mut nowhere,
+    ) {
+        Ok(()) => Ok(()),
+        Err(MemFault::NoMemory) => Err(NoMemory),
+        // What reads as zeros has no faults.
+        Err(MemFault::Failed) => unreachable!(),
+    }
 }

@@ -2,7 +2,9 @@
 ghost use Rattle.std.specs.Prelude.{◌≡◌, ◌≤◌, List, Some, IfOk, option_copied};
 ghost use Rattle.eu_base.specs.declared.value.Kind.{Kind};
 ghost use Rattle.page_pool.specs.Pool.{Pages};
+ghost use Rattle.page_table.specs.Entries.{Names};
 ghost use Rattle.page_table.specs.Frames.{Stands};
+ghost use Rattle.live_task.specs.Below.task_job.specs.Here.{Frames};
 ghost use Rattle.space_memory.specs.Memories.{roots};
 ghost use Rattle.named_texts.specs.Sources.{source_in, IsShort};
 ghost use Rattle.live_task.specs.Below.source_machine.specs.Stores.{space_under};
@@ -11,7 +13,7 @@ ghost use Rattle.live_task.specs.Below.source_machine.specs.Monitor.{directory_o
 ghost use Rattle.live_task.specs.Below.source_machine.specs.Supervisor.{spaces_of, state_of, running_state};
 ghost use Rattle.live_task.specs.Stands.{StandsFor};
 
-use eu_base::{Bytes, List, NoMemory, Request};
+use eu_base::{Bytes, List, MemFault, NoMemory, Nowhere, Request};
 use live_task::{Doing, Task};
 use named_texts::{Source, names as names_in, text_under};
 use page_pool::Pool;
@@ -58,13 +60,20 @@ fn running_state(asked: Option<&Request>) -> &'static [u8]
 pub fn source_under(
     alloc: Global,
     task: &Task,
-    pool: &Pool,
+    pool: &mut Pool,
     name: &[u8],
 ) -> Result<Source, NoMemory>
-    requires agree { Stands pool.now (roots task.now.memory) 0 }
-    ensures source { IfOk result (λ source. (kinds : List Kind) (own : Own) → StandsFor kinds pool.now task.now own →
+    requires agree { Stands pool.old (roots task.now.memory) 0 }
+    ensures source { IfOk result (λ source. (kinds : List Kind) (own : Own) → StandsFor kinds pool.old task.now own →
         source ≡ source_in (space_under name.now (now own.doing))) }
     ensures short { IfOk result IsShort }
+    ensures frames { (mine : Names) → Frames pool.old pool.new mine mine }
 {
-    text_under(alloc, &task.memory, pool, name)
+    let mut nowhere = Nowhere;
+    match text_under(alloc, &task.memory, pool, name, &mut nowhere) {
+        Ok(source) => Ok(source),
+        Err(MemFault::NoMemory) => Err(NoMemory),
+        // What reads as zeros has no faults.
+        Err(MemFault::Failed) => unreachable!(),
+    }
 }

@@ -13,7 +13,8 @@ use Rattle.eu_base.specs.Values.{IsOf, numbers_of_spaces}
 use Rattle.eu_base.specs.Cells.{Cells, held_of, packet_cell}
 use Rattle.eu_base.specs.DataSpaces.{Heads, last_number}
 use Rattle.page_pool.specs.Pool.{Pages}
-use Rattle.space_memory.specs.Memories.{MemoryData, HoldsAll, memory_heads}
+use Rattle.space_memory.specs.Memories.{MemoryData, memory_heads}
+use Rattle.task_messages.specs.Below.task_job.specs.Here.{HoldsAll}
 use Rattle.zero_state.specs.Stepping.{mem_of}
 use Rattle.place_gen.specs.Correct.{HasSpaces}
 use Rattle.elan_types.specs.Eval.{Slot, Holds}

@@ -8,10 +8,9 @@ use Rattle.eu_base.specs.declared.value.Kind.{Kind}
 use Rattle.eu_base.specs.DataSpaces.{Head, Heads, Space, head_of, no_space, last_number, without_space}
 use Rattle.eu_base.proofs.Heads.{long_heads}
 use Rattle.page_pool.specs.Pool.{Pages}
-use Rattle.page_table.specs.Frames.{Frames}
-use Rattle.page_table.proofs.Framing.{stands_after}
 use Rattle.data_space.specs.Data.{SpaceData}
-use Rattle.live_spaces.specs.Kept.{KeepsBytes}
+use Rattle.task_messages.specs.Below.task_job.specs.Here.{Frames, KeepsBytes}
+use Rattle.task_messages.specs.Below.task_job.proofs.Here.{stands_after}
 use Rattle.live_spaces.specs.Live.{without}
 use Rattle.space_memory.specs.Memories.{MemoryData, memory_heads, roots, most_roots, forgotten, StandsWhole}
 use Rattle.space_memory.specs.Memories as memories

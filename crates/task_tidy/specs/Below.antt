@@ -1,6 +1,7 @@
 -- The libraries below whose words a crate above reads here, so that its line in crates.txt stays short.
 pub use Rattle.task_messages as task_messages
 pub use Rattle.task_messages.specs.Below.task_texts as task_texts
+pub use Rattle.task_messages.specs.Below.task_job as task_job
 pub use Rattle.task_messages.specs.Below.live_task as live_task
 pub use Rattle.task_messages.specs.Below.source_machine as source_machine
 pub use Rattle.task_messages.specs.Below.packet_store as packet_store

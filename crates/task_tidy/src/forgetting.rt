@@ -2,8 +2,8 @@
 ghost use Rattle.std.specs.Prelude.{◌≡◌, ◌+◌, ◌≤◌, length, OnOk, option_map, slice_get};
 ghost use Rattle.eu_base.specs.declared.address.TheConstants.{CELLS};
 ghost use Rattle.cell_kinds.specs.Kinds.{packet_kinds};
-ghost use Rattle.live_spaces.specs.Kept.{KeepsBytes};
-ghost use Rattle.space_memory.specs.Memories.{roots, forgotten, StandsWhole, MemoryFrames};
+ghost use Rattle.space_memory.specs.Memories.{roots, forgotten, StandsWhole};
+ghost use Rattle.task_messages.specs.Below.task_job.specs.Here.{KeepsBytes, MemoryFrames};
 ghost use Rattle.task_messages.specs.Below.source_machine.specs.Stores.{Store, only_used};
 ghost use Rattle.task_messages.specs.Below.task_job.specs.Standing.{Keeps};
 ghost use Rattle.task_tidy.specs.Tidied.{kinds_with, tidied_at};

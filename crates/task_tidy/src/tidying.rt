@@ -1,6 +1,7 @@
 //! A task whose command is over.
 ghost use Rattle.std.specs.Prelude.{◌≡◌, ◌≤◌, length, OnOk};
-ghost use Rattle.space_memory.specs.Memories.{roots, most_roots, StandsWhole, MemoryFrames};
+ghost use Rattle.space_memory.specs.Memories.{roots, most_roots, StandsWhole};
+ghost use Rattle.task_messages.specs.Below.task_job.specs.Here.{MemoryFrames};
 ghost use Rattle.task_messages.specs.Below.source_machine.specs.Stores.{Store, tidied};
 ghost use Rattle.task_messages.specs.Below.source_machine.specs.Tasks.{Own, Idle, with_doing};
 ghost use Rattle.task_messages.specs.Below.task_job.specs.Standing.{Keeps};

@@ -7,14 +7,15 @@ ghost use Rattle.eu_base.specs.Cells.{Cells};
 ghost use Rattle.cell_kinds.specs.Kinds.{packet_kinds};
 ghost use Rattle.packet_cells.specs.Freed.{HoldEach};
 ghost use Rattle.packet_cells.specs.Denoted.{denote};
-ghost use Rattle.space_memory.specs.Memories.{roots, HoldsAll, memory_heads, StandsWhole, MemoryFrames};
+ghost use Rattle.space_memory.specs.Memories.{roots, memory_heads, StandsWhole};
+ghost use Rattle.task_messages.specs.Below.task_job.specs.Here.{HoldsAll, MemoryFrames};
 ghost use Rattle.task_messages.specs.Below.source_machine.specs.Stores as spec;
 ghost use Rattle.task_messages.specs.Below.source_machine.specs.Stores.{Store};
 ghost use Rattle.task_messages.specs.Below.task_job.specs.Standing.{Keeps};
 ghost use Rattle.task_tidy.specs.Tidied.{kinds_with};
 
 use cell_kinds::{CellKinds, Packet};
-use eu_base::{MemFault, NoMemory};
+use eu_base::{MemFault, NoMemory, Nowhere};
 use packet_cells::variables_denote;
 use page_pool::Pool;
 use space_memory::SpaceMemory;
@@ -64,11 +65,12 @@ fn is_denoted(
     ensures stands { StandsWhole pool.new (roots memory.new) }
     ensures frames { MemoryFrames pool.old pool.new (roots memory.old) (roots memory.new) }
 {
-    let mut lent = memory.over(pool);
+    let mut nowhere = Nowhere;
+    let mut lent = memory.over(pool, &mut nowhere);
     match variables_denote(alloc, &mut lent, packets, behind.shapes(), space) {
         Ok(found) => Ok(found),
         Err(MemFault::NoMemory) => Err(NoMemory),
-        // Pages in memory have no faults.
+        // What reads as zeros has no faults.
         Err(MemFault::Failed) => unreachable!(),
     }
 }

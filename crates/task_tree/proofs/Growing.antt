@@ -43,7 +43,7 @@ childless p (x ∷ xs) given none k d lt =
     by false e n rest (suc k) lt = rest n k d (omega (arith, lt))
 
 -- a father that lives still lives beside a new task
-still_lives : (s : spec.Tree) (u v : Task) (last : ℕ) → has_live_father s u ≡ true
+pub still_lives : (s : spec.Tree) (u v : Task) (last : ℕ) → has_live_father s u ≡ true
     → has_live_father (record { tasks = s.tasks ++ v ∷ []; last = last }) u ≡ true
 still_lives s u v last e = by (is_nil u.father) refl
   where

@@ -1,1 +1,4 @@
 pub mod Growing
+pub mod Whole
+pub mod Rows
+pub mod Same

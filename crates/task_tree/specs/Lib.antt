@@ -1,2 +1,4 @@
 pub mod Tree
 pub mod Trees
+pub mod Whole
+pub mod Rows

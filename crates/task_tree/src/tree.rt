@@ -1,13 +1,19 @@
 //! The live tasks.
-ghost use Rattle.std.specs.Prelude.{◌≡◌, ◌≢◌, ◌<◌, true, None, Some, find, length, position, IfErr, IfOk, OnErr, OnOk};
+ghost use Rattle.std.specs.Prelude.{◌≡◌, ◌≢◌, ◌<◌, true, false, None, Some, find, length, option_map, position, slice_get, All, IfErr, IfOk, OnErr, OnOk};
 ghost use Rattle.std.specs.List.{list_any};
 ghost use Rattle.std.specs.Option.{option_copied};
 ghost use Rattle.task_numbers.specs.Numbers.{niltask};
 ghost use Rattle.task_tree.specs.Tree as spec;
+ghost use Rattle.eu_base.specs.SpaceOperations.{is_name};
+ghost use Rattle.task_tree.specs.Rows.{row_of, rows_of};
+ghost use Rattle.task_tree.specs.declared.row.TreeRow.{TreeRow as Row};
 ghost use Rattle.task_tree.specs.Trees.{IsTree};
+ghost use Rattle.task_tree.specs.Whole.{IsWhole};
 
-use crate::{BeginError, Task};
-use containers::{Bytes, NoMemory};
+use crate::rebuild::{are_same, has_ur, tasks_of};
+use crate::{BeginError, Task, TreeRow};
+use containers::{Bytes, List, NoMemory};
+use eu_base::ReviveError;
 use std::alloc::Global;
 use std::marker::Model;
 use task_numbers::{TASKS, TaskNo};
@@ -29,9 +35,9 @@ impl Model for TaskTree {
 
     ghost view = { λ tree. record { tasks = tree.tasks.items; last = tree.last } };
 
-    ghost use Rattle.task_tree.specs.Trees.{IsTree};
+    ghost use Rattle.task_tree.specs.Whole.{IsWhole};
 
-    ghost invariant = { λ tree. IsTree (record { tasks = tree.tasks.items; last = tree.last }) };
+    ghost invariant = { λ tree. IsWhole (record { tasks = tree.tasks.items; last = tree.last }) };
 }
 
 impl TaskTree {
@@ -51,6 +57,58 @@ impl TaskTree {
             father: TaskNo(1),
         })?;
         Ok(TaskTree { tasks, last: 2 })
+    }
+
+    /// The tree with these rows, by age, and with this as the last number that was given. `NotSystem` comes exactly where no tree
+    /// has them.
+    pub fn of(alloc: Global, last: u32, rows: &[TreeRow]) -> Result<TaskTree, ReviveError>
+        ensures last { IfOk result (λ tree. tree.last ≡ last) }
+        ensures rows { IfOk result (λ tree. rows_of tree ≡ rows.now) }
+        ensures same { IfOk result (λ tree. (s : spec.Tree) → s.last ≡ last → rows_of s ≡ rows.now → tree ≡ s) }
+        ensures refused { IfErr result (λ cause. cause ≢ ReviveError.NoMemory
+            → (s : spec.Tree) → IsWhole s → s.last ≡ last → rows_of s ≡ rows.now → ⊥) }
+    {
+        let tasks = match tasks_of(alloc, last, rows) {
+            Ok(tasks) => tasks,
+            Err(cause) => return Err(cause),
+        };
+        if !has_ur(&tasks) {
+            return Err(ReviveError::NotSystem);
+        }
+        let tree = TaskTree { tasks, last };
+        if !tree.has_all_sons(alloc, rows)? {
+            return Err(ReviveError::NotSystem);
+        }
+        Ok(tree)
+    }
+
+    /// The number of the task at a place by age, from 0; `None` exactly past the last.
+    pub fn row(&self, place: u32) -> Option<TaskNo>
+        ensures { result ≡ option_map (λ u. u.number) (slice_get self.now.tasks place) }
+    {
+        match self.tasks.get(place as usize) {
+            Some(task) => Some(task.number),
+            None => None,
+        }
+    }
+
+    /// The rows of all tasks, by age.
+    pub fn rows(&self, alloc: Global) -> Result<List<TreeRow>, NoMemory>
+        ensures { IfOk result (λ rows. rows ≡ rows_of self.now) }
+    {
+        let mut rows = List::new(alloc);
+        for task in &self.tasks {
+            let row = self.row_of(alloc, task)?;
+            rows.push(row)?;
+        }
+        Ok(rows)
+    }
+
+    /// The last number that was given.
+    pub fn last_number(&self) -> u32
+        ensures { result ≡ self.now.last }
+    {
+        self.last
     }
 
     /// Whether a task lives.
@@ -168,7 +226,8 @@ impl TaskTree {
         name: &[u8],
         father: TaskNo,
     ) -> Result<TaskNo, BeginError>
-        requires { spec.lives father self.old ≡ true }
+        requires live { spec.lives father self.old ≡ true }
+        requires named { is_name name.now ≡ true }
         ensures free { OnOk result (spec.refusal name.now self.old ≡ None) }
         ensures number { IfOk result (λ task. task ≡ spec.next self.old) }
         ensures begun { OnOk result (self.new ≡ spec.begun name.now father self.old) }
@@ -229,11 +288,40 @@ impl TaskTree {
     }
 
     /// What holds of every tree: at most 16 tasks, by age, no two with one number or one name, each but `UR` with a living
-    /// father that is older; and a number that was given is not given again.
+    /// father that is older; and a number that was given is not given again. `UR` lives, alone has no father, and names have 1 to
+    /// 60 bytes.
     pub fn law(&self)
-        ensures { IsTree self.now }
+        ensures tree { IsTree self.now }
+        ensures whole { IsWhole self.now }
     {
         let _tasks = &self.tasks;
+    }
+
+    /// Whether each row has the sons of its task.
+    fn has_all_sons(&self, alloc: Global, rows: &[TreeRow]) -> Result<bool, NoMemory>
+        ensures all { IfOk result (λ all. all ≡ true → All (λ (r : Row). r.sons ≡ spec.sons r.number self.now) rows.now) }
+        ensures some { IfOk result (λ all. all ≡ false → All (λ (r : Row). r.sons ≡ spec.sons r.number self.now) rows.now → ⊥) }
+    {
+        for row in rows {
+            let sons = self.sons(alloc, row.number)?;
+            if !are_same(row.sons.as_slice(), &sons) {
+                return Ok(false);
+            }
+        }
+        Ok(true)
+    }
+
+    fn row_of(&self, alloc: Global, task: &Task) -> Result<TreeRow, NoMemory>
+        ensures { IfOk result (λ row. row ≡ row_of self.now task.now) }
+    {
+        let name = Bytes::from(alloc, task.name.as_slice())?;
+        let sons = self.sons(alloc, task.number)?;
+        Ok(TreeRow {
+            number: task.number,
+            name,
+            father: task.father,
+            sons: List::from_vec(sons),
+        })
     }
 
     fn is_taken(&self, name: &[u8]) -> bool

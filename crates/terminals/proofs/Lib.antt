@@ -1,1 +1,2 @@
 pub mod Coupling
+mod Rows

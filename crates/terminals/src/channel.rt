@@ -1,10 +1,13 @@
 //! One channel.
-ghost use Rattle.std.specs.Prelude.{◌≡◌, ◌≤◌, length, nat_lt, slice_get, IfOk, IfSome};
+ghost use Rattle.std.specs.Prelude.{◌≡◌, ◌≢◌, ◌≤◌, length, nat_lt, slice_get, option_copied, IfErr, IfOk, IfSome};
 ghost use Rattle.std.specs.Result.{is_err};
 ghost use Rattle.terminals.specs.Channels as spec;
+ghost use Rattle.terminals.specs.Rows.{HasRoom, channel_of};
 
+use crate::ChannelRow;
 use circular_buffer::HeapCircularBuffer;
 use containers::{Bytes, NoMemory};
+use eu_base::ReviveError;
 use std::alloc::Global;
 use std::marker::Model;
 use task_numbers::{LONGEST_LINE, TaskNo};
@@ -46,6 +49,40 @@ impl Channel {
             last: TaskNo::NIL,
             queue: HeapCircularBuffer::with_capacity(alloc, QUEUED_LINES)?,
         })
+    }
+
+    /// The channel with this row. `NotSystem` comes exactly where more than 16 lines wait, or one is longer than a line can be.
+    pub(crate) fn of(alloc: Global, row: &ChannelRow) -> Result<Channel, ReviveError>
+        ensures channel { IfOk result (λ made. made ≡ channel_of row.now) }
+        ensures refused { IfErr result (λ cause. cause ≢ ReviveError.NoMemory → HasRoom (channel_of row.now) → ⊥) }
+    {
+        let mut made = Channel::new(alloc)?;
+        made.task = row.task;
+        made.last = row.last;
+        for line in row.queue.as_slice() {
+            if line.as_slice().len() > LONGEST_LINE {
+                return Err(ReviveError::NotSystem);
+            }
+            let line = Bytes::from(alloc, line.as_slice())?;
+            if made.push(line).is_err() {
+                return Err(ReviveError::NotSystem);
+            }
+        }
+        Ok(made)
+    }
+
+    /// What holds of every channel.
+    pub(crate) fn law(&self)
+        ensures { HasRoom self.now }
+    {
+        let _room = self.queue.capacity();
+    }
+
+    /// The line at a place of the queue, from 0.
+    pub(crate) fn line(&self, place: usize) -> Option<&Bytes>
+        ensures { option_copied result ≡ slice_get self.now.queue place }
+    {
+        self.queue.get(place)
     }
 
     pub(crate) fn task(&self) -> TaskNo

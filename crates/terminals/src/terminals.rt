@@ -1,13 +1,16 @@
 //! The four channels.
-ghost use Rattle.std.specs.Prelude.{◌≡◌, ◌<◌, ◌≤◌, None, length, position, slice_get, IfOk, IfSome};
+ghost use Rattle.std.specs.Prelude.{◌≡◌, ◌≢◌, ◌<◌, ◌≤◌, None, length, map, position, slice_get, slice_index_or, option_copied, IfErr, IfOk, IfSome};
 ghost use Rattle.std.specs.Result.{is_err};
 ghost use Rattle.task_numbers.specs.Numbers.{niltask};
 ghost use Rattle.terminals.specs.Channels as spec;
 ghost use Rattle.terminals.specs.Couplings.{IsOneToOne};
+ghost use Rattle.terminals.specs.Rows.{AreChannels, channel_of};
 
-use crate::QueueFull;
+use crate::apart::are_apart;
 use crate::channel::Channel;
+use crate::{ChannelRow, QueueFull};
 use containers::{Bytes, NoMemory};
+use eu_base::ReviveError;
 use std::alloc::Global;
 use std::marker::Model;
 use task_numbers::{LONGEST_LINE, TaskNo};
@@ -47,6 +50,48 @@ impl Terminals {
         Ok(Terminals {
             channels: [first, second, third, fourth],
         })
+    }
+
+    /// The channels with these rows. `NotSystem` comes exactly where they are no channels: not four, or two have one task, or more
+    /// than 16 lines wait at one, or a line is longer than 250 bytes. It takes the room for all lines.
+    pub fn of(alloc: Global, rows: &[ChannelRow]) -> Result<Terminals, ReviveError>
+        ensures rows { IfOk result (λ made. made ≡ map channel_of rows.now) }
+        ensures refused { IfErr result (λ cause. cause ≢ ReviveError.NoMemory → AreChannels (map channel_of rows.now) → ⊥) }
+    {
+        if rows.len() != CHANNELS || !are_apart(rows) {
+            return Err(ReviveError::NotSystem);
+        }
+        let first = match channel_at(alloc, rows, 0) {
+            Ok(channel) => channel,
+            Err(cause) => return Err(cause),
+        };
+        let second = match channel_at(alloc, rows, 1) {
+            Ok(channel) => channel,
+            Err(cause) => return Err(cause),
+        };
+        let third = match channel_at(alloc, rows, 2) {
+            Ok(channel) => channel,
+            Err(cause) => return Err(cause),
+        };
+        let fourth = match channel_at(alloc, rows, 3) {
+            Ok(channel) => channel,
+            Err(cause) => return Err(cause),
+        };
+        Ok(Terminals {
+            channels: [first, second, third, fourth],
+        })
+    }
+
+    /// The line at a place of a channel's queue, from 0; `None` exactly past its end.
+    pub fn row(&self, channel: u8, place: u32) -> Option<&[u8]>
+        requires low { 1 ≤ channel }
+        requires high { channel ≤ CHANNELS }
+        ensures { option_copied result ≡ slice_get (spec.channel channel self.now).queue place }
+    {
+        match self.channels[channel as usize - 1].line(place as usize) {
+            Some(line) => Some(line.as_slice()),
+            None => None,
+        }
     }
 
     /// The task that a channel is coupled to, or niltask.
@@ -151,11 +196,24 @@ impl Terminals {
         self.channels[channel as usize - 1].pop()
     }
 
-    /// What holds of all channels: no two are coupled to one task.
+    /// What holds of all channels: they are four, no two are coupled to one task, and at most 16 lines of at most 250 bytes wait at
+    /// each.
     pub fn law(&self)
-        ensures { IsOneToOne self.now }
+        ensures one { IsOneToOne self.now }
+        ensures channels { AreChannels self.now }
     {
-        let _channels = &self.channels;
+        let channels = self.all();
+        for channel in channels {
+            channel.law();
+        }
+    }
+
+    fn all(&self) -> &[Channel]
+        ensures all { result.now ≡ self.now }
+        ensures four { length result.now ≡ CHANNELS }
+        ensures one { IsOneToOne result.now }
+    {
+        &self.channels
     }
 
     fn place_of(&self, task: TaskNo) -> Option<usize>
@@ -163,5 +221,17 @@ impl Terminals {
         ensures within { IfSome result (λ place. place < 4) }
     {
         self.channels.iter().position(|channel| channel.is_at(task))
+    }
+}
+
+/// The channel of the row at a place, from 0.
+fn channel_at(alloc: Global, rows: &[ChannelRow], place: usize) -> Result<Channel, ReviveError>
+    requires { place < length rows.now }
+    ensures channel { IfOk result (λ made. made ≡ slice_index_or (map channel_of rows.now) place spec.unused) }
+    ensures refused { IfErr result (λ cause. cause ≢ ReviveError.NoMemory → AreChannels (map channel_of rows.now) → ⊥) }
+{
+    match Channel::of(alloc, &rows[place]) {
+        Ok(channel) => Ok(channel),
+        Err(cause) => Err(cause),
     }
 }

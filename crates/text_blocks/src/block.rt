@@ -30,7 +30,7 @@ pub fn block_at(k: u16) -> u32
 /// The link of a block, 0 where it is free.
 pub fn link<S: Space>(space: &mut S, k: u16) -> Result<u16, MemFault>
     requires { k < BLOCKS }
-    ensures link { IfOk result (λ link. link ≡ link_in (S.content space.old) k) }
+    ensures link { IfOk result (λ link. S.known space.old → link ≡ link_in (S.content space.old) k) }
     ensures kept { OnOk result (S.content space.new ≡ S.content space.old) }
     ensures memory { result ≢ Err NoMemory }
     ensures cause { HasFaultCause (S.faults space.old) (S.faults space.new) result }
@@ -58,7 +58,7 @@ pub fn next(link: u16) -> u16
 /// Frees a block.
 pub fn free<S: Space>(space: &mut S, k: u16) -> Result<(), MemFault>
     requires { k < BLOCKS }
-    ensures frees { OnOk result (Frees (S.content space.old) (S.content space.new) k) }
+    ensures frees { OnOk result (S.known space.old → Frees (S.content space.old) (S.content space.new) k) }
     ensures cause { HasFaultCause (S.faults space.old) (S.faults space.new) result }
     ensures follows { S.follows space.old space.new }
 {
@@ -71,7 +71,7 @@ pub fn fill<S: Space>(space: &mut S, k: u16, next: u16, piece: &[u8]) -> Result<
     requires block { k < BLOCKS }
     requires next { next < BLOCKS }
     requires few { length piece.now ≤ PAYLOAD }
-    ensures fills { OnOk result (Fills (S.content space.old) (S.content space.new) k next piece.now) }
+    ensures fills { OnOk result (S.known space.old → Fills (S.content space.old) (S.content space.new) k next piece.now) }
     ensures cause { HasFaultCause (S.faults space.old) (S.faults space.new) result }
     ensures follows { S.follows space.old space.new }
 {

@@ -17,7 +17,8 @@ pub struct Entry {
 /// takes as much as a space can hold.
 pub fn read_entry<S: Space>(space: &mut S, cell: u16) -> Result<Entry, MemFault>
     requires { cell < CELLS }
-    ensures entry { IfOk result (λ entry. (entry.length ≡ length_in (S.content space.old) cell) × (entry.first ≡ first_in (S.content space.old) cell)) }
+    ensures low { IfOk result (λ entry. entry.first < 4096) }
+    ensures entry { IfOk result (λ entry. S.known space.old → (entry.length ≡ length_in (S.content space.old) cell) × (entry.first ≡ first_in (S.content space.old) cell)) }
     ensures kept { OnOk result (S.content space.new ≡ S.content space.old) }
     ensures memory { result ≢ Err NoMemory }
     ensures cause { HasFaultCause (S.faults space.old) (S.faults space.new) result }

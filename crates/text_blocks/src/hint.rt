@@ -25,7 +25,7 @@ pub fn read_hint<S: Space>(space: &mut S) -> Result<u16, MemFault>
 
 /// Changes the hint, where it is another than it was.
 pub fn move_hint<S: Space>(space: &mut S, was: u16, hint: u16) -> Result<(), MemFault>
-    ensures kept { OnOk result (KeptBut (S.content space.old) (S.content space.new) hint_at 2) }
+    ensures kept { OnOk result (S.known space.old → KeptBut (S.content space.old) (S.content space.new) hint_at 2) }
     ensures cause { HasFaultCause (S.faults space.old) (S.faults space.new) result }
     ensures follows { S.follows space.old space.new }
 {

@@ -1,5 +1,5 @@
 //! Past all blocks, in search of free ones.
-ghost use Rattle.std.specs.Prelude.{ℕ, ◌≡◌, ◌≢◌, ◌<◌, length, Err, IfOk, OnOk, MatchOption, nat_le};
+ghost use Rattle.std.specs.Prelude.{ℕ, ◌≡◌, ◌≢◌, ◌<◌, length, Err, IfOk, OnOk, MatchOption, IfSome, nat_le};
 ghost use Rattle.eu_base.specs.declared.cells.MemFault.TheVariants.{NoMemory};
 ghost use Rattle.eu_base.specs.Cells.{HasFaultCause};
 ghost use Rattle.text_blocks.specs.Blocks.{met, blocks_of, free_in, link_in};
@@ -19,7 +19,7 @@ fn block_met(from: u16, count: u16) -> u16
 
 /// How many blocks are free.
 pub fn count_free<S: Space>(space: &mut S) -> Result<u16, MemFault>
-    ensures count { IfOk result (λ count. count ≡ free_in (S.content space.old) 4096) }
+    ensures count { IfOk result (λ count. S.known space.old → count ≡ free_in (S.content space.old) 4096) }
     ensures kept { OnOk result (S.content space.new ≡ S.content space.old) }
     ensures memory { result ≢ Err NoMemory }
     ensures cause { HasFaultCause (S.faults space.old) (S.faults space.new) result }
@@ -38,7 +38,7 @@ pub fn count_free<S: Space>(space: &mut S) -> Result<u16, MemFault>
 pub fn first_free<S: Space>(space: &mut S, from: u16, wanted: usize) -> Result<u16, MemFault>
     requires { from < BLOCKS }
     ensures low { IfOk result (λ block. block < BLOCKS) }
-    ensures free { IfOk result (λ block. 0 < wanted → 0 < free_in (S.content space.old) 4096 → link_in (S.content space.old) block ≡ 0) }
+    ensures free { IfOk result (λ block. S.known space.old → 0 < wanted → 0 < free_in (S.content space.old) 4096 → link_in (S.content space.old) block ≡ 0) }
     ensures kept { OnOk result (S.content space.new ≡ S.content space.old) }
     ensures memory { result ≢ Err NoMemory }
     ensures cause { HasFaultCause (S.faults space.old) (S.faults space.new) result }
@@ -59,7 +59,7 @@ pub fn first_free<S: Space>(space: &mut S, from: u16, wanted: usize) -> Result<u
 /// Whether so many blocks are free. It looks from one block on, until enough were seen.
 pub fn has_free<S: Space>(space: &mut S, from: u16, wanted: usize) -> Result<bool, MemFault>
     requires { from < BLOCKS }
-    ensures has { IfOk result (λ has. has ≡ nat_le wanted (free_in (S.content space.old) 4096)) }
+    ensures has { IfOk result (λ has. S.known space.old → has ≡ nat_le wanted (free_in (S.content space.old) 4096)) }
     ensures kept { OnOk result (S.content space.new ≡ S.content space.old) }
     ensures memory { result ≢ Err NoMemory }
     ensures cause { HasFaultCause (S.faults space.old) (S.faults space.new) result }
@@ -81,8 +81,9 @@ pub fn has_free<S: Space>(space: &mut S, from: u16, wanted: usize) -> Result<boo
 /// the first block of the text, which is the last that was filled; `None` where the text has no room.
 pub fn spread<S: Space>(space: &mut S, from: u16, t: &[u8]) -> Result<Option<u16>, MemFault>
     requires { from < BLOCKS }
-    ensures cells { OnOk result ((n : ℕ) → n < 131072 → S.content space.new n ≡ S.content space.old n) }
-    ensures made { IfOk result (λ made. MatchOption made (free_in (S.content space.old) 4096 < blocks_of (length t.now))
+    ensures cells { OnOk result (S.known space.old → (n : ℕ) → n < 131072 → S.content space.new n ≡ S.content space.old n) }
+    ensures low { IfOk result (λ made. IfSome made (λ first. first < 4096)) }
+    ensures made { IfOk result (λ made. S.known space.old → MatchOption made (free_in (S.content space.old) 4096 < blocks_of (length t.now))
         (λ first. (first < 4096) × Filled (S.content space.old) (S.content space.new) first t.now)) }
     ensures cause { HasFaultCause (S.faults space.old) (S.faults space.new) result }
     ensures follows { S.follows space.old space.new }

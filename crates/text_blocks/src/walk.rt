@@ -16,7 +16,7 @@ pub fn collect<S: Space>(
     length: usize,
 ) -> Result<Bytes, MemFault>
     requires { first < BLOCKS }
-    ensures text { IfOk result (λ text. text ≡ gather (S.content space.old) first length (blocks_of length)) }
+    ensures text { IfOk result (λ text. S.known space.old → text ≡ gather (S.content space.old) first length (blocks_of length)) }
     ensures kept { OnOk result (S.content space.new ≡ S.content space.old) }
     ensures cause { HasFaultCause (S.faults space.old) (S.faults space.new) result }
     ensures follows { S.follows space.old space.new }
@@ -42,7 +42,7 @@ fn read_piece<S: Space>(
 ) -> Result<(), MemFault>
     requires block { block < BLOCKS }
     requires few { size ≤ PAYLOAD }
-    ensures text { OnOk result (text.new ≡ text.old ++ bytes_from (S.content space.old) (block_at block + 4) size) }
+    ensures text { OnOk result (S.known space.old → text.new ≡ text.old ++ bytes_from (S.content space.old) (block_at block + 4) size) }
     ensures kept { OnOk result (S.content space.new ≡ S.content space.old) }
     ensures cause { HasFaultCause (S.faults space.old) (S.faults space.new) result }
     ensures follows { S.follows space.old space.new }
@@ -64,7 +64,7 @@ pub fn release<S: Space>(
     requires first { first < BLOCKS }
     requires hint { hint < BLOCKS }
     ensures lowest { IfOk result (λ lowest. lowest < BLOCKS) }
-    ensures releases { OnOk result (Releases (S.content space.old) (S.content space.new) first count) }
+    ensures releases { OnOk result (S.known space.old → Releases (S.content space.old) (S.content space.new) first count) }
     ensures cause { HasFaultCause (S.faults space.old) (S.faults space.new) result }
     ensures follows { S.follows space.old space.new }
 {

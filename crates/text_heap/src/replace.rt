@@ -18,13 +18,14 @@ pub(crate) fn replace<S: Space>(
     t: &[u8],
 ) -> Result<Set, MemFault>
     requires cell { cell < CELLS }
-    requires length { old.length ≡ length_in (S.content space.old) cell }
-    requires first { old.first ≡ first_in (S.content space.old) cell }
+    requires first { old.first < BLOCKS }
     requires hint { room.hint < BLOCKS }
     requires start { room.start < BLOCKS }
-    ensures sets { IfOk result (λ set. (texts : Texts) → Holds (S.content space.old) texts → IsSome (texts cell) →
+    ensures sets { IfOk result (λ set. S.known space.old → old.length ≡ length_in (S.content space.old) cell → old.first ≡ first_in (S.content space.old) cell →
+        (texts : Texts) → Holds (S.content space.old) texts → IsSome (texts cell) →
         blocks_in (stored texts cell t.now) ≤ 4096 → Sets (S.content space.old) (S.content space.new) texts cell t.now set) }
-    ensures cells { OnOk result (KeepsCells (S.content space.old) (S.content space.new) cell) }
+    ensures cells { OnOk result (S.known space.old → old.length ≡ length_in (S.content space.old) cell → old.first ≡ first_in (S.content space.old) cell →
+        KeepsCells (S.content space.old) (S.content space.new) cell) }
     ensures cause { HasFaultCause (S.faults space.old) (S.faults space.new) result }
     ensures follows { S.follows space.old space.new }
 {

@@ -1,5 +1,5 @@
 //! Room for a text.
-ghost use Rattle.std.specs.Prelude.{◌≡◌, ◌≢◌, ◌<◌, ◌≤◌, Err, IfOk, OnOk, MatchOption};
+ghost use Rattle.std.specs.Prelude.{◌≡◌, ◌≢◌, ◌<◌, ◌≤◌, Err, IfOk, OnOk, MatchOption, IfSome};
 ghost use Rattle.eu_base.specs.declared.cells.MemFault.TheVariants.{NoMemory};
 ghost use Rattle.eu_base.specs.Cells.{HasFaultCause};
 ghost use Rattle.text_blocks.specs.Blocks.{free_in};
@@ -18,8 +18,9 @@ pub(crate) struct Room {
 
 /// Where so many blocks are free; `None` where fewer are.
 pub(crate) fn find_room<S: Space>(space: &mut S, wanted: usize) -> Result<Option<Room>, MemFault>
-    ensures room { IfOk result (λ room. MatchOption room (free_in (S.content space.old) 4096 < wanted)
-        (λ room. (wanted ≤ free_in (S.content space.old) 4096) × ((room.hint < BLOCKS) × (room.start < BLOCKS)))) }
+    ensures room { IfOk result (λ room. S.known space.old → MatchOption room (free_in (S.content space.old) 4096 < wanted)
+        (λ room. wanted ≤ free_in (S.content space.old) 4096)) }
+    ensures low { IfOk result (λ room. IfSome room (λ room. (room.hint < BLOCKS) × (room.start < BLOCKS))) }
     ensures kept { OnOk result (S.content space.new ≡ S.content space.old) }
     ensures memory { result ≢ Err NoMemory }
     ensures cause { HasFaultCause (S.faults space.old) (S.faults space.new) result }

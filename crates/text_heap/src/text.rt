@@ -15,8 +15,8 @@ use text_blocks::{BLOCKS, blocks, collect, count_free, read_entry, read_hint};
 /// The text of a cell. On bytes that hold no text it still answers some text.
 pub fn get<S: Space>(alloc: Global, space: &mut S, cell: u16) -> Result<Bytes, MemFault>
     requires { cell < CELLS }
-    ensures text { IfOk result (λ text. (texts : Texts) → Holds (S.content space.old) texts → IsSome (texts cell) → texts cell ≡ Some text) }
-    ensures bytes { IfOk result (λ text. text ≡ text_in (S.content space.old) cell) }
+    ensures text { IfOk result (λ text. S.known space.old → (texts : Texts) → Holds (S.content space.old) texts → IsSome (texts cell) → texts cell ≡ Some text) }
+    ensures bytes { IfOk result (λ text. S.known space.old → text ≡ text_in (S.content space.old) cell) }
     ensures kept { OnOk result (IsKept (S.content space.old) (S.content space.new)) }
     ensures cause { HasFaultCause (S.faults space.old) (S.faults space.new) result }
     ensures follows { S.follows space.old space.new }
@@ -28,8 +28,8 @@ pub fn get<S: Space>(alloc: Global, space: &mut S, cell: u16) -> Result<Bytes, M
 
 /// How many blocks are free, from 0 to 4,096. In a space that holds texts it is those that no text has.
 pub fn rooms<S: Space>(space: &mut S) -> Result<u16, MemFault>
-    ensures free { IfOk result (λ count. count ≡ free_in (S.content space.old) 4096) }
-    ensures texts { IfOk result (λ count. (texts : Texts) → Holds (S.content space.old) texts → count + blocks_in texts ≡ 4096) }
+    ensures free { IfOk result (λ count. S.known space.old → count ≡ free_in (S.content space.old) 4096) }
+    ensures texts { IfOk result (λ count. S.known space.old → (texts : Texts) → Holds (S.content space.old) texts → count + blocks_in texts ≡ 4096) }
     ensures kept { OnOk result (IsKept (S.content space.old) (S.content space.new)) }
     ensures memory { result ≢ Err NoMemory }
     ensures cause { HasFaultCause (S.faults space.old) (S.faults space.new) result }
@@ -43,9 +43,9 @@ pub fn rooms<S: Space>(space: &mut S) -> Result<u16, MemFault>
 /// blocks it answers HeapFull and changes nothing. After an error the space can only be dropped.
 pub fn set<S: Space>(space: &mut S, cell: u16, t: &[u8]) -> Result<Set, MemFault>
     requires { cell < CELLS }
-    ensures sets { IfOk result (λ set. (texts : Texts) → Holds (S.content space.old) texts → IsSome (texts cell) →
+    ensures sets { IfOk result (λ set. S.known space.old → (texts : Texts) → Holds (S.content space.old) texts → IsSome (texts cell) →
         Sets (S.content space.old) (S.content space.new) texts cell t.now set) }
-    ensures cells { OnOk result (KeepsCells (S.content space.old) (S.content space.new) cell) }
+    ensures cells { OnOk result (S.known space.old → KeepsCells (S.content space.old) (S.content space.new) cell) }
     ensures cause { HasFaultCause (S.faults space.old) (S.faults space.new) result }
     ensures follows { S.follows space.old space.new }
 {
@@ -63,9 +63,9 @@ pub fn set<S: Space>(space: &mut S, cell: u16, t: &[u8]) -> Result<Set, MemFault
 /// Puts the text "" in the place of the one that stands in a cell. After an error the space can only be dropped.
 pub fn clear<S: Space>(space: &mut S, cell: u16) -> Result<(), MemFault>
     requires { cell < CELLS }
-    ensures clears { OnOk result ((texts : Texts) → Holds (S.content space.old) texts → IsSome (texts cell) →
+    ensures clears { OnOk result (S.known space.old → (texts : Texts) → Holds (S.content space.old) texts → IsSome (texts cell) →
         Holds (S.content space.new) (stored texts cell [])) }
-    ensures cells { OnOk result (KeepsCells (S.content space.old) (S.content space.new) cell) }
+    ensures cells { OnOk result (S.known space.old → KeepsCells (S.content space.old) (S.content space.new) cell) }
     ensures cause { HasFaultCause (S.faults space.old) (S.faults space.new) result }
     ensures follows { S.follows space.old space.new }
 {

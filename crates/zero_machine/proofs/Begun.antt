@@ -37,6 +37,7 @@ frames_fit p (Some s) so =
         (
           record {
             number = s.body;
+            named = refl;
             is = refl;
             entry = so.entry;
             has = so.has;

@@ -51,10 +51,7 @@ pub fn execute<M: Memory>(
         Instr::Local(cell) => computed(local(s, *cell)),
         Instr::Param(cell) => param(s, m, *cell),
         Instr::Index(count, cells) => Ok(index(s, *count, *cells)),
-        Instr::Field(cells) => {
-            field(s, *cells);
-            Ok(Next::On)
-        }
+        Instr::Field(cells) => Ok(field(s, *cells)),
         Instr::Content => content(s, m),
         Instr::Pick(count, cells) => computed(pick(s, *count, *cells)),
         Instr::Take(of, from, cells) => {

@@ -1,6 +1,6 @@
 -- A request about a message goes on with its reply.
 use Rattle.std.proofs.Common.{◌≡◌, ℕ, zero, suc, ◌+◌, ◌≤◌, Bool, true, false, cond, List, [], ◌∷◌, length, take, drop, Option, Some, None, refl, sym, ap, ◌∙◌, subst, inl, inr, ◌⊎◌}
-use Rattle.std.specs.Prelude.{reverse, slice_get, Result, Ok, Err, IfOk}
+use Rattle.std.specs.Prelude.{reverse, slice_get, ◌&&◌, Result, Ok, Err, IfOk}
 use Rattle.std.specs.List.{AllByRecursion}
 use Rattle.eu_base.specs.declared.address.Addr.{Addr}
 use Rattle.eu_base.specs.declared.address.Area.{Area}
@@ -17,7 +17,8 @@ use Rattle.eu_base.specs.declared.value.Value.TheVariants as item
 use Rattle.eu_base.specs.Values.{SpaceNo, kind_of, cell_of, space_of, number_in, truth_in, task_in, space_in}
 use Rattle.eu_base.specs.Cells.{Cell, Word, Cells, held_of, written, same_cell}
 use Rattle.eu_base.specs.DataSpaces.{Heads}
-use Rattle.eu_base.specs.SpacePlaces.{is_in}
+use Rattle.eu_base.specs.Room.{cells_fit}
+use Rattle.eu_base.specs.SpacePlaces.{lies_in, is_in}
 use Rattle.eu_base.specs.Requests.{request_places, request_size, request_result, is_message, message_values, Suits}
 use Rattle.eu_base.proofs.Results.{message_suits}
 use Rattle.code_form.specs.declared.operand.Operand.{Operand}
@@ -89,22 +90,29 @@ nothing_held None last cells = refl
 nothing_held (Some s) last cells = refl
 
 -- what is not there with some data spaces is not there with none
-still_gone : (ks : List Kind) (area : Area) (x : ℕ) (heads : Heads) (last : ℕ) → is_in ks area x heads ≡ false → is_in ks area x (bare last) ≡ true → ⊥
-still_gone ks areas.Run x heads last gone here = cc gone
-still_gone ks areas.Packets x heads last gone here = cc gone
-still_gone ks (areas.Space s) x heads last gone here = cc here
+still_gone : (ks : List Kind) (area : Area) (x : ℕ) (heads : Heads) (last : ℕ) → lies_in ks area x heads ≡ false → lies_in ks area x (bare last) ≡ true → ⊥
+still_gone ks area x heads last gone here = apart (cells_fit (x + length ks)) gone here
+  where
+    by : (area : Area) → is_in ks area x heads ≡ false → is_in ks area x (bare last) ≡ true → ⊥
+    by areas.Run gone here = cc gone
+    by areas.Packets gone here = cc gone
+    by (areas.Space s) gone here = cc here
+
+    apart : (t : Bool) → (t && is_in ks area x heads) ≡ false → (t && is_in ks area x (bare last)) ≡ true → ⊥
+    apart true gone here = by area gone here
+    apart false gone here = cc here
 
 module _ (c : Position) (ops os : List Operand) (ks : List Kind) (are : AreVariables ks os) (last : ℕ) where
   -- the command stops at it, or before it
   refuses : (es : List (ℕ × Value)) → AllByRecursion (Suits ks) es → (n : ℕ) (e : ℕ × Value) → slice_get es n ≡ Some e → (place : Addr)
-      → slice_get os e.0 ≡ Some (At place) → (heads : Heads) → is_in (kind_of e.1 ∷ []) place.area place.cell heads ≡ false → (cells : Cells) → AreWords cells
+      → slice_get os e.0 ≡ Some (At place) → (heads : Heads) → lies_in (kind_of e.1 ∷ []) place.area place.cell heads ≡ false → (cells : Cells) → AreWords cells
       → (m : Mem) × (receives c ops os es (mem_of (bare last) cells) ≡ Refuses NoSpace (at c (c.pc + 1) ops) m)
   refuses [] suits n e is place there heads gone cells all = let f : ⊥ = cc in absurd f
   refuses (x ∷ es) suits n e is place there heads gone cells all =
       let var = variable_there ks os x.0 suits.0.0 are suits.0.1 in
-      by (λ k is cells all. refuses es suits.1 k e is place there heads gone cells all) var.0 var.1.0 (is_in (kind_of x.1 ∷ []) var.0.area var.0.cell (bare last)) refl
+      by (λ k is cells all. refuses es suits.1 k e is place there heads gone cells all) var.0 var.1.0 (lies_in (kind_of x.1 ∷ []) var.0.area var.0.cell (bare last)) refl
     where
-      opened : (a : Addr) → slice_get os x.0 ≡ Some (At a) → (t : Bool) → is_in (kind_of x.1 ∷ []) a.area a.cell (bare last) ≡ t
+      opened : (a : Addr) → slice_get os x.0 ≡ Some (At a) → (t : Bool) → lies_in (kind_of x.1 ∷ []) a.area a.cell (bare last) ≡ t
           → receives c ops os (x ∷ es) (mem_of (bare last) cells)
           ≡ cond t (on_cell (kind_of x.1) (cells a) (λ held. cond (takes (held_of x.1) (cells a))
           (receives c ops os es (without_held (space_of held) (mem_of (bare last) (written cells a (held_of x.1))))) Unknown))
@@ -116,21 +124,21 @@ module _ (c : Position) (ops os : List Operand) (ks : List Kind) (are : AreVaria
           (Refuses NoSpace (at c (c.pc + 1) ops) (mem_of (bare last) cells))) e
 
       -- it is the next one, or one behind it
-      later : (a : Addr) → slice_get os x.0 ≡ Some (At a) → is_in (kind_of x.1 ∷ []) a.area a.cell (bare last) ≡ true → (n : ℕ) → slice_get (x ∷ es) n ≡ Some e
+      later : (a : Addr) → slice_get os x.0 ≡ Some (At a) → lies_in (kind_of x.1 ∷ []) a.area a.cell (bare last) ≡ true → (n : ℕ) → slice_get (x ∷ es) n ≡ Some e
           → (k : ℕ) × (slice_get es k ≡ Some e)
       later a here there' zero is' =
           let same : x ≡ e = cc is' in
           let place' : Some (At a) ≡ Some (At place) = sym here ∙ ap (λ (y : ℕ × Value). slice_get os y.0) same ∙ there in
           let at_place : a ≡ place = cc place' in
-          let here' : is_in (kind_of e.1 ∷ []) place.area place.cell (bare last) ≡ true =
-          subst (λ (b : Addr). is_in (kind_of e.1 ∷ []) b.area b.cell (bare last) ≡ true) at_place
-          (subst (λ (y : ℕ × Value). is_in (kind_of y.1 ∷ []) a.area a.cell (bare last) ≡ true) same there') in
+          let here' : lies_in (kind_of e.1 ∷ []) place.area place.cell (bare last) ≡ true =
+          subst (λ (b : Addr). lies_in (kind_of e.1 ∷ []) b.area b.cell (bare last) ≡ true) at_place
+          (subst (λ (y : ℕ × Value). lies_in (kind_of y.1 ∷ []) a.area a.cell (bare last) ≡ true) same there') in
           absurd (still_gone (kind_of e.1 ∷ []) place.area place.cell heads last gone here')
       later a here there' (suc n) is' = (n, is')
 
       by : ((k : ℕ) → slice_get es k ≡ Some e → (cells : Cells) → AreWords cells
           → (m : Mem) × (receives c ops os es (mem_of (bare last) cells) ≡ Refuses NoSpace (at c (c.pc + 1) ops) m))
-          → (a : Addr) → slice_get os x.0 ≡ Some (At a) → (t : Bool) → is_in (kind_of x.1 ∷ []) a.area a.cell (bare last) ≡ t
+          → (a : Addr) → slice_get os x.0 ≡ Some (At a) → (t : Bool) → lies_in (kind_of x.1 ∷ []) a.area a.cell (bare last) ≡ t
           → (m : Mem) × (receives c ops os (x ∷ es) (mem_of (bare last) cells) ≡ Refuses NoSpace (at c (c.pc + 1) ops) m)
       by more a here false t = (mem_of (bare last) cells, opened a here false t)
       by more a here true t =

@@ -17,7 +17,7 @@ use Rattle.eu_base.specs.declared.value.Kind.{Kind}
 use Rattle.eu_base.specs.declared.value.Kind.TheVariants as kinds
 use Rattle.eu_base.specs.Values.{kind_of}
 use Rattle.eu_base.specs.DataSpaces.{Heads}
-use Rattle.eu_base.specs.SpacePlaces.{is_in}
+use Rattle.eu_base.specs.SpacePlaces.{lies_in}
 use Rattle.eu_base.specs.SpaceCells.{IsThere}
 use Rattle.zero_values.proofs.Placed.{there_of}
 use Rattle.eu_base.proofs.Results.{kind_is, read_gives}
@@ -123,7 +123,7 @@ module _ (before after : Cells → Type 0) (heads : Heads) (name : RequestName) 
     keeps_it r v read mem = takes r mem v read ∙ ap (λ os. keeps c os v rest mem) is
 
     -- its variable got the value
-    reply_kept : is_in (kind_of v ∷ []) a.area a.cell heads ≡ true → PutsTaken before after a (held_of v) Done → Replies before after heads heads name r c next On'
+    reply_kept : lies_in (kind_of v ∷ []) a.area a.cell heads ≡ true → PutsTaken before after a (held_of v) Done → Replies before after heads heads name r c next On'
     reply_kept here put = record {
       does = λ marks cells h.
           subst (λ m. Does after heads (halt_of On') next marks (move_stage m (given c r) (scene_of (mem_of heads cells) marks)))
@@ -131,8 +131,8 @@ module _ (before after : Cells → Type 0) (heads : Heads) (name : RequestName) 
       leads =
           let w = read_empty name in
           let seen : Mem = mem_of heads (λ _. held_of (emptied w.0)) in
-          let here' : is_in (kind_of w.0 ∷ []) a.area a.cell heads ≡ true =
-          ap (λ k. is_in (k ∷ []) a.area a.cell heads) (sym (read_kind name r v read)) ∙ here in
+          let here' : lies_in (kind_of w.0 ∷ []) a.area a.cell heads ≡ true =
+          ap (λ k. lies_in (k ∷ []) a.area a.cell heads) (sym (read_kind name r v read)) ∙ here in
           inl (
             replies.Done,
             λ marks. (
@@ -147,7 +147,7 @@ module _ (before after : Cells → Type 0) (heads : Heads) (name : RequestName) 
     }
 
     -- or it has no room
-    reply_full : is_in (kind_of v ∷ []) a.area a.cell heads ≡ true → PutsTaken before after a (held_of v) HeapFull → Replies before after heads heads name r c (given c r) TextRoom
+    reply_full : lies_in (kind_of v ∷ []) a.area a.cell heads ≡ true → PutsTaken before after a (held_of v) HeapFull → Replies before after heads heads name r c (given c r) TextRoom
     reply_full here put = record {
       does = λ marks cells h.
           subst (λ m. Does after heads (halt_of TextRoom) (given c r) marks (move_stage m (given c r) (scene_of (mem_of heads cells) marks)))
@@ -157,7 +157,7 @@ module _ (before after : Cells → Type 0) (heads : Heads) (name : RequestName) 
 
   -- its variable is not there
   pub reply_gone : Keeps before after → (v : Value) → read_as name r ≡ Ok v → (a : Addr) → IsAt (behind_values name c.ops) (Some a)
-      → is_in (kind_of v ∷ []) a.area a.cell heads ≡ false → Replies before after heads heads name r c (given c r) NoSpace
+      → lies_in (kind_of v ∷ []) a.area a.cell heads ≡ false → Replies before after heads heads name r c (given c r) NoSpace
   reply_gone kept v read a is gone = record {
     does = λ marks cells h.
         done after heads (halt_of NoSpace) (given c r) marks (replied_by name r marks c (mem_of heads cells)) cells (kept cells h)
@@ -168,13 +168,13 @@ module _ (before after : Cells → Type 0) (heads : Heads) (name : RequestName) 
 
   -- its variable got the value, or it has none
   pub reply_done : (v : Value) → read_as name r ≡ Ok v → (o : Option Addr) (set : Set) → IsAt (behind_values name c.ops) o
-      → MatchOption o (Unit {0}) (λ a. is_in (kind_of v ∷ []) a.area a.cell heads ≡ true) → set ≡ Done → PutsIn before after o (held_of v) set → Replies before after heads heads name r c next On'
+      → MatchOption o (Unit {0}) (λ a. lies_in (kind_of v ∷ []) a.area a.cell heads ≡ true) → set ≡ Done → PutsIn before after o (held_of v) set → Replies before after heads heads name r c next On'
   reply_done v read None set is here so put = reply_goes put.1 v read is
   reply_done v read (Some a) set is here so put = reply_kept v read a is.0 is.1 here (subst (PutsTaken before after a (held_of v)) so put)
 
   -- or it has no room
   pub reply_unkept : (v : Value) → read_as name r ≡ Ok v → (o : Option Addr) (set : Set) → IsAt (behind_values name c.ops) o
-      → MatchOption o (Unit {0}) (λ a. is_in (kind_of v ∷ []) a.area a.cell heads ≡ true) → set ≡ HeapFull → PutsIn before after o (held_of v) set → Replies before after heads heads name r c (given c r) TextRoom
+      → MatchOption o (Unit {0}) (λ a. lies_in (kind_of v ∷ []) a.area a.cell heads ≡ true) → set ≡ HeapFull → PutsIn before after o (held_of v) set → Replies before after heads heads name r c (given c r) TextRoom
   reply_unkept v read None set is here so put = let f : Done ≡ HeapFull = sym put.0 ∙ so in absurd (cc f)
   reply_unkept v read (Some a) set is here so put = reply_full v read a is.0 is.1 here (subst (PutsTaken before after a (held_of v)) so put)
 
@@ -256,15 +256,15 @@ first_cell os (Some a) is at = subst IsVariable at.1 is
 
 -- the variable is there where there is one, or is not
 abbrev TestedAt : Option Addr → Kind → Heads → Bool → Type 0
-TestedAt o k heads b = MatchOption o (b ≡ true) (λ a. b ≡ is_in (k ∷ []) a.area a.cell heads)
+TestedAt o k heads b = MatchOption o (b ≡ true) (λ a. b ≡ lies_in (k ∷ []) a.area a.cell heads)
 
 pub kept_there : (o : Option Addr) (k : Kind) (heads : Heads) (b : Bool) → TestedAt o k heads b → b ≡ true
-    → MatchOption o (Unit {0}) (λ a. is_in (k ∷ []) a.area a.cell heads ≡ true)
+    → MatchOption o (Unit {0}) (λ a. lies_in (k ∷ []) a.area a.cell heads ≡ true)
 kept_there None k heads b h e = tt
 kept_there (Some a) k heads b h e = sym h ∙ e
 
 pub kept_gone : (o : Option Addr) (k : Kind) (heads : Heads) (b : Bool) → TestedAt o k heads b → b ≡ false
-    → (a : Addr) × ((o ≡ Some a) × (is_in (k ∷ []) a.area a.cell heads ≡ false))
+    → (a : Addr) × ((o ≡ Some a) × (lies_in (k ∷ []) a.area a.cell heads ≡ false))
 kept_gone None k heads b h e = let f : true ≡ false = sym h ∙ e in absurd (cc f)
 kept_gone (Some a) k heads b h e = (a, (refl, sym h ∙ e))
 

@@ -11,7 +11,7 @@ use Rattle.eu_base.specs.declared.value.Value.TheVariants as item
 use Rattle.eu_base.specs.Values.{space_in}
 use Rattle.eu_base.specs.Cells.{Cell, Free, Word, Letters, Cells}
 use Rattle.eu_base.specs.DataSpaces.{Heads}
-use Rattle.eu_base.specs.SpacePlaces.{is_in}
+use Rattle.eu_base.specs.SpacePlaces.{lies_in}
 use Rattle.eu_base.specs.Requests.{request_places, request_size, sends, request_of}
 use Rattle.code_form.specs.declared.operand.Operand.{Operand}
 use Rattle.code_form.specs.declared.operand.Operand.TheVariants.{Value as Of, Place as At, Aggregate}
@@ -67,23 +67,23 @@ module _ (before after : Cells → Type 0) (heads : Heads) (kept : Keeps before 
         ∙ ap (λ b. Spends (asks_for b name top c mem)) sending ∙ ap (λ os. Spends (asks_with name (map value_in top) os c mem)) first
 
     -- with these variables, where the mark is spent
-    after_mark : (b : Bool) (x : Cell) (mem : Mem) → is_in (kinds.Space ∷ []) a.area a.cell mem.heads ≡ b → mem.cells a ≡ x
+    after_mark : (b : Bool) (x : Cell) (mem : Mem) → lies_in (kinds.Space ∷ []) a.area a.cell mem.heads ≡ b → mem.cells a ≡ x
         → mark_stage marks (cond b (after_word x (λ n. Asks c (asked n) mem)) (Stops NoSpace)) (free c) (scene_of mem marks) ≡ stage_by p (Ask name) marks c mem
     after_mark b x mem is holds =
         ap (λ b. mark_stage marks (cond b (after_word x (λ n. Asks c (asked n) mem)) (Stops NoSpace)) (free c) (scene_of mem marks)) (sym is)
-        ∙ ap (λ x. mark_stage marks (cond (is_in (kinds.Space ∷ []) a.area a.cell mem.heads) (after_word x (λ n. Asks c (asked n) mem)) (Stops NoSpace)) (free c)
+        ∙ ap (λ x. mark_stage marks (cond (lies_in (kinds.Space ∷ []) a.area a.cell mem.heads) (after_word x (λ n. Asks c (asked n) mem)) (Stops NoSpace)) (free c)
         (scene_of mem marks)) (sym holds)
         ∙ ap (λ m. stage m c (scene_of mem marks)) (sym (asks mem))
 
     -- the variable is not there
-    pub gone_so : is_in (kinds.Space ∷ []) a.area a.cell heads ≡ false
+    pub gone_so : lies_in (kinds.Space ∷ []) a.area a.cell heads ≡ false
         → Steps before after heads heads (stage_by p (Ask name) marks) c (free c) (marks - 1) Gone
     gone_so gone =
         plain_steps before after heads (stage_by p (Ask name) marks) c (free c) (marks - 1) Gone (λ cells. cells)
         (λ cells. spent marks (Stops NoSpace) c (mem_of heads cells) some ∙ after_mark false (cells a) (mem_of heads cells) gone refl) kept
 
     -- the request is made with the data space that it holds
-    pub asked_so : is_in (kinds.Space ∷ []) a.area a.cell heads ≡ true → (n : ℕ) → ((cells : Cells) (m : ℕ) → before cells → cells a ≡ Word m → n ≡ m)
+    pub asked_so : lies_in (kinds.Space ∷ []) a.area a.cell heads ≡ true → (n : ℕ) → ((cells : Cells) (m : ℕ) → before cells → cells a ≡ Word m → n ≡ m)
         → Steps before after heads heads (stage_by p (Ask name) marks) c (asking c (asked n)) (marks - 1) On'
     asked_so here n read = record {
       does = λ cells h. by cells h (cells a) refl;
@@ -93,7 +93,7 @@ module _ (before after : Cells → Type 0) (heads : Heads) (kept : Keeps before 
       leads = inl (mem_of heads (λ _. Word n), made (mem_of heads (λ _. Word n)) n here refl);
     }
       where
-        made : (mem : Mem) (n : ℕ) → is_in (kinds.Space ∷ []) a.area a.cell mem.heads ≡ true → mem.cells a ≡ Word n
+        made : (mem : Mem) (n : ℕ) → lies_in (kinds.Space ∷ []) a.area a.cell mem.heads ≡ true → mem.cells a ≡ Word n
             → On (asking c (asked n)) (scene_of mem (marks - 1)) ≡ stage_by p (Ask name) marks c mem
         made mem n is holds = spent marks (Asks c (asked n) mem) c mem some ∙ after_mark true (Word n) mem is holds
 

@@ -5,7 +5,7 @@ ghost use Rattle.eu_base.specs.declared.request.Reply.{Reply};
 ghost use Rattle.eu_base.specs.Cells.{IsCell, held_of, HasFaultCause};
 ghost use Rattle.eu_base.specs.Values.{kind_of};
 ghost use Rattle.eu_base.specs.SpaceCells.{IsThere};
-ghost use Rattle.eu_base.specs.SpacePlaces.{is_in};
+ghost use Rattle.eu_base.specs.SpacePlaces.{lies_in};
 ghost use Rattle.eu_base.specs.Requests.{request_places, request_size, request_result, is_message, read_as, answer_of, message_values, Suits};
 ghost use Rattle.zero_ops.specs.Given.{Gives};
 ghost use Rattle.code_form.specs.declared.waits.Waits.TheVariants as waits;
@@ -196,7 +196,7 @@ fn variable(operands: &[Operand], values: usize) -> Option<Addr>
 
 // Whether the variable is there, where there is one.
 fn is_kept_there<M: Memory>(m: &M, at: Option<Addr>, value: &Value) -> bool
-    ensures { MatchOption at (result ≡ true) (λ a. result ≡ is_in (kind_of value.now ∷ []) a.area a.cell (M.heads m.now)) }
+    ensures { MatchOption at (result ≡ true) (λ a. result ≡ lies_in (kind_of value.now ∷ []) a.area a.cell (M.heads m.now)) }
 {
     match at {
         None => true,

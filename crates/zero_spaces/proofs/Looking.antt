@@ -7,7 +7,7 @@ use Rattle.eu_base.specs.Values.{space_in}
 use Rattle.eu_base.specs.Room.{place_bytes, bytes_fit}
 use Rattle.eu_base.specs.Cells.{Word, Cells}
 use Rattle.eu_base.specs.DataSpaces.{Heads}
-use Rattle.eu_base.specs.SpacePlaces.{is_in}
+use Rattle.eu_base.specs.SpacePlaces.{lies_in}
 use Rattle.code_form.specs.declared.operand.Operand.TheVariants.{Place as At}
 use Rattle.code_form.specs.declared.instr.Instr.TheVariants.{Content}
 use Rattle.code_form.specs.Machine.{Position, Control, Halts, free, bytes_on, bytes_of, goes, pushes, content_at, stage}
@@ -23,13 +23,13 @@ module _ (before after : Cells → Type 0) (heads : Heads) (a : Addr) (pc used :
   abbrev looking : Position
   looking = standing pc used (with_ops t (At a ∷ t.ops))
 
-  pub content_gone : is_in (kinds.Space ∷ []) a.area a.cell heads ≡ false → Keeps before after
+  pub content_gone : lies_in (kinds.Space ∷ []) a.area a.cell heads ≡ false → Keeps before after
       → Accesses before after heads Content looking (free looking) NoSpace
   content_gone gone kept =
       plain before after heads Content looking (free looking) NoSpace (λ cells. cells)
       (λ cells p marks. ap (λ m. stage m looking (scene_of (mem_of heads cells) marks)) (gone_is (kinds.Space ∷ []) a heads cells _ gone)) kept
 
-  module _ (n : ℕ) (place : Addr) (here : is_in (kinds.Space ∷ []) a.area a.cell heads ≡ true) (is : place ≡ content_at (space_in n)) where
+  module _ (n : ℕ) (place : Addr) (here : lies_in (kinds.Space ∷ []) a.area a.cell heads ≡ true) (is : place ≡ content_at (space_in n)) where
     abbrev found : Control
     found = free (standing (pc + 1) used (with_ops t (At place ∷ t.ops)))
 

@@ -8,5 +8,5 @@ mod state;
 
 pub use cells::{area_cell, have_room, place_in, run_cell};
 pub use next::Next;
-pub use stack::{Link, Stack};
+pub use stack::{Frame, Link, Stack};
 pub use state::State;

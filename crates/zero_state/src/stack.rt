@@ -7,7 +7,7 @@ ghost use Rattle.code_form.specs.declared.operand.Operand.{Operand};
 ghost use Rattle.code_form.specs.declared.operand.Operand.TheVariants as operand;
 ghost use Rattle.code_form.specs.Machine.{bytes_on, bytes_of, base_of};
 ghost use Rattle.zero_state.specs.Finds.{TopValue, TopPlace};
-ghost use Rattle.zero_state.specs.Stacked.{linked};
+ghost use Rattle.zero_state.specs.Stacked.{linked, frames_of};
 
 use code_form::Operand;
 use eu_base::{Addr, CELL_BYTES, List, NoMemory, OPERAND_BYTES, Value};
@@ -32,9 +32,9 @@ pub struct Link {
 /// A live call or refinement.
 #[derive(Drop)]
 pub struct Frame {
-    link: Link,
+    pub link: Link,
     /// What is pending in the frame below, the newest last.
-    operands: List<Operand>,
+    pub operands: List<Operand>,
 }
 
 /// The pending operands of all frames, and the frames.
@@ -70,6 +70,20 @@ impl Stack {
             frames: List::new(alloc),
             bytes: 0,
         }
+    }
+
+    /// The live calls and refinements, the innermost last.
+    pub fn frames(&self) -> &[Frame]
+        ensures { frames_of result.now ≡ self.now.frames }
+    {
+        self.frames.as_slice()
+    }
+
+    /// What is pending in the innermost frame, the newest last.
+    pub fn operands(&self) -> &[Operand]
+        ensures { reverse result.now ≡ self.now.ops }
+    {
+        self.operands.as_slice()
     }
 
     /// Whether there is room for an operand more.

@@ -18,7 +18,7 @@ use Rattle.eu_base.specs.declared.stop.Stop.TheVariants.{OperandRoom as NoRoom, 
 use Rattle.eu_base.specs.Shapes.{cell_kinds}
 use Rattle.eu_base.specs.Values.{kind_of, number_of}
 use Rattle.eu_base.specs.DataSpaces.{Heads}
-use Rattle.eu_base.specs.SpacePlaces.{is_in}
+use Rattle.eu_base.specs.SpacePlaces.{lies_in}
 use Rattle.eu_base.specs.Room.{values_bytes, values_blocks, bytes_fit, texts_fit}
 use Rattle.eu_base.specs.Cells.{Cell, Free, Cells, IsCell, area_blocks}
 use Rattle.eu_base.proofs.Rooms.{least_all}
@@ -67,7 +67,7 @@ module _ (before after : Cells → Type 0) (heads : Heads) (shape : Shape) (a : 
   cells_fit_there = bytes_fit (least_bytes shape + bytes_on t.ops (bytes_of t.frames))
 
   abbrev are_there : Bool
-  are_there = is_in (cell_kinds shape) a.area a.cell heads
+  are_there = lies_in (cell_kinds shape) a.area a.cell heads
 
   -- its cells are not there
   pub load_gone : Keeps before after → are_there ≡ false → Accesses before after heads (Load shape) loading (free loading) NoSpace
@@ -142,11 +142,11 @@ module _ (before after : Cells → Type 0) (heads : Heads) (shape : Shape) (a : 
     load_stops full = load_so (free loading) OperandRoom (λ cells marks. ap (λ m. stage m loading (scene_of (mem_of heads cells) marks)) (if_false _ _ _ full))
 
 -- a cell of a kind stands there, or does not
-pub one_there : (a : Addr) (k : Kind) (heads : Heads) → is_in (k ∷ []) a.area a.cell heads ≡ true → is_in (cell_kinds (OneCell k)) a.area a.cell heads ≡ true
-one_there a k heads e = ap (λ ks. is_in ks a.area a.cell heads) (kinds_of_cell k) ∙ e
+pub one_there : (a : Addr) (k : Kind) (heads : Heads) → lies_in (k ∷ []) a.area a.cell heads ≡ true → lies_in (cell_kinds (OneCell k)) a.area a.cell heads ≡ true
+one_there a k heads e = ap (λ ks. lies_in ks a.area a.cell heads) (kinds_of_cell k) ∙ e
 
-pub one_gone : (a : Addr) (k : Kind) (heads : Heads) → is_in (k ∷ []) a.area a.cell heads ≡ false → is_in (cell_kinds (OneCell k)) a.area a.cell heads ≡ false
-one_gone a k heads e = ap (λ ks. is_in ks a.area a.cell heads) (kinds_of_cell k) ∙ e
+pub one_gone : (a : Addr) (k : Kind) (heads : Heads) → lies_in (k ∷ []) a.area a.cell heads ≡ false → lies_in (cell_kinds (OneCell k)) a.area a.cell heads ≡ false
+one_gone a k heads e = ap (λ ks. lies_in ks a.area a.cell heads) (kinds_of_cell k) ∙ e
 
 -- a value of one cell has room for its cell where the place has
 pub one_fits : (a : Addr) (k : Kind) (t s : Stacked) → s ≡ with_ops t (At a ∷ t.ops) → bytes_fit (bytes_on s.ops (bytes_of s.frames)) ≡ true
@@ -180,14 +180,14 @@ module _ (before after : Cells → Type 0) (heads : Heads) (shape : Shape) (o : 
   fitting cells = texts_fit (values_blocks vs) (area_blocks a.area (written_all cells a vs))
 
   -- its cells are not there
-  pub store_gone : Keeps before after → is_in (map kind_of vs) a.area a.cell heads ≡ false
+  pub store_gone : Keeps before after → lies_in (map kind_of vs) a.area a.cell heads ≡ false
       → Accesses before after heads (Store shape) (storing o) (free (storing o)) NoSpace
   store_gone kept gone =
       plain before after heads (Store shape) (storing o) (free (storing o)) NoSpace (λ cells. cells)
       (λ cells p marks. ap (λ m. stage m (storing o) (scene_of (mem_of heads cells) marks))
       (gone_is (map kind_of vs) a heads cells _ gone ∙ sym (stores_it o value p cells))) kept
 
-  put_so : (how : Next) (c' : Control) (p : Program) (marks : ℕ) → is_in (map kind_of vs) a.area a.cell heads ≡ true
+  put_so : (how : Next) (c' : Control) (p : Program) (marks : ℕ) → lies_in (map kind_of vs) a.area a.cell heads ≡ true
       → ((cells : Cells) → before cells → takes_all vs a cells ≡ true
       → Does after heads (halt_of how) c' marks (stage (put_if cells (fitting cells)) (storing o) (scene_of (mem_of heads cells) marks)))
       → (cells : Cells) → before cells
@@ -226,10 +226,10 @@ module _ (before after : Cells → Type 0) (heads : Heads) (shape : Shape) (o : 
   many = length-map vs emptied
 
   -- it is of the same kinds
-  ws_there : is_in (map kind_of vs) a.area a.cell heads ≡ true → is_in (map kind_of ws) a.area a.cell heads ≡ true
-  ws_there here = ap (λ ks. is_in ks a.area a.cell heads) (sym (emptied_kinds vs)) ∙ here
+  ws_there : lies_in (map kind_of vs) a.area a.cell heads ≡ true → lies_in (map kind_of ws) a.area a.cell heads ≡ true
+  ws_there here = ap (λ ks. lies_in ks a.area a.cell heads) (sym (emptied_kinds vs)) ∙ here
 
-  goes_emptied : is_in (map kind_of vs) a.area a.cell heads ≡ true → (p : Program)
+  goes_emptied : lies_in (map kind_of vs) a.area a.cell heads ≡ true → (p : Program)
       → instruction p (Some (Store shape)) (storing other) (mem_of heads holding') ≡ goes (storing other) t.ops (mem_of heads (written_all holding' a ws))
   goes_emptied here p =
       stores_it other (other_value o value) p holding' ∙ ap (λ l. puts_all (storing other) a l t.ops (mem_of heads holding')) (other_all o)
@@ -242,7 +242,7 @@ module _ (before after : Cells → Type 0) (heads : Heads) (shape : Shape) (o : 
   like : AreLike (o ∷ At a ∷ t.ops) (other ∷ At a ∷ t.ops)
   like = (emptied_operand_like o, ((λ cell. cell), same_like t.ops))
 
-  pub store_goes : is_in (map kind_of vs) a.area a.cell heads ≡ true → PutsAll before after a vs Done → Accesses before after heads (Store shape) (storing o) stored On'
+  pub store_goes : lies_in (map kind_of vs) a.area a.cell heads ≡ true → PutsAll before after a vs Done → Accesses before after heads (Store shape) (storing o) stored On'
   store_goes here put p marks = record {
     does =
         put_so On' stored p marks here (λ cells h taken.
@@ -257,7 +257,7 @@ module _ (before after : Cells → Type 0) (heads : Heads) (shape : Shape) (o : 
     );
   }
 
-  pub store_full : is_in (map kind_of vs) a.area a.cell heads ≡ true → PutsAll before after a vs HeapFull → Accesses before after heads (Store shape) (storing o) (free (storing o)) TextRoom
+  pub store_full : lies_in (map kind_of vs) a.area a.cell heads ≡ true → PutsAll before after a vs HeapFull → Accesses before after heads (Store shape) (storing o) (free (storing o)) TextRoom
   store_full here put p marks = record {
     does =
         put_so TextRoom (free (storing o)) p marks here (λ cells h taken.

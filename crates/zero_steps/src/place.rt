@@ -1,14 +1,14 @@
 //! Places of items and fields.
-ghost use Rattle.std.specs.Prelude.{◌≡◌, ◌*◌, ℕ};
+ghost use Rattle.std.specs.Prelude.{◌≡◌, ◌+◌, ◌*◌, ℕ, cond, nat_lt, Some, None};
 ghost use Rattle.code_form.specs.declared.instr.Instr.TheVariants as instrs;
 ghost use Rattle.eu_base.specs.Operations.{in_row};
-ghost use Rattle.code_form.specs.Machine.{Mem};
+ghost use Rattle.code_form.specs.Machine.{Mem, further};
 ghost use Rattle.zero_state.specs.Finds.{TopPlace, TopBoth};
-ghost use Rattle.zero_state.specs.Stepping.{position_of, control_of, IsReady, GoesOn, StepsSo};
+ghost use Rattle.zero_state.specs.Stepping.{position_of, control_of, IsReady, StepsSo};
 
 use code_form::Operand;
+use eu_base::{Addr, CELLS};
 use zero_state::{Next, State};
-use zero_values::cells::further;
 
 /// INDEX. A stop leaves the operands pending.
 pub fn index(s: &mut State, count: u16, cells: u16) -> Next
@@ -21,7 +21,9 @@ pub fn index(s: &mut State, count: u16, cells: u16) -> Next
     };
     match in_row(count, number.number()) {
         Some(before) => {
-            let item = further(*row, u32::from(before) * u32::from(cells));
+            let Some(item) = further(*row, u32::from(before) * u32::from(cells)) else {
+                return Next::NoSpace;
+            };
             let _number = s.stack.pop_value();
             s.stack.replace_place(item);
             s.pc += 1;
@@ -31,18 +33,36 @@ pub fn index(s: &mut State, count: u16, cells: u16) -> Next
     }
 }
 
-/// FIELD
-pub fn field(s: &mut State, cells: u16)
+/// FIELD. A stop leaves the operand pending.
+pub fn field(s: &mut State, cells: u16) -> Next
     requires ready { IsReady s.old }
     requires finds { TopPlace s.old.stack.ops }
-    ensures { (mem : Mem) → GoesOn (instrs.Field cells) (position_of s.old) mem (control_of s.new) mem }
+    ensures { (mem : Mem) → StepsSo (instrs.Field cells) (position_of s.old) mem (control_of s.new) mem result }
 {
     let [Operand::Place(at)] = s.stack.top(1) else {
         unreachable!()
     };
-    let to = further(*at, u32::from(cells));
+    let Some(to) = further(*at, u32::from(cells)) else {
+        return Next::NoSpace;
+    };
     s.stack.replace_place(to);
     s.pc += 1;
+    Next::On
+}
+
+// The place so many cells further on, where its area has such a cell.
+fn further(at: Addr, cells: u32) -> Option<Addr>
+    ensures { result ≡ cond (nat_lt (at.cell + cells) CELLS) (Some (further at cells)) None }
+{
+    let cell = u64::from(at.cell) + u64::from(cells);
+    if cell < u64::from(CELLS) {
+        Some(Addr {
+            area: at.area,
+            cell: cell as u16,
+        })
+    } else {
+        None
+    }
 }
 
 /// How many items of a row stand before the one of a number.

@@ -21,7 +21,7 @@ use Rattle.eu_base.specs.Room.{cells_fit, texts_fit}
 use Rattle.eu_base.specs.Operations.{Given, change_kind, changed, is_past, has_reached, next_number}
 use Rattle.eu_base.proofs.Results.{changed_gives, kind_is}
 use Rattle.eu_base.specs.DataSpaces.{Heads}
-use Rattle.eu_base.specs.SpacePlaces.{is_in}
+use Rattle.eu_base.specs.SpacePlaces.{lies_in}
 use Rattle.eu_base.specs.Cells.{Cell, Free, Word, Letters, Cells, held_of, IsCell, run_cell, place_in, written, cell_blocks, area_blocks}
 use Rattle.code_form.specs.declared.operand.Operand.{Operand}
 use Rattle.code_form.specs.declared.operand.Operand.TheVariants.{Value as Of, Place as At}
@@ -85,7 +85,7 @@ beside_cell : (k : ℕ) → IsCell (beside k)
 beside_cell zero = omega arith
 beside_cell (suc k) = omega arith
 
-beside_in : (k : ℕ) (heads : Heads) → is_in (kinds.Int ∷ []) (beside k).area (beside k).cell heads ≡ true
+beside_in : (k : ℕ) (heads : Heads) → lies_in (kinds.Int ∷ []) (beside k).area (beside k).cell heads ≡ true
 beside_in zero heads = refl
 beside_in (suc k) heads = refl
 
@@ -124,18 +124,18 @@ record Example (heads : Heads) (by : Change) (v : Value) (a : Addr) (c : Value �
       ≡ goes (c operand) ops (mem_of heads now)
 
 -- where cells are there, and where they are not
-pub there_is : (ks : List Kind) (a : Addr) (heads : Heads) (cells : Cells) (m : Move) → is_in ks a.area a.cell heads ≡ true
+pub there_is : (ks : List Kind) (a : Addr) (heads : Heads) (cells : Cells) (m : Move) → lies_in ks a.area a.cell heads ≡ true
     → m ≡ if_there ks a (mem_of heads cells) m
 there_is ks a heads cells m e = if_true _ m (Halts stops.NoSpace) e
 
-pub gone_is : (ks : List Kind) (a : Addr) (heads : Heads) (cells : Cells) (m : Move) → is_in ks a.area a.cell heads ≡ false
+pub gone_is : (ks : List Kind) (a : Addr) (heads : Heads) (cells : Cells) (m : Move) → lies_in ks a.area a.cell heads ≡ false
     → Halts stops.NoSpace ≡ if_there ks a (mem_of heads cells) m
 gone_is ks a heads cells m e = if_false _ m (Halts stops.NoSpace) e
 
 module _ (heads : Heads) (a : Addr) (ops : List Operand) where
   -- a number goes into a cell that was read as one
   number_put : (seen : Cell) (new : Value) → IsOf kinds.Int new → on_cell kinds.Int seen (λ old. Ends) ≡ Ends → (c : Position)
-      → is_in (kinds.Int ∷ []) a.area a.cell heads ≡ true
+      → lies_in (kinds.Int ∷ []) a.area a.cell heads ≡ true
       → puts c a new ops (mem_of heads (λ _. seen)) ≡ goes c ops (mem_of heads (written (λ _. seen) a (held_of new)))
   number_put Free new number e c here = absurd (cc e)
   number_put (Letters t) new number e c here = absurd (cc e)
@@ -147,11 +147,11 @@ module _ (heads : Heads) (a : Addr) (ops : List Operand) where
   number_put (Word n) (item.Space s) number e c here = absurd number
 
   -- "" goes behind "" in the cell of a text
-  empty_there : (c : Position) → is_in (kinds.Text ∷ []) a.area a.cell heads ≡ true
+  empty_there : (c : Position) → lies_in (kinds.Text ∷ []) a.area a.cell heads ≡ true
       → puts c a (item.Text []) ops (mem_of heads (λ _. Letters [])) ≡ goes c ops (mem_of heads (written (λ _. Letters []) a (Letters [])))
   empty_there c here = sym (there_is (kinds.Text ∷ []) a heads (λ _. Letters []) (goes c ops (mem_of heads (written (λ _. Letters []) a (Letters [])))) here)
 
-  empty_put : (v : Value) (c : Position) → is_in (kinds.Text ∷ []) a.area a.cell heads ≡ true
+  empty_put : (v : Value) (c : Position) → lies_in (kinds.Text ∷ []) a.area a.cell heads ≡ true
       → or_halt (changed Append (item.Text []) (emptied v)) (λ new. puts c a new ops (mem_of heads (λ _. Letters [])))
       ≡ goes c ops (mem_of heads (written (λ _. Letters []) a (Letters [])))
   empty_put (item.Int z) c here = empty_there c here
@@ -162,7 +162,7 @@ module _ (heads : Heads) (a : Addr) (ops : List Operand) where
 
 module _ (heads : Heads) (v old new : Value) (seen : Cell) (a : Addr) (c : Value → Position) (ops : List Operand) where
   of_number : (by : Change) → changed by old v ≡ Ok new → ((go : Value → Move) → on_cell (change_kind by) seen go ≡ go old) → IsOf kinds.Int new
-      → on_cell kinds.Int seen (λ old. Ends) ≡ Ends → is_in (kinds.Int ∷ []) a.area a.cell heads ≡ true → Example heads by v a c ops
+      → on_cell kinds.Int seen (λ old. Ends) ≡ Ends → lies_in (kinds.Int ∷ []) a.area a.cell heads ≡ true → Example heads by v a c ops
   of_number by e is number read here = record {
     operand = v;
     like = (refl, omega arith);
@@ -174,7 +174,7 @@ module _ (heads : Heads) (v old new : Value) (seen : Cell) (a : Addr) (c : Value
   }
 
   example_of : (by : Change) → changed by old v ≡ Ok new → ((go : Value → Move) → on_cell (change_kind by) seen go ≡ go old)
-      → is_in (change_kind by ∷ []) a.area a.cell heads ≡ true → Example heads by v a c ops
+      → lies_in (change_kind by ∷ []) a.area a.cell heads ≡ true → Example heads by v a c ops
   example_of Increase e is here = of_number Increase e is (changed_gives Increase old v new e) (is (λ old. Ends)) here
   example_of Decrease e is here = of_number Decrease e is (changed_gives Decrease old v new e) (is (λ old. Ends)) here
   example_of Append e is here = record {
@@ -187,7 +187,7 @@ module _ (heads : Heads) (v old new : Value) (seen : Cell) (a : Addr) (c : Value
 
 -- "" has room in the place of a text
 puts_it : (w : Value) (c : Position) (a : Addr) (heads : Heads) (ops : List Operand) (cells : Cells) (m : Move)
-    → is_in (kind_of w ∷ []) a.area a.cell heads ≡ true
+    → lies_in (kind_of w ∷ []) a.area a.cell heads ≡ true
     → m ≡ if_there (kind_of (emptied w) ∷ []) a (mem_of heads cells) m
 puts_it (item.Int z) c a heads ops cells m here = there_is (kinds.Int ∷ []) a heads cells m here
 puts_it (item.Truth b) c a heads ops cells m here = there_is (kinds.Truth ∷ []) a heads cells m here
@@ -205,7 +205,7 @@ empty_goes (item.Text t) c a heads ops = refl
 empty_goes (item.Task t) c a heads ops = refl
 empty_goes (item.Space s) c a heads ops = refl
 
-pub puts_on : (w : Value) (c : Position) (a : Addr) (heads : Heads) (ops : List Operand) → is_in (kind_of w ∷ []) a.area a.cell heads ≡ true
+pub puts_on : (w : Value) (c : Position) (a : Addr) (heads : Heads) (ops : List Operand) → lies_in (kind_of w ∷ []) a.area a.cell heads ≡ true
     → puts c a (emptied w) ops (mem_of heads (λ _. held_of (emptied w)))
     ≡ goes c ops (mem_of heads (written (λ _. held_of (emptied w)) a (held_of (emptied w))))
 puts_on w c a heads ops here =
@@ -268,7 +268,7 @@ module _ (before after : Cells → Type 0) (heads : Heads) where
       by (inr e) = subst (λ m. Does after heads how c' marks (stage m c (scene_of (mem_of heads cells) marks))) (sym e) tt
 
   -- a value that was put into a cell has room there, or none
-  module _ (marks : ℕ) (c : Position) (d : Control) (a : Addr) (v : Value) (ops : List Operand) (here : is_in (kind_of v ∷ []) a.area a.cell heads ≡ true) where
+  module _ (marks : ℕ) (c : Position) (d : Control) (a : Addr) (v : Value) (ops : List Operand) (here : lies_in (kind_of v ∷ []) a.area a.cell heads ≡ true) where
     abbrev fitting : Cells → Bool
     fitting cells = texts_fit (cell_blocks (held_of v)) (area_blocks a.area (written cells a (held_of v)))
 
@@ -306,7 +306,7 @@ module _ (before after : Cells → Type 0) (heads : Heads) where
     changing v = standing pc used (with_ops t (Of v ∷ At a ∷ t.ops))
 
     -- the cell is not there
-    pub modify_gone : Keeps before after → is_in (change_kind by ∷ []) a.area a.cell heads ≡ false
+    pub modify_gone : Keeps before after → lies_in (change_kind by ∷ []) a.area a.cell heads ≡ false
         → Accesses before after heads (Modify by) (changing v) (free (changing v)) NoSpace
     modify_gone kept gone =
         plain before after heads (Modify by) (changing v) (free (changing v)) NoSpace (λ cells. cells)
@@ -316,7 +316,7 @@ module _ (before after : Cells → Type 0) (heads : Heads) where
     then cells new = puts (changing v) a new t.ops (mem_of heads cells)
 
     -- what follows what was read is what follows what is given
-    given_so : (how : Option Halt) (c' : Control) (marks : ℕ) (old : Value) (g : Given) → is_in (change_kind by ∷ []) a.area a.cell heads ≡ true
+    given_so : (how : Option Halt) (c' : Control) (marks : ℕ) (old : Value) (g : Given) → lies_in (change_kind by ∷ []) a.area a.cell heads ≡ true
         → Reads before a (change_kind by) old → changed by old v ≡ g
         → ((cells : Cells) → before cells → Does after heads how c' marks (stage (or_halt g (then cells)) (changing v) (scene_of (mem_of heads cells) marks)))
         → (p : Program) (cells : Cells) → before cells → Does after heads how c' marks (stage_by p (Modify by) marks (changing v) (mem_of heads cells))
@@ -327,12 +327,12 @@ module _ (before after : Cells → Type 0) (heads : Heads) where
         (λ cells h. subst (λ g. Does after heads how c' marks (stage (or_halt g (then cells)) (changing v) (scene_of (mem_of heads cells) marks))) (sym is) (so cells h)) cells h)
 
     -- what is put there is of the kind of the change
-    new_there : (old new : Value) → changed by old v ≡ Ok new → is_in (change_kind by ∷ []) a.area a.cell heads ≡ true
-        → is_in (kind_of new ∷ []) a.area a.cell heads ≡ true
+    new_there : (old new : Value) → changed by old v ≡ Ok new → lies_in (change_kind by ∷ []) a.area a.cell heads ≡ true
+        → lies_in (kind_of new ∷ []) a.area a.cell heads ≡ true
     new_there old new e here =
-        ap (λ k. is_in (k ∷ []) a.area a.cell heads) (kind_is (change_kind by) new (changed_gives by old v new e)) ∙ here
+        ap (λ k. lies_in (k ∷ []) a.area a.cell heads) (kind_is (change_kind by) new (changed_gives by old v new e)) ∙ here
 
-    pub modify_goes : is_in (change_kind by ∷ []) a.area a.cell heads ≡ true → Changes before after a by v (Ok Done) → Accesses before after heads (Modify by) (changing v) (free (standing (pc + 1) used t)) On'
+    pub modify_goes : lies_in (change_kind by ∷ []) a.area a.cell heads ≡ true → Changes before after a by v (Ok Done) → Accesses before after heads (Modify by) (changing v) (free (standing (pc + 1) used t)) On'
     modify_goes here r p marks =
         let x = example_of heads v r.old r.to.0 r.reads.seen a changing t.ops by r.to.1.0 r.reads.is here in
         record {
@@ -349,7 +349,7 @@ module _ (before after : Cells → Type 0) (heads : Heads) where
           );
         }
 
-    pub modify_full : is_in (change_kind by ∷ []) a.area a.cell heads ≡ true → Changes before after a by v (Ok HeapFull) → Accesses before after heads (Modify by) (changing v) (free (changing v)) TextRoom
+    pub modify_full : lies_in (change_kind by ∷ []) a.area a.cell heads ≡ true → Changes before after a by v (Ok HeapFull) → Accesses before after heads (Modify by) (changing v) (free (changing v)) TextRoom
     modify_full here r p marks =
         let x = example_of heads v r.old r.to.0 r.reads.seen a changing t.ops by r.to.1.0 r.reads.is here in
         record {
@@ -369,7 +369,7 @@ module _ (before after : Cells → Type 0) (heads : Heads) where
           });
         }
 
-    pub modify_stops : (fault : Fault) (next : Next) → is_in (change_kind by ∷ []) a.area a.cell heads ≡ true → Changes before after a by v (Err fault) → halt_of next ≡ Some (halts.Stopped (stop_of fault))
+    pub modify_stops : (fault : Fault) (next : Next) → lies_in (change_kind by ∷ []) a.area a.cell heads ≡ true → Changes before after a by v (Err fault) → halt_of next ≡ Some (halts.Stopped (stop_of fault))
         → Accesses before after heads (Modify by) (changing v) (free (changing v)) next
     modify_stops fault next here r how p marks =
         let so : (cells : Cells) → stage_of (halt_of next) (free (changing v)) (scene_of (mem_of heads cells) marks)
@@ -403,7 +403,7 @@ module _ (before after : Cells → Type 0) (heads : Heads) where
 
   -- the counter is not there
   pub limit_gone : (way : Way) (to : ℕ) (v : Value) (a : Addr) (pc used : ℕ) (t : Stacked) → cells_fit (used + 1) ≡ true
-      → is_in (kinds.Int ∷ []) a.area a.cell heads ≡ false → Keeps before after
+      → lies_in (kinds.Int ∷ []) a.area a.cell heads ≡ false → Keeps before after
       → Accesses before after heads (Limit way to) (standing pc used (with_ops t (Of v ∷ At a ∷ t.ops)))
       (free (standing pc used (with_ops t (Of v ∷ At a ∷ t.ops)))) NoSpace
   limit_gone way to v a pc used t room gone kept p marks =
@@ -425,7 +425,7 @@ module _ (before after : Cells → Type 0) (heads : Heads) where
       }
 
   pub limit_so : (way : Way) (to n : ℕ) (v : Value) (a : Addr) (pc used pc' : ℕ) (t : Stacked) → cells_fit (used + 1) ≡ true
-      → is_in (kinds.Int ∷ []) a.area a.cell heads ≡ true → Answers before a n
+      → lies_in (kinds.Int ∷ []) a.area a.cell heads ≡ true → Answers before a n
       → Writes before after (run_cell used) (held_of (item.Int (number_of v))) → (b : Bool) (z w : ℤ) → z ≡ number_of v → w ≡ number_in n
       → b ≡ is_past way z w → pc' ≡ cond b to (pc + 1)
       → Accesses before after heads (Limit way to) (standing pc used (with_ops t (Of v ∷ At a ∷ t.ops))) (free (standing pc' (used + 1) t)) On'
@@ -469,7 +469,7 @@ module _ (before after : Cells → Type 0) (heads : Heads) where
       limits seen = if_there (kinds.Int ∷ []) (beside used) (mem_of heads seen) (counts seen)
 
   module _ (way : Way) (to n l : ℕ) (a : Addr) (pc used : ℕ) (t : Stacked) (answers : Answers before a n) (limits : Answers before (run_cell (used - 1)) l)
-      (z w : ℤ) (z_is : z ≡ number_in l) (w_is : w ≡ number_in n) (here : is_in (kinds.Int ∷ []) a.area a.cell heads ≡ true) where
+      (z w : ℤ) (z_is : z ≡ number_in l) (w_is : w ≡ number_in n) (here : lies_in (kinds.Int ∷ []) a.area a.cell heads ≡ true) where
     reached : (b : Bool) → b ≡ has_reached way z w → has_reached way (number_in l) (number_in n) ≡ b
     reached b e = sym (e ∙ ap (λ z. has_reached way z w) z_is ∙ ap (has_reached way _) w_is)
 
@@ -529,7 +529,7 @@ module _ (before after : Cells → Type 0) (heads : Heads) where
         (λ a marks cells. ap (λ m. stage m (at_step a) (scene_of (mem_of heads cells) marks)) (if_false _ _ _ is)) writes
 
   -- the counter is not there
-  module _ (way : Way) (to : ℕ) (a : Addr) (pc used : ℕ) (t : Stacked) (gone : is_in (kinds.Int ∷ []) a.area a.cell heads ≡ false)
+  module _ (way : Way) (to : ℕ) (a : Addr) (pc used : ℕ) (t : Stacked) (gone : lies_in (kinds.Int ∷ []) a.area a.cell heads ≡ false)
       (kept : Keeps before after) where
     abbrev counting : Position
     counting = standing pc used (with_ops t (At a ∷ t.ops))

@@ -1,5 +1,5 @@
 -- An area is there where cells stand in it.
-use Rattle.std.proofs.Common.{◌≡◌, ℕ, Bool, true, false, List, sym, ap, ◌∙◌, subst}
+use Rattle.std.proofs.Common.{◌≡◌, ℕ, ◌+◌, Bool, true, false, List, length, sym, ap, ◌∙◌, subst}
 use Rattle.std.specs.Prelude.{◌&&◌}
 use Rattle.eu_base.specs.declared.address.Area.{Area}
 use Rattle.eu_base.specs.declared.address.Area.TheVariants.{Run, Packets, Space}
@@ -8,17 +8,25 @@ use Rattle.eu_base.specs.declared.value.Kind.{Kind}
 use Rattle.eu_base.specs.Cells.{run_cell}
 use Rattle.eu_base.specs.DataSpaces.{Heads, is_live}
 use Rattle.eu_base.specs.SpaceCells.{IsThere}
-use Rattle.eu_base.specs.SpacePlaces.{is_in}
+use Rattle.eu_base.specs.Room.{cells_fit}
+use Rattle.eu_base.specs.SpacePlaces.{lies_in, is_in}
 use Rattle.zero_values.proofs.Along.{steps_on, area_on}
 
 first : (a b : Bool) → (a && b) ≡ true → a ≡ true
 first true b e = cc
 first false b e = absurd (cc e)
 
-pub there_of : (ks : List Kind) (area : Area) (x : ℕ) (heads : Heads) → is_in ks area x heads ≡ true → IsThere heads area
-there_of ks Run x heads e = tt
-there_of ks Packets x heads e = tt
-there_of ks (Space s) x heads e = first (is_live s heads) _ e
+second : (a b : Bool) → (a && b) ≡ true → b ≡ true
+second true b e = e
+second false b e = absurd (cc e)
+
+pub there_of : (ks : List Kind) (area : Area) (x : ℕ) (heads : Heads) → lies_in ks area x heads ≡ true → IsThere heads area
+there_of ks area x heads e = by area (second (cells_fit (x + length ks)) (is_in ks area x heads) e)
+  where
+    by : (area : Area) → is_in ks area x heads ≡ true → IsThere heads area
+    by Run e = tt
+    by Packets e = tt
+    by (Space s) e = first (is_live s heads) _ e
 
 -- that of the command always is
 pub run_there : (heads : Heads) (a : Addr) (k : ℕ) → a ≡ run_cell k → IsThere heads a.area

@@ -5,7 +5,7 @@ ghost use Rattle.eu_base.specs.declared.value.Value.TheVariants as item;
 ghost use Rattle.eu_base.specs.Room.{blocks_of, most_blocks, value_blocks, values_bytes, values_blocks};
 ghost use Rattle.eu_base.specs.Cells.{Cells, IsCell, held_of, written, cell_blocks, area_blocks, HasFaultCause};
 ghost use Rattle.eu_base.specs.SpaceCells.{IsThere};
-ghost use Rattle.code_form.specs.Machine.{operand_bytes, takes, takes_all, written_all, further};
+ghost use Rattle.code_form.specs.Machine.{operand_bytes, takes, takes_all, written_all, next};
 ghost use Rattle.zero_state.specs.Finds.{is_value, all_of};
 ghost use Rattle.zero_values.specs.Reading.{AllRead, PutsAll, blocks_from, shown, FitsSoFar};
 
@@ -36,7 +36,7 @@ pub fn values_at<M: Memory>(
     let mut place = at;
     for kind in kinds {
         values.push(value_at(m, place, *kind)?)?;
-        place = further(place, 1);
+        place = next(place);
     }
     Ok(values)
 }
@@ -157,7 +157,7 @@ fn blocks_at<M: Memory>(m: &mut M, at: Addr, values: &[Value]) -> Result<usize, 
     let mut place = at;
     for value in values {
         had = had.saturating_add(old_blocks(m, place, value)?);
-        place = further(place, 1);
+        place = next(place);
     }
     Ok(had)
 }
@@ -192,7 +192,7 @@ fn put_each<M: Memory>(m: &mut M, at: Addr, values: &[Value], texts: bool) -> Re
     let mut place = at;
     for value in values {
         put_one(m, place, value, texts)?;
-        place = further(place, 1);
+        place = next(place);
     }
     Ok(())
 }
@@ -225,13 +225,13 @@ fn shown(t: &[u8], text: bool) -> &[u8]
     if text { t } else { &[] }
 }
 
-/// The place so many cells further on in its area.
-pub fn further(at: Addr, cells: u32) -> Addr
-    ensures { result ≡ further at cells }
+// The next cell of an area; behind its last one, which is not looked at, the first.
+fn next(at: Addr) -> Addr
+    ensures { result ≡ next at }
 {
-    let cell = u64::from(at.cell) + u64::from(cells);
+    let cell = u32::from(at.cell) + 1;
     Addr {
         area: at.area,
-        cell: (cell % u64::from(CELLS)) as u16,
+        cell: (cell % u32::from(CELLS)) as u16,
     }
 }

@@ -34,3 +34,7 @@ pub record AreMarks (core : Core) (marks : List Bool) : Type 0 where
 abbrev pub left_from : ℕ → List Bool → List Body → List Body
 left_from n marks [] = []
 left_from n marks (b ∷ bs) = cond (is_marked marks n) b (emptied b) ∷ left_from (n + 1) marks bs
+
+-- these are the bodies of a core, of which those that its command does not reach are emptied
+abbrev pub AreLeft : Core → List Body → Type 0
+AreLeft core made = (marks : List Bool) × AreMarks core marks × (made ≡ left_from 0 marks core.bodies)

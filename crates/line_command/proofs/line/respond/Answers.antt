@@ -4,6 +4,7 @@ use Rattle.elan_types.specs.declared.core_phrase.Core.{Core}
 use Rattle.packet_store.specs.Meaning.{means}
 use Rattle.line_command.specs.Program.{Shows}
 use Rattle.line_command.specs.Meaning.{Means, TextWrites, runs}
+use Rattle.command_code.proofs.Coding.{code_behaves}
 use Rattle.line_command.proofs.Refusing.{refused_line}
 use Rattle.line_command.proofs.line.respond.Goals as goal
 
@@ -20,7 +21,7 @@ returns-in-Ok c =
     let text = c.args.text.now in
     let core = c.in-Ok.unit.core in
     let m = c.in-Ok.ensures.unit.means in
-    shows_text text core c.written-out.result m (c.written-out.ensures core (without text core m) c.code.ensures)
+    shows_text text core c.written-out.result m (c.written-out.ensures core (without text core m) (code_behaves core c.code.result.now c.code.ensures))
 
 pub returns-in-Err-Refused : goal.returns-in-Err-Refused
 returns-in-Err-Refused c =

@@ -4,6 +4,4 @@ use Rattle.live_packets.specs.Below.live_task.specs.Stands.{IsWhole}
 use Rattle.live_system.proofs.commands.as_went.Goals as goal
 
 pub of-requires : goal.of-requires
-of-requires c =
-    let whole = subst (λ (w : Task). IsWhole w) c.in-Over.is c.requires in
-    record { unit = whole.0; behaves = whole.1 }
+of-requires c = subst (λ (w : Task). IsWhole w) c.in-Over.is c.requires

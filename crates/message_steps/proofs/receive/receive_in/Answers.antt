@@ -4,7 +4,7 @@ use Rattle.eu_base.specs.Values.{kind_of, cell_of}
 use Rattle.eu_base.specs.Cells.{Word, held_of, written}
 use Rattle.eu_base.specs.DataSpaces.{Heads, heads_after}
 use Rattle.eu_base.specs.SpaceCells.{IsThere}
-use Rattle.eu_base.specs.SpacePlaces.{is_in}
+use Rattle.eu_base.specs.SpacePlaces.{lies_in}
 use Rattle.eu_base.specs.SpaceOperations.{forgetting}
 use Rattle.space_calls.specs.Planned.{cells_after}
 use Rattle.message_steps.specs.Received.{HeldSo}
@@ -23,7 +23,7 @@ set_cell-requires-clause-there g c =
 pub returns-then-not-are_there-clause-goes : goal.returns-then-not-are_there-clause-goes
 returns-then-not-are_there-clause-goes g c = record {
   gone =
-      ap (λ (k : Kind). is_in (k ∷ []) c.args.at.area c.args.at.cell (g.M.Memory.heads c.args.m.now)) (sym c.kind_of-kind.ensures)
+      ap (λ (k : Kind). lies_in (k ∷ []) c.args.at.area c.args.at.cell (g.M.Memory.heads c.args.m.now)) (sym c.kind_of-kind.ensures)
       ∙ sym c.are_there.ensures ∙ c.if-not-are_there.true;
   heads = refl;
   kept = λ cells h. h;
@@ -40,7 +40,7 @@ returns-clause-goes g c =
     let kind = c.kind_of-kind.ensures in
     let same = c.in_ok-set_cell.ensures.heads ∙ c.in_ok-held.ensures.heads in
     received_so (holds c.args.m.now) (holds c.forget_held.new.m) had (heads c.forget_held.new.m) a v held c.requires.number
-    (ap (λ (k : Kind). is_in (k ∷ []) a.area a.cell had) (sym kind) ∙ sym c.are_there.ensures ∙ c.if-not-are_there.false)
+    (ap (λ (k : Kind). lies_in (k ∷ []) a.area a.cell had) (sym kind) ∙ sym c.are_there.ensures ∙ c.if-not-are_there.false)
     (subst (λ (k : Kind). HeldSo (holds c.args.m.now) a k held) kind c.in_ok-held.ensures.held)
     (c.forget_held.ensures.heads ∙ ap (λ (h : Heads). heads_after (forgetting held h) h) same)
     (λ cells h free.

@@ -1,6 +1,6 @@
 use Rattle.std.proofs.Common.{[], ◌∷◌, sym, subst}
 use Rattle.page_table.specs.Entries.{Names}
-use Rattle.page_table.specs.Frames.{Frames, Stands}
+use Rattle.page_table.specs.Frames.{over, Frames, Stands}
 use Rattle.page_table.proofs.Framing.{frames_more, stands_first}
 use Rattle.data_space.specs.Data.{SpaceData}
 use Rattle.space_memory.specs.Memories.{MemoryData, roots}
@@ -19,12 +19,12 @@ forget-requires c = record {
 }
 
 pub returns-in-Ok-clause-frames : goal.returns-in-Ok-clause-frames
-returns-in-Ok-clause-frames c =
-    subst (λ (names : Names). Frames c.args.pool.now c.args.pool.now (c.args.space.root ∷ roots c.args.memory.now) names)
-    (sym (same_named c.name.result c.give.new.self c.name.new.self _ c.name.ensures.ok c.name.ensures.err)) (c.in-Ok.ensures.frames c.args.pool.now)
+returns-in-Ok-clause-frames c = λ tell.
+    subst (λ (names : Names). Frames (over c.args.pool.now tell) (over c.args.pool.now tell) (c.args.space.root ∷ roots c.args.memory.now) names)
+    (sym (same_named c.name.result c.give.new.self c.name.new.self _ c.name.ensures.ok c.name.ensures.err)) (c.in-Ok.ensures.frames (over c.args.pool.now tell))
 
 pub returns-in-Err-clause-frames : goal.returns-in-Err-clause-frames
-returns-in-Err-clause-frames c =
-    subst (λ (u : MemoryData). Frames c.args.pool.now c.forget.new.pool (c.args.space.root ∷ roots c.args.memory.now) (roots u)) (sym c.in-Err.ensures.err)
-    (frames_more c.args.pool.now c.forget.new.pool (c.args.space.root ∷ []) [] (roots c.args.memory.now)
-    (subst (λ (d : SpaceData). Frames c.args.pool.now c.forget.new.pool (d.root ∷ []) []) c.in-Err.ensures.back c.forget.ensures.frames))
+returns-in-Err-clause-frames c = λ tell.
+    subst (λ (u : MemoryData). Frames (over c.args.pool.now tell) (over c.forget.new.pool tell) (c.args.space.root ∷ roots c.args.memory.now) (roots u)) (sym c.in-Err.ensures.err)
+    (frames_more (over c.args.pool.now tell) (over c.forget.new.pool tell) (c.args.space.root ∷ []) [] (roots c.args.memory.now)
+    (subst (λ (d : SpaceData). Frames (over c.args.pool.now tell) (over c.forget.new.pool tell) (d.root ∷ []) []) c.in-Err.ensures.back (c.forget.ensures.frames tell)))

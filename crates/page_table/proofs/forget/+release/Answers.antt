@@ -1,9 +1,9 @@
 use Rattle.std.proofs.lemmas.List.{take_all, drop_all}
-use Rattle.page_table.proofs.Common.{◌≡◌, ◌-◌, ℕ, [], ◌∷◌, drop, Option, Some, inl, inr, refl, sym, ◌∙◌, ap, subst, arith, Pages, count_of, Names, entries_of}
+use Rattle.page_table.proofs.Common.{◌≡◌, ◌-◌, ℕ, [], ◌∷◌, drop, Option, Some, inl, inr, refl, sym, ◌∙◌, ap, subst, arith, Pages, None, bytes_of, shown_of, count_of, Names, entries_of}
 use Rattle.page_table.proofs.Common.{book_of, hit, occ, Hands, names, nothing, heirs, Moves}
 use Rattle.page_table.proofs.Copies.{first_left}
 use Rattle.page_table.proofs.Counting.{names_none, heirs_none, entries_length}
-use Rattle.page_table.proofs.Moving.{holds_part, holds_then, held_live, held_as, stays_then, moves_on, moves_open, moves_with, moves_drops, moves_none}
+use Rattle.page_table.proofs.Moving.{holds_part, holds_then, held_live, held_pinned, pinned_entries, held_as, stays_then, moves_on, moves_open, moves_with, moves_drops, moves_none}
 use Rattle.page_table.proofs.Moving.{moves_like}
 use Rattle.page_table.proofs.forget.+release.Goals as goal
 
@@ -26,8 +26,10 @@ returns-then-count-gt1-clause-moves t c = less c.args.height c.in-Some.p c.in-So
 
 pub loop-k-init : goal.loop-k-init
 loop-k-init t c =
-    let same : entries_of c.read.new.into ≡ (book_of c.args.pool.now).entries c.in-Some.p
-    = ap entries_of (c.read.ensures.bytes ∙ take_all 512 _ (omega (arith, c.read.ensures.long))) in
+    let pin = held_pinned _ c.args.height c.in-Some.p (omega (arith, c.if-height-eq0.false)) c.requires.low (held_as c.args.height c.in-Some.is c.requires.held) in
+    let same : entries_of c.peek.new.into ≡ (book_of c.args.pool.now).entries c.in-Some.p
+    = ap entries_of (c.peek.ensures.bytes None ∙ take_all 512 (bytes_of None c.args.pool.now c.in-Some.p) (omega (arith, c.peek.ensures.long None)))
+    ∙ sym (pinned_entries (shown_of c.args.pool.now c.in-Some.p) pin) in
     let single : count_of c.args.pool.now c.in-Some.p ≡ 1
     = omega (arith, c.if-count-gt1.false, c.count.ensures, c.requires.live c.in-Some.p c.in-Some.is) in
     record {
@@ -35,12 +37,13 @@ loop-k-init t c =
           (moves_like (λ n x. refl) (λ n x. omega (arith, ap (λ (l : Names). heirs c.args.height l n x) same)) (moves_with (heirs c.args.height _)
           (moves_drops _ _ c.in-Some.p 0 c.drop_ref-2.ensures.sound c.drop_ref-2.ensures.drops (omega arith) (inl refl)))));
       frees = record { lived = λ x alive. omega (arith, alive, c.drop_ref-2.ensures.drops.counts x); stays = c.drop_ref-2.ensures.drops.stays };
+      clean = c.drop_ref-2.ensures.clean;
       used = c.drop_ref-2.ensures.used;
     }
 
 pub release-requires : goal.release-requires
 release-requires t c =
-    let held = holds_part _ (first_left c.read.new.into c.loop-k.k c.args.height (omega (arith, c.if-height-eq0.false)) c.read.auto.into
+    let held = holds_part _ (first_left c.peek.new.into c.loop-k.k c.args.height (omega (arith, c.if-height-eq0.false)) c.peek.auto.into
     c.loop-k-test.true (sym c.entry_in.ensures)) (holds_then c.loop-k.invariant.moves c.requires.held) in (
       omega (arith, c.decreases, c.if-height-eq0.false),
       (omega (arith, c.requires.low), (λ q is. held_live _ (c.args.height - 1) q (omega (arith, c.requires.low)) (held_as (c.args.height - 1) is held), held)),
@@ -50,17 +53,21 @@ pub loop-k-preserved : goal.loop-k-preserved
 loop-k-preserved t c =
     let inv = c.loop-k.invariant in
     let frees = c.release.ensures.frees in
-    let first = first_left _ _ c.args.height (omega (arith, c.if-height-eq0.false)) c.read.auto.into c.loop-k-test.true (sym c.entry_in.ensures) in
+    let first = first_left _ _ c.args.height (omega (arith, c.if-height-eq0.false)) c.peek.auto.into c.loop-k-test.true (sym c.entry_in.ensures) in
     record {
       moves = moves_on inv.moves (moves_like (λ h p. sym (first h p)) (λ h p. omega arith) (moves_with (heirs c.args.height _) c.release.ensures.moves));
       frees = record {
         lived = λ x alive. inv.frees.lived x (frees.lived x alive);
         stays = λ x alive. stays_then (inv.frees.stays x (frees.lived x alive)) (frees.stays x alive);
       };
+      clean = c.release.ensures.clean ∙ inv.clean;
       used = omega (arith, inv.used, c.release.ensures.used);
     }
 
 pub returns-clause-moves : goal.returns-clause-moves
-returns-clause-moves t c = moves_like (λ h p. refl) (λ h p. sym (heirs_none c.args.height (drop c.loop-k.k (entries_of c.read.new.into)) (λ x. ap (occ x)
-    (drop_all c.loop-k.k (entries_of c.read.new.into) (omega (arith, entries_length c.read.new.into, c.read.auto.into, c.loop-k-test.false)))) h p))
+returns-clause-moves t c = moves_like (λ h p. refl) (λ h p. sym (heirs_none c.args.height (drop c.loop-k.k (entries_of c.peek.new.into)) (λ x. ap (occ x)
+    (drop_all c.loop-k.k (entries_of c.peek.new.into) (omega (arith, entries_length c.peek.new.into, c.peek.auto.into, c.loop-k-test.false)))) h p))
     c.loop-k.invariant.moves
+
+pub peek-requires-clause-here : goal.peek-requires-clause-here
+peek-requires-clause-here t c = inl (held_pinned _ c.args.height c.in-Some.p (omega (arith, c.if-height-eq0.false)) c.requires.low (held_as c.args.height c.in-Some.is c.requires.held))

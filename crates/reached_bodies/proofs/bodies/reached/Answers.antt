@@ -20,6 +20,10 @@ kept_here : (c : goal.After-drop-marks-inside) (made : List Body) → IsMade c m
     → slice_get made n ≡ slice_get c.args.core.now.bodies n
 kept_here c made e = kept c.args.core.now c.in_ok-marks.marks c.in_ok-marks.ensures made (is_left c made e)
 
+pub returns-clause-left : goal.returns-clause-left
+returns-clause-left c =
+    if_ok (IsMade c) _ c.all_left.result (λ made e. (c.in_ok-marks.marks, c.in_ok-marks.ensures, is_left c made e)) c.all_left.ensures
+
 pub returns-clause-kept : goal.returns-clause-kept
 returns-clause-kept c = if_ok (IsMade c) _ c.all_left.result (kept_here c) c.all_left.ensures
 

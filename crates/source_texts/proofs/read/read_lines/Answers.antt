@@ -12,12 +12,13 @@ loop-k-preserved g c =
     let content = g.S.Space.content c.args.space.now in
     let k = c.loop-k.k in
     let same : g.S.Space.content c.loop-k.space ≡ content = λ i n. inv.same n i in
-    let line : c.as_slice.result.now ≡ text_in content (k + 1) =
-    c.as_slice.ensures ∙ c.in_ok-line.ensures.bytes ∙ ap (λ (x : Content). text_in x (k + 1)) same in
+    let line : g.S.Space.known c.args.space.now → c.as_slice.result.now ≡ text_in content (k + 1) = λ known.
+    c.as_slice.ensures ∙ c.in_ok-line.ensures.bytes (g.met.S.Space.stays_known _ _ inv.follows known) ∙ ap (λ (x : Content). text_in x (k + 1)) same in
     record {
-      text =
-          c.in_ok-append_line.ensures ∙ ap (λ t. t ++ (line_end k ++ c.as_slice.result.now)) inv.text
-          ∙ ap (λ t. joined (lines_at content k) ++ (line_end k ++ t)) line ∙ sym (next_line content k);
+      text = λ known.
+          c.in_ok-append_line.ensures ∙ ap (λ t. t ++ (line_end k ++ c.as_slice.result.now)) (inv.text known)
+          ∙ ap (λ t. joined (lines_at content k) ++ (line_end k ++ t)) (line known) ∙ sym (next_line content k);
       same = λ n. c.in_ok-line.ensures.kept n ∙ inv.same n;
+      follows = g.met.S.Space.transitive _ _ _ inv.follows c.get.ensures.follows;
       later = omega (arith, inv.later, c.get.ensures.cause.later);
     }

@@ -8,7 +8,7 @@ use Rattle.source_texts.proofs.write.put_lines.Given as goal
 -- the lines so far stand in their cells
 abbrev pub invariant-loop-k : goal.invariant-loop-k
 invariant-loop-k g l = record {
-  held : HoldsCells Run (g.S.Space.content l.space) (cells_of (filled (length l.lines) (take l.k l.lines)));
+  held : g.S.Space.known l.fn.space → HoldsCells Run (g.S.Space.content l.space) (cells_of (filled (length l.lines) (take l.k l.lines)));
   later : g.S.Space.faults l.fn.space ≤ g.S.Space.faults l.space;
   follows : g.S.Space.follows l.fn.space l.space;
 }

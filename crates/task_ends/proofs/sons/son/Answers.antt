@@ -1,6 +1,6 @@
 use Rattle.std.proofs.Common.{◌∙◌}
 use Rattle.live_task.proofs.Carried.{stands_kept}
-use Rattle.live_spaces.proofs.Roots.{keeps_none}
+use Rattle.live_task.specs.Below.task_job.proofs.Here.{keeps_none}
 use Rattle.space_memory.specs.Memories.{roots}
 use Rattle.task_ends.specs.Refused.{Refused}
 use Rattle.task_ends.proofs.Pages.{on_err, refused_none}

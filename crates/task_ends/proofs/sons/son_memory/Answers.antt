@@ -1,5 +1,6 @@
 use Rattle.std.proofs.Common.{sym, subst, ◌∙◌}
 use Rattle.page_pool.specs.Pool.{Pages}
+use Rattle.live_task.specs.Below.task_job.specs.Here.{nowhere}
 use Rattle.space_memory.specs.Memories.{roots}
 use Rattle.space_memory.proofs.Framed.{stands_now}
 use Rattle.task_ends.specs.Refused.{Refused}
@@ -15,7 +16,7 @@ pub free_behind-requires : goal.free_behind-requires
 free_behind-requires c = record {
   agree =
       pages.son_stands c.args.pool.now c.inherit.new.pool c.args.task.now.memory c.in_ok-memory.memory c.in_ok-memory.ensures.son
-      c.in_ok-memory.ensures.frames c.requires.agree;
+      (c.in_ok-memory.ensures.frames nowhere) c.requires.agree;
 }
 
 pub end-requires : goal.end-requires
@@ -32,11 +33,11 @@ returns-in-Ok c =
     let son = c.in_ok-memory.memory in
     let now = c.free_behind.new.memory in
     let is = c.in_ok-memory.ensures.son in
-    let made = c.in_ok-memory.ensures.frames in
+    let made = c.in_ok-memory.ensures.frames nowhere in
     record {
       keeps = λ kinds own h.
-          son_of_running kinds p0 p1 task son own is c.in_ok-memory.ensures.keeps h c.in-Running.job c.in-Running.is p2 now c.in-Ok.ensures.freed;
-      kept = pages.freed_keeps p0 p1 task.memory son is made c.requires.agree p2 (roots now) c.in-Ok.ensures.frames c.in_ok-memory.ensures.keeps;
+          son_of_running kinds p0 p1 task son own is (c.in_ok-memory.ensures.keeps nowhere) h c.in-Running.job c.in-Running.is p2 now c.in-Ok.ensures.freed;
+      kept = pages.freed_keeps p0 p1 task.memory son is made c.requires.agree p2 (roots now) c.in-Ok.ensures.frames (c.in_ok-memory.ensures.keeps nowhere);
       spaces = as_many son now c.in-Ok.ensures.heads ∙ pages.two p0 p1 task.memory son is made;
       frames = pages.freed_frames p0 p1 task.memory son is made c.requires.agree p2 (roots now) c.in-Ok.ensures.frames;
       err = tt;
@@ -52,15 +53,15 @@ returns-in-Err c =
     let son = c.in_ok-memory.memory in
     let now = c.free_behind.new.memory in
     let is = c.in_ok-memory.ensures.son in
-    let made = c.in_ok-memory.ensures.frames in
+    let made = c.in_ok-memory.ensures.frames nowhere in
     record {
       keeps = tt;
       kept =
-          pages.gone_keeps p0 p1 task.memory son is made c.requires.agree p2 p3 (roots now) c.in-Err.ensures.frames c.end.ensures.frames
-          c.in_ok-memory.ensures.keeps;
+          pages.gone_keeps p0 p1 task.memory son is made c.requires.agree p2 p3 (roots now) c.in-Err.ensures.frames (c.end.ensures.frames nowhere)
+          (c.in_ok-memory.ensures.keeps nowhere);
       spaces = tt;
       frames = tt;
-      err = pages.refused p0 p1 task.memory son is made c.requires.agree p2 p3 (roots now) c.in-Err.ensures.frames c.end.ensures.frames;
+      err = pages.refused p0 p1 task.memory son is made c.requires.agree p2 p3 (roots now) c.in-Err.ensures.frames (c.end.ensures.frames nowhere);
     }
 
 pub returns-in_default : goal.returns-in_default
@@ -70,10 +71,10 @@ returns-in_default c =
     let task = c.args.task.now in
     let son = c.in_ok-memory.memory in
     let is = c.in_ok-memory.ensures.son in
-    let made = c.in_ok-memory.ensures.frames in
+    let made = c.in_ok-memory.ensures.frames nowhere in
     record {
-      keeps = λ kinds own h. son_of_idle kinds p0 p1 task son own is c.in_ok-memory.ensures.keeps h c.in_default.not-Running;
-      kept = c.in_ok-memory.ensures.keeps;
+      keeps = λ kinds own h. son_of_idle kinds p0 p1 task son own is (c.in_ok-memory.ensures.keeps nowhere) h c.in_default.not-Running;
+      kept = (c.in_ok-memory.ensures.keeps nowhere);
       spaces = pages.two p0 p1 task.memory son is made;
       frames = pages.made_frames p0 p1 task.memory son is made;
       err = tt;

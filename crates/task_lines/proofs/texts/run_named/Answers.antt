@@ -14,7 +14,7 @@ returns-in-NoSpace c =
     subst (λ (m : Moment). StandsAt c.answer_stop.new.system m)
     (sym (no_space read c.args.task c.args.packet m (space_under c.args.name.now (kept c.args.task m.system))
     (sym c.in-NoSpace.is ∙ c.in_ok-source_under.ensures.source m stands)))
-    (h m stands))
+    (h m (c.in_ok-source_under.ensures.kept m stands)))
 
 pub returns-in-NoText : goal.returns-in-NoText
 returns-in-NoText c =
@@ -23,7 +23,7 @@ returns-in-NoText c =
     subst (λ (m : Moment). StandsAt c.answer.new.system m)
     (sym (no_text read c.args.task c.args.packet m (space_under c.args.name.now (kept c.args.task m.system))
     (sym c.in-NoText.is ∙ c.in_ok-source_under.ensures.source m stands)))
-    (h m stands))
+    (h m (c.in_ok-source_under.ensures.kept m stands)))
 
 pub returns-in-Text : goal.returns-in-Text
 returns-in-Text c =
@@ -33,4 +33,5 @@ returns-in-Text c =
     (sym (has_text read c.args.task c.args.packet m c.in-Text.text (space_under c.args.name.now (kept c.args.task m.system))
     (sym c.in-Text.is ∙ c.in_ok-source_under.ensures.source m stands)))
     (subst (λ (text : List ℕ). StandsAt c.run_text.new.system (run_text read c.args.task c.args.packet text m)) c.as_slice.ensures
-    (h read reads m store is (rw c.as_slice.ensures (c.in_ok-source_under.ensures.short c.in-Text.text c.in-Text.is)) stands)))
+    (h read reads m store is (rw c.as_slice.ensures (c.in_ok-source_under.ensures.short c.in-Text.text c.in-Text.is))
+    (c.in_ok-source_under.ensures.kept m stands))))

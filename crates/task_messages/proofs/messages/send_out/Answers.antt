@@ -2,6 +2,7 @@ use Rattle.std.proofs.Common.{sym, subst}
 use Rattle.eu_base.specs.DataSpaces.{the_space}
 use Rattle.data_space.specs.Data.{SpaceData}
 use Rattle.task_texts.specs.Below.source_machine.specs.Tasks.{now}
+use Rattle.task_texts.specs.Below.task_job.specs.Here.{here}
 use Rattle.task_messages.specs.Passing.{Carries}
 use Rattle.task_messages.proofs.Passed.{carries, went_out}
 use Rattle.task_messages.proofs.messages.send_out.Goals as goal
@@ -14,3 +15,6 @@ pub returns-clause-carries : goal.returns-clause-carries
 returns-clause-carries c kinds pages own h =
     subst (λ (d : SpaceData). Carries pages d (the_space c.args.s (now own.doing).spaces)) (sym c.take.ensures.space)
     (carries kinds pages c.args.task.now own h c.args.s c.requires.live)
+
+pub returns-clause-frames : goal.returns-clause-frames
+returns-clause-frames c pages = c.take.ensures.frames (here pages)

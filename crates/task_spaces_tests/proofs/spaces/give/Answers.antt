@@ -1,5 +1,5 @@
 use Rattle.task_spaces_tests.proofs.Systems.{◌≡◌, ℕ, [], ◌∷◌, Option, refl, ap, sym, subst, arith, Pages, Stands, SpaceData, stands_first}
-use Rattle.task_spaces_tests.proofs.Systems.{stands_same, frames_same, frames_more, beside, named_first, named_later}
+use Rattle.task_spaces_tests.proofs.Systems.{stands_same, frames_same, frames_more, beside, named_first, named_later, zeros}
 use Rattle.task_spaces_tests.proofs.spaces.give.Goals as goal
 
 stands : (pages : Pages) (space first second was : Option ℕ) → was ≡ second → Stands pages (space ∷ first ∷ second ∷ []) 0
@@ -13,12 +13,12 @@ forget-requires c = record { agree = stands_first _ _ _ _ (stands _ _ _ _ _ (ap 
 pub returns : goal.returns
 returns c =
     let first = c.args.task.now.first.root in
-    let kept = beside _ _ _ _ (c.args.space.root ∷ first ∷ []) 0 (omega arith) c.forget.ensures.frames
+    let kept = beside _ _ _ _ (c.args.space.root ∷ first ∷ []) 0 (omega arith) (c.forget.ensures.frames zeros)
     (stands _ _ _ _ _ (ap (λ (d : SpaceData). d.root) c.replace-was.ensures.value) c.requires.agree) in
     record {
       frames = rw (← c.replace-was.ensures.value, c.replace-was.ensures.after)
           (frames_same _ _ _ _ _ _ (record { long = refl; occs = λ p. omega arith }) (record { long = refl; occs = λ p. omega arith })
-          (frames_more _ _ _ _ (c.args.space.root ∷ first ∷ []) c.forget.ensures.frames));
+          (frames_more _ _ _ _ (c.args.space.root ∷ first ∷ []) (c.forget.ensures.frames zeros)));
       first = kept _ (named_later c.args.space.root first (first ∷ []) (named_first first []));
       given = kept _ (named_first _ (first ∷ []));
       same = rw c.replace-was.ensures.after refl;

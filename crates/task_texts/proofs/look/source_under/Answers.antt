@@ -1,6 +1,6 @@
 use Rattle.task_texts.proofs.Seen.{source_seen}
 use Rattle.task_texts.proofs.look.source_under.Goals as goal
 
-pub returns-clause-source : goal.returns-clause-source
-returns-clause-source c =
-    source_seen c.text_under.result c.args.pool.now c.args.task.now c.args.name.now c.text_under.ensures.none c.text_under.ensures.text
+pub returns-in-Ok-clause-source : goal.returns-in-Ok-clause-source
+returns-in-Ok-clause-source c =
+    source_seen c.in-Ok.source c.args.pool.now c.args.task.now c.args.name.now c.in-Ok.ensures.none c.in-Ok.ensures.text

@@ -1,6 +1,6 @@
 use Rattle.std.proofs.Common.{◌-◌, subst}
 use Rattle.space_memory.specs.Memories.{roots}
-use Rattle.space_memory.specs.Changes.{memory_frames_none, memory_frames_then}
+use Rattle.task_messages.specs.Below.task_job.proofs.Here.{memory_frames_none, memory_frames_then}
 use Rattle.task_messages.specs.Below.source_machine.specs.Stores.{Store}
 use Rattle.task_messages.specs.Below.task_job.specs.Standing.{Keeps}
 use Rattle.task_tidy.specs.Tidied.{kinds_with, tidied_from}

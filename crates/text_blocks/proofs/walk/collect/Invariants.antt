@@ -6,7 +6,7 @@ use Rattle.text_blocks.proofs.walk.collect.Given as goal
 abbrev pub invariant-loop-left : goal.invariant-loop-left
 invariant-loop-left g l = record {
   low : l.block < 4096;
-  text : l.text ++ gather (g.S.Space.content l.fn.space) l.block l.left (blocks_of l.left)
+  text : g.S.Space.known l.fn.space → l.text ++ gather (g.S.Space.content l.fn.space) l.block l.left (blocks_of l.left)
       ≡ gather (g.S.Space.content l.fn.space) l.first l.length (blocks_of l.length);
   same : g.S.Space.content l.space ≡ g.S.Space.content l.fn.space;
   later : g.S.Space.faults l.fn.space ≤ g.S.Space.faults l.space;

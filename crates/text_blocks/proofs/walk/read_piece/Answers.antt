@@ -5,9 +5,9 @@ use Rattle.text_blocks.proofs.Pieces.{bytes_read}
 use Rattle.text_blocks.proofs.walk.read_piece.Goals as goal
 
 pub returns-clause-text : goal.returns-clause-text
-returns-clause-text g c =
+returns-clause-text g c = λ known.
     let content = g.S.Space.content c.args.space.now in
     let at = block_at c.args.block + 4 in
     let long : length c.read.new.into ≡ c.args.size = search rules in
-    let read = subst (λ n. IsRead content n c.read.new.into) (ap (λ n. n + 4) c.block_at.ensures) c.in_ok-read.ensures.bytes in
+    let read = subst (λ n. IsRead content n c.read.new.into) (ap (λ n. n + 4) c.block_at.ensures) (c.in_ok-read.ensures.bytes known) in
     c.in_ok-append.ensures.ok ∙ ap (λ bytes. c.args.text.now ++ bytes) (bytes_read content c.read.new.into at read ∙ ap (bytes_from content at) long)

@@ -4,5 +4,5 @@ use Rattle.text_heap.proofs.Stored.{room}
 use Rattle.text_heap.proofs.text.rooms.Goals as goal
 
 pub returns-clause-texts : goal.returns-clause-texts
-returns-clause-texts g c = λ texts h.
-    ap (λ n. n + blocks_in texts) c.in_ok-count.ensures.count ∙ room (g.S.Space.content c.args.space.now) texts h
+returns-clause-texts g c = λ known texts h.
+    ap (λ n. n + blocks_in texts) (c.in_ok-count.ensures.count known) ∙ room (g.S.Space.content c.args.space.now) texts h

@@ -70,8 +70,8 @@ returns-in-Index-clause-goes g c =
 
 pub returns-in-Field-clause-goes : goal.returns-in-Field-clause-goes
 returns-in-Field-clause-goes g c =
-    goes_so (g.M.Memory.holds c.args.m.now) (g.M.Memory.heads c.args.m.now) c.args.code.now c.args.instr.now (Field c.in-Field.cells) c.args.marks.now (position_of c.args.s.now)
-    (control_of c.field.new.s) c.in-Field.is c.field.ensures
+    so (g.M.Memory.holds c.args.m.now) (g.M.Memory.heads c.args.m.now) c.args.code.now c.args.instr.now (Field c.in-Field.cells) c.args.marks.now (position_of c.args.s.now)
+    (control_of c.field.new.s) c.in-Field.is c.field.result (λ cells. cells) (λ cells. c.field.ensures (mem_of (g.M.Memory.heads c.args.m.now) cells)) (λ cells held. held)
 
 pub returns-in-Content-clause-goes : goal.returns-in-Content-clause-goes
 returns-in-Content-clause-goes g c =

@@ -2,7 +2,7 @@ use Rattle.std.proofs.Common.{◌≡◌, true, false, ◌≤◌, [], ◌∷◌, 
 use Rattle.std.specs.Prelude.{reverse}
 use Rattle.eu_base.specs.Room.{bytes_fit}
 use Rattle.eu_base.specs.Shapes.{cell_kinds}
-use Rattle.eu_base.specs.SpacePlaces.{is_in}
+use Rattle.eu_base.specs.SpacePlaces.{lies_in}
 use Rattle.code_form.specs.declared.operand.Operand.{Operand}
 use Rattle.code_form.specs.declared.operand.Operand.TheVariants as operand
 use Rattle.code_form.specs.declared.instr.Instr.TheVariants.{Load}
@@ -25,7 +25,7 @@ returns-then-len-most-clause-goes g c =
     let t : Stacked = record { ops = finds.rest; frames = s.stack.frames } in
     let there : s.stack ≡ with_ops t (operand.Place a ∷ t.ops) = ap (λ (ops : List Operand). with_ops t ops) finds.top in
     let seen : c.top.result.now ≡ operand.Place a ∷ [] = c.top.ensures ∙ ap (λ (ops : List Operand). reverse (take 1 ops)) finds.top in
-    let here : is_in (cell_kinds c.args.shape.now) a.area a.cell (g.M.Memory.heads c.args.m.now) ≡ true =
+    let here : lies_in (cell_kinds c.args.shape.now) a.area a.cell (g.M.Memory.heads c.args.m.now) ≡ true =
     sym (rw seen at c.in_ok-shape_is_there.ensures) ∙ c.if-not-branch.false in
     accessed holds holds (g.M.Memory.heads c.args.m.now) (Load c.args.shape.now) OperandRoom s.pc s.used s.pc s.used s.stack s.stack _ _ s.waits c.requires.ready.free there there
     (load_least holds holds (g.M.Memory.heads c.args.m.now) c.args.shape.now a s.pc s.used t (λ cells h. h) here
@@ -43,7 +43,7 @@ returns-then-bytes-room-clause-goes g c =
     let t : Stacked = record { ops = finds.rest; frames = s.stack.frames } in
     let there : s.stack ≡ with_ops t (operand.Place a ∷ t.ops) = ap (λ (ops : List Operand). with_ops t ops) finds.top in
     let seen : c.top.result.now ≡ operand.Place a ∷ [] = c.top.ensures ∙ ap (λ (ops : List Operand). reverse (take 1 ops)) finds.top in
-    let here : is_in (cell_kinds c.args.shape.now) a.area a.cell (g.M.Memory.heads c.args.m.now) ≡ true =
+    let here : lies_in (cell_kinds c.args.shape.now) a.area a.cell (g.M.Memory.heads c.args.m.now) ≡ true =
     sym (rw seen at c.in_ok-shape_is_there.ensures) ∙ c.if-not-branch.false in
     let room = c.room_in_place-room.result in
     let held = bytes_on t.ops (bytes_of t.frames) in
@@ -72,7 +72,7 @@ returns-clause-goes g c =
     let t : Stacked = record { ops = finds.rest; frames = s.stack.frames } in
     let there : s.stack ≡ with_ops t (operand.Place a ∷ t.ops) = ap (λ (ops : List Operand). with_ops t ops) finds.top in
     let seen : c.top.result.now ≡ operand.Place a ∷ [] = c.top.ensures ∙ ap (λ (ops : List Operand). reverse (take 1 ops)) finds.top in
-    let here : is_in (cell_kinds c.args.shape.now) a.area a.cell (g.M.Memory.heads c.args.m.now) ≡ true =
+    let here : lies_in (cell_kinds c.args.shape.now) a.area a.cell (g.M.Memory.heads c.args.m.now) ≡ true =
     sym (rw seen at c.in_ok-shape_is_there.ensures) ∙ c.if-not-branch.false in
     let room = c.room_in_place-room.result in
     let held = bytes_on t.ops (bytes_of t.frames) in
@@ -103,7 +103,7 @@ returns-then-not-branch-clause-goes g c =
     let t : Stacked = record { ops = finds.rest; frames = s.stack.frames } in
     let there : s.stack ≡ with_ops t (operand.Place a ∷ t.ops) = ap (λ (ops : List Operand). with_ops t ops) finds.top in
     let seen : c.top.result.now ≡ operand.Place a ∷ [] = c.top.ensures ∙ ap (λ (ops : List Operand). reverse (take 1 ops)) finds.top in
-    let gone : is_in (cell_kinds c.args.shape.now) a.area a.cell heads ≡ false = sym (rw seen at c.in_ok-shape_is_there.ensures) ∙ c.if-not-branch.true in
+    let gone : lies_in (cell_kinds c.args.shape.now) a.area a.cell heads ≡ false = sym (rw seen at c.in_ok-shape_is_there.ensures) ∙ c.if-not-branch.true in
     accessed holds holds heads (Load c.args.shape.now) NoSpace s.pc s.used s.pc s.used s.stack s.stack _ _ s.waits c.requires.ready.free there there
     (load_gone holds holds heads c.args.shape.now a s.pc s.used t (λ cells h. h) gone)
 
@@ -113,6 +113,6 @@ values_at-requires-clause-there g c =
     let finds = c.requires.finds in
     let a = finds.place in
     let seen : c.top.result.now ≡ operand.Place a ∷ [] = c.top.ensures ∙ ap (λ (ops : List Operand). reverse (take 1 ops)) finds.top in
-    let here : is_in (cell_kinds c.args.shape.now) a.area a.cell (g.M.Memory.heads c.args.m.now) ≡ true =
+    let here : lies_in (cell_kinds c.args.shape.now) a.area a.cell (g.M.Memory.heads c.args.m.now) ≡ true =
     sym (rw seen at c.in_ok-shape_is_there.ensures) ∙ c.if-not-branch.false in
     rw seen (there_of (cell_kinds c.args.shape.now) a.area a.cell (g.M.Memory.heads c.args.m.now) here)

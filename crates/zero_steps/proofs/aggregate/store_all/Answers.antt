@@ -4,7 +4,7 @@ use Rattle.code_form.specs.declared.operand.Operand.{Operand}
 use Rattle.code_form.specs.declared.operand.Operand.TheVariants as operand
 use Rattle.code_form.specs.declared.instr.Instr.TheVariants.{Store}
 use Rattle.eu_base.specs.Values.{kind_of}
-use Rattle.eu_base.specs.SpacePlaces.{is_in}
+use Rattle.eu_base.specs.SpacePlaces.{lies_in}
 use Rattle.zero_state.specs.Finds.{all_of}
 use Rattle.zero_state.specs.Stacked.{Stacked}
 use Rattle.zero_state.specs.declared.next.Next.TheVariants.{On, TextRoom, NoSpace}
@@ -26,8 +26,8 @@ returns-in-Done-clause-goes g c = λ shape.
     let there : s.stack ≡ with_ops t (o ∷ operand.Place a ∷ t.ops) = ap (λ (ops : List Operand). with_ops t ops) finds.top in
     let seen : c.top.result.now ≡ operand.Place a ∷ o ∷ [] = c.top.ensures ∙ ap (λ (ops : List Operand). reverse (take 2 ops)) finds.top in
     let same : c.operand-item.result ≡ o = rw seen at c.operand-item.is in
-    let here : is_in (map kind_of (all_of o)) a.area a.cell (g.M.Memory.heads c.args.m.now) ≡ true =
-    sym (subst (λ o. c.in_ok-is_operand_there.field-0 ≡ is_in (map kind_of (all_of o)) a.area a.cell (g.M.Memory.heads c.args.m.now)) same
+    let here : lies_in (map kind_of (all_of o)) a.area a.cell (g.M.Memory.heads c.args.m.now) ≡ true =
+    sym (subst (λ o. c.in_ok-is_operand_there.field-0 ≡ lies_in (map kind_of (all_of o)) a.area a.cell (g.M.Memory.heads c.args.m.now)) same
     (rw seen at c.in_ok-is_operand_there.ensures)) ∙ c.if-not-branch.false in
     let puts : PutsAll before after a (all_of c.operand-item.result) c.in_ok-put_operand.field-0 = rw seen at c.in_ok-put_operand.ensures.puts in
     accessed before after (g.M.Memory.heads c.args.m.now) (Store shape) On s.pc s.used (s.pc + 1) s.used s.stack c.drop_top.new.self _ t s.waits c.requires.ready.free there
@@ -47,8 +47,8 @@ returns-in-HeapFull-clause-goes g c = λ shape.
     let there : s.stack ≡ with_ops t (o ∷ operand.Place a ∷ t.ops) = ap (λ (ops : List Operand). with_ops t ops) finds.top in
     let seen : c.top.result.now ≡ operand.Place a ∷ o ∷ [] = c.top.ensures ∙ ap (λ (ops : List Operand). reverse (take 2 ops)) finds.top in
     let same : c.operand-item.result ≡ o = rw seen at c.operand-item.is in
-    let here : is_in (map kind_of (all_of o)) a.area a.cell (g.M.Memory.heads c.args.m.now) ≡ true =
-    sym (subst (λ o. c.in_ok-is_operand_there.field-0 ≡ is_in (map kind_of (all_of o)) a.area a.cell (g.M.Memory.heads c.args.m.now)) same
+    let here : lies_in (map kind_of (all_of o)) a.area a.cell (g.M.Memory.heads c.args.m.now) ≡ true =
+    sym (subst (λ o. c.in_ok-is_operand_there.field-0 ≡ lies_in (map kind_of (all_of o)) a.area a.cell (g.M.Memory.heads c.args.m.now)) same
     (rw seen at c.in_ok-is_operand_there.ensures)) ∙ c.if-not-branch.false in
     let puts : PutsAll before after a (all_of c.operand-item.result) c.in_ok-put_operand.field-0 = rw seen at c.in_ok-put_operand.ensures.puts in
     accessed before after (g.M.Memory.heads c.args.m.now) (Store shape) TextRoom s.pc s.used s.pc s.used s.stack s.stack _ _ s.waits c.requires.ready.free there there
@@ -67,8 +67,8 @@ returns-then-not-branch-clause-goes g c = λ shape.
     let there : s.stack ≡ with_ops t (o ∷ operand.Place a ∷ t.ops) = ap (λ (ops : List Operand). with_ops t ops) finds.top in
     let seen : c.top.result.now ≡ operand.Place a ∷ o ∷ [] = c.top.ensures ∙ ap (λ (ops : List Operand). reverse (take 2 ops)) finds.top in
     let same : c.operand-item.result ≡ o = rw seen at c.operand-item.is in
-    let gone : is_in (map kind_of (all_of o)) a.area a.cell heads ≡ false =
-    sym (subst (λ o. c.in_ok-is_operand_there.field-0 ≡ is_in (map kind_of (all_of o)) a.area a.cell heads) same
+    let gone : lies_in (map kind_of (all_of o)) a.area a.cell heads ≡ false =
+    sym (subst (λ o. c.in_ok-is_operand_there.field-0 ≡ lies_in (map kind_of (all_of o)) a.area a.cell heads) same
     (rw seen at c.in_ok-is_operand_there.ensures)) ∙ c.if-not-branch.true in
     accessed holds holds heads (Store shape) NoSpace s.pc s.used s.pc s.used s.stack s.stack _ _ s.waits c.requires.ready.free there there
     (store_gone holds holds heads shape o finds.value a finds.cell s.pc s.used t
@@ -80,6 +80,6 @@ put_operand-requires-clause-there g c =
     let o = finds.operand in
     let a = finds.place in
     let seen : c.top.result.now ≡ operand.Place a ∷ o ∷ [] = c.top.ensures ∙ ap (λ (ops : List Operand). reverse (take 2 ops)) finds.top in
-    let here : is_in (map kind_of (all_of c.operand-item.result)) a.area a.cell (g.M.Memory.heads c.args.m.now) ≡ true =
+    let here : lies_in (map kind_of (all_of c.operand-item.result)) a.area a.cell (g.M.Memory.heads c.args.m.now) ≡ true =
     sym (rw seen at c.in_ok-is_operand_there.ensures) ∙ c.if-not-branch.false in
     rw seen (there_of (map kind_of (all_of c.operand-item.result)) a.area a.cell (g.M.Memory.heads c.args.m.now) here)

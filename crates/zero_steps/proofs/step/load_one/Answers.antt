@@ -6,7 +6,7 @@ use Rattle.eu_base.specs.declared.shape.Shape.TheVariants.{Cell}
 use Rattle.code_form.specs.declared.instr.Instr.TheVariants.{Load}
 use Rattle.zero_state.specs.Stacked.{Stacked}
 use Rattle.zero_state.specs.declared.next.Next.TheVariants.{On, OperandRoom, NoSpace}
-use Rattle.eu_base.specs.SpacePlaces.{is_in}
+use Rattle.eu_base.specs.SpacePlaces.{lies_in}
 use Rattle.zero_values.specs.Reading.{Reads}
 use Rattle.zero_values.proofs.Accessing.{accessed, with_ops}
 use Rattle.zero_steps.proofs.Aggregates.{one_there, one_gone, load_gone, load_goes, load_stops, one_read, one_fits}
@@ -23,7 +23,7 @@ returns-then-not-has_room_in_place-clause-goes g c =
     let t : Stacked = record { ops = c.requires.finds.rest; frames = s.stack.frames } in
     let there : s.stack ≡ with_ops t (operand.Place a ∷ t.ops) = ap (λ (ops : List Operand). with_ops t ops) c.requires.finds.top in
     let seen : c.top.result.now ≡ operand.Place a ∷ [] = c.top.ensures ∙ ap (λ (u : Stacked). reverse (take 1 u.ops)) there in
-    let here : is_in (c.args.kind ∷ []) a.area a.cell (g.M.Memory.heads c.args.m.now) ≡ true =
+    let here : lies_in (c.args.kind ∷ []) a.area a.cell (g.M.Memory.heads c.args.m.now) ≡ true =
     sym (rw seen at c.is_there.ensures) ∙ c.if-not-is_there.false in
     let reads : Reads before a c.args.kind c.in_ok-value.value = rw seen at c.in_ok-value.ensures.reads in
     accessed before after (g.M.Memory.heads c.args.m.now) (Load (Cell c.args.kind)) OperandRoom s.pc s.used s.pc s.used s.stack s.stack _ _ s.waits c.requires.ready.free there there
@@ -50,7 +50,7 @@ returns-clause-goes g c =
     let t : Stacked = record { ops = c.requires.finds.rest; frames = s.stack.frames } in
     let there : s.stack ≡ with_ops t (operand.Place a ∷ t.ops) = ap (λ (ops : List Operand). with_ops t ops) c.requires.finds.top in
     let seen : c.top.result.now ≡ operand.Place a ∷ [] = c.top.ensures ∙ ap (λ (u : Stacked). reverse (take 1 u.ops)) there in
-    let here : is_in (c.args.kind ∷ []) a.area a.cell (g.M.Memory.heads c.args.m.now) ≡ true =
+    let here : lies_in (c.args.kind ∷ []) a.area a.cell (g.M.Memory.heads c.args.m.now) ≡ true =
     sym (rw seen at c.is_there.ensures) ∙ c.if-not-is_there.false in
     let reads : Reads before a c.args.kind v = rw seen at c.in_ok-value.ensures.reads in
     accessed before after (g.M.Memory.heads c.args.m.now) (Load (Cell c.args.kind)) On s.pc s.used (s.pc + 1) s.used s.stack c.replace_top.new.self _ (with_ops t (operand.Value v ∷ t.ops)) s.waits
@@ -69,7 +69,7 @@ returns-then-not-is_there-clause-goes g c =
     let t : Stacked = record { ops = c.requires.finds.rest; frames = s.stack.frames } in
     let there : s.stack ≡ with_ops t (operand.Place a ∷ t.ops) = ap (λ (ops : List Operand). with_ops t ops) c.requires.finds.top in
     let seen : c.top.result.now ≡ operand.Place a ∷ [] = c.top.ensures ∙ ap (λ (u : Stacked). reverse (take 1 u.ops)) there in
-    let gone : is_in (c.args.kind ∷ []) a.area a.cell heads ≡ false = sym (rw seen at c.is_there.ensures) ∙ c.if-not-is_there.true in
+    let gone : lies_in (c.args.kind ∷ []) a.area a.cell heads ≡ false = sym (rw seen at c.is_there.ensures) ∙ c.if-not-is_there.true in
     accessed holds holds heads (Load (Cell c.args.kind)) NoSpace s.pc s.used s.pc s.used s.stack s.stack _ _ s.waits c.requires.ready.free there there
     (load_gone holds holds heads (Cell c.args.kind) a s.pc s.used t (λ cells h. h) (one_gone a c.args.kind heads gone))
 
@@ -80,6 +80,6 @@ value_at-requires-clause-there g c =
     let t : Stacked = record { ops = c.requires.finds.rest; frames = s.stack.frames } in
     let there : s.stack ≡ with_ops t (operand.Place a ∷ t.ops) = ap (λ (ops : List Operand). with_ops t ops) c.requires.finds.top in
     let seen : c.top.result.now ≡ operand.Place a ∷ [] = c.top.ensures ∙ ap (λ (u : Stacked). reverse (take 1 u.ops)) there in
-    let here : is_in (c.args.kind ∷ []) a.area a.cell (g.M.Memory.heads c.args.m.now) ≡ true =
+    let here : lies_in (c.args.kind ∷ []) a.area a.cell (g.M.Memory.heads c.args.m.now) ≡ true =
     sym (rw seen at c.is_there.ensures) ∙ c.if-not-is_there.false in
     rw seen (there_of (c.args.kind ∷ []) a.area a.cell (g.M.Memory.heads c.args.m.now) here)

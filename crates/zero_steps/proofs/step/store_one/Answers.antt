@@ -3,7 +3,7 @@ use Rattle.std.specs.Prelude.{reverse}
 use Rattle.eu_base.specs.declared.set.Set.TheVariants.{Done, HeapFull}
 use Rattle.eu_base.specs.Values.{kind_of}
 use Rattle.eu_base.specs.Cells.{IsCell, held_of}
-use Rattle.eu_base.specs.SpacePlaces.{is_in}
+use Rattle.eu_base.specs.SpacePlaces.{lies_in}
 use Rattle.code_form.specs.declared.operand.Operand.{Operand}
 use Rattle.code_form.specs.declared.operand.Operand.TheVariants as operand
 use Rattle.code_form.specs.declared.instr.Instr.TheVariants.{Store}
@@ -28,8 +28,8 @@ returns-in-Done-clause-goes g c = λ shape.
     let seen : c.top.result.now ≡ operand.Place a ∷ operand.Value v ∷ [] =
     c.top.ensures ∙ ap (λ (u : Stacked). reverse (take 2 u.ops)) taken in
     let cell : IsCell a = both_cell s.stack t v a taken c.requires.finds in
-    let here : is_in (kind_of v ∷ []) a.area a.cell (g.M.Memory.heads c.args.m.now) ≡ true =
-    sym (rw seen at c.is_there.ensures ∙ ap (λ k. is_in (k ∷ []) a.area a.cell (g.M.Memory.heads c.args.m.now)) (rw seen at c.kind_of.ensures))
+    let here : lies_in (kind_of v ∷ []) a.area a.cell (g.M.Memory.heads c.args.m.now) ≡ true =
+    sym (rw seen at c.is_there.ensures ∙ ap (λ k. lies_in (k ∷ []) a.area a.cell (g.M.Memory.heads c.args.m.now)) (rw seen at c.kind_of.ensures))
     ∙ c.if-not-is_there.false in
     let puts : PutsTaken before after a (held_of v) c.in_ok-put.field-0 = rw seen at c.in_ok-put.ensures.puts in
     accessed before after (g.M.Memory.heads c.args.m.now) (Store shape) On s.pc s.used (s.pc + 1) s.used s.stack t _ t s.waits c.requires.ready.free taken refl
@@ -48,8 +48,8 @@ returns-in-HeapFull-clause-goes g c = λ shape.
     ap (λ (ops : List Operand). with_ops t ops) c.requires.finds.top in
     let seen : c.top.result.now ≡ operand.Place a ∷ operand.Value v ∷ [] =
     c.top.ensures ∙ ap (λ (u : Stacked). reverse (take 2 u.ops)) there in
-    let here : is_in (kind_of v ∷ []) a.area a.cell (g.M.Memory.heads c.args.m.now) ≡ true =
-    sym (rw seen at c.is_there.ensures ∙ ap (λ k. is_in (k ∷ []) a.area a.cell (g.M.Memory.heads c.args.m.now)) (rw seen at c.kind_of.ensures))
+    let here : lies_in (kind_of v ∷ []) a.area a.cell (g.M.Memory.heads c.args.m.now) ≡ true =
+    sym (rw seen at c.is_there.ensures ∙ ap (λ k. lies_in (k ∷ []) a.area a.cell (g.M.Memory.heads c.args.m.now)) (rw seen at c.kind_of.ensures))
     ∙ c.if-not-is_there.false in
     let puts : PutsTaken before after a (held_of v) c.in_ok-put.field-0 = rw seen at c.in_ok-put.ensures.puts in
     accessed before after (g.M.Memory.heads c.args.m.now) (Store shape) TextRoom s.pc s.used s.pc s.used s.stack s.stack _ _ s.waits c.requires.ready.free there there
@@ -68,8 +68,8 @@ returns-then-not-is_there-clause-goes g c = λ shape.
     ap (λ (ops : List Operand). with_ops t ops) c.requires.finds.top in
     let seen : c.top.result.now ≡ operand.Place a ∷ operand.Value v ∷ [] =
     c.top.ensures ∙ ap (λ (u : Stacked). reverse (take 2 u.ops)) there in
-    let gone : is_in (kind_of v ∷ []) a.area a.cell heads ≡ false =
-    sym (rw seen at c.is_there.ensures ∙ ap (λ k. is_in (k ∷ []) a.area a.cell heads) (rw seen at c.kind_of.ensures)) ∙ c.if-not-is_there.true in
+    let gone : lies_in (kind_of v ∷ []) a.area a.cell heads ≡ false =
+    sym (rw seen at c.is_there.ensures ∙ ap (λ k. lies_in (k ∷ []) a.area a.cell heads) (rw seen at c.kind_of.ensures)) ∙ c.if-not-is_there.true in
     accessed holds holds heads (Store shape) NoSpace s.pc s.used s.pc s.used s.stack s.stack _ _ s.waits c.requires.ready.free there there
     (store_gone holds holds heads shape (operand.Value v) refl a c.requires.finds.cell s.pc s.used t (omega arith) (λ cells h. h) gone)
 
@@ -83,6 +83,6 @@ put-requires-clause-there g c =
     ap (λ (ops : List Operand). with_ops t ops) c.requires.finds.top in
     let seen : c.top.result.now ≡ operand.Place a ∷ operand.Value v ∷ [] =
     c.top.ensures ∙ ap (λ (u : Stacked). reverse (take 2 u.ops)) there in
-    let here : is_in (c.kind_of.result ∷ []) a.area a.cell (g.M.Memory.heads c.args.m.now) ≡ true =
+    let here : lies_in (c.kind_of.result ∷ []) a.area a.cell (g.M.Memory.heads c.args.m.now) ≡ true =
     sym (rw seen at c.is_there.ensures) ∙ c.if-not-is_there.false in
     rw seen (there_of (c.kind_of.result ∷ []) a.area a.cell (g.M.Memory.heads c.args.m.now) here)

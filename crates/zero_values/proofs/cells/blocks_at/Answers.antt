@@ -18,7 +18,7 @@ old_blocks-requires-clause-there g c =
 
 pub loop-value-preserved : goal.loop-value-preserved
 loop-value-preserved g c = record {
-  place = step_on c.loop-value.value-index c.args.at c.loop-value.place c.further-place.result c.loop-value.invariant.place c.further-place.ensures;
+  place = step_on c.loop-value.value-index c.args.at c.loop-value.place c.next-place.result c.loop-value.invariant.place c.next-place.ensures;
   had = λ cells h taken.
       let i = c.loop-value.value-index in
       let v = c.value-item.result in

@@ -19,7 +19,7 @@ put_one-requires-clause-there g c =
 
 pub loop-value-preserved : goal.loop-value-preserved
 loop-value-preserved g c = record {
-  place = step_on c.loop-value.value-index c.args.at c.loop-value.place c.further-place.result c.loop-value.invariant.place c.further-place.ensures;
+  place = step_on c.loop-value.value-index c.args.at c.loop-value.place c.next-place.result c.loop-value.invariant.place c.next-place.ensures;
   put = λ cells h taken fits.
       let now = g.M.Memory.holds c.loop-value.m in
       let after = g.M.Memory.holds c.put_one.new.m in

@@ -15,7 +15,7 @@ value_at-requires-clause-there g c =
 
 pub loop-kind-preserved : goal.loop-kind-preserved
 loop-kind-preserved g c = record {
-  place = step_on c.loop-kind.kind-index c.args.at c.loop-kind.place c.further-place.result c.loop-kind.invariant.place c.further-place.ensures;
+  place = step_on c.loop-kind.kind-index c.args.at c.loop-kind.place c.next-place.result c.loop-kind.invariant.place c.next-place.ensures;
   reads =
       read_more (g.M.Memory.holds c.args.m.now) c.args.at c.loop-kind.place c.args.kinds.now c.loop-kind.kind-index _ _ c.in_ok-value_at.field-0 c.loop-kind.values
       c.push.new.self c.loop-kind-test.true refl c.loop-kind.invariant.place c.loop-kind.invariant.reads

@@ -1,5 +1,6 @@
-use Rattle.std.proofs.Common.{List, ℕ, ◌≤◌, length, sym, subst, arith}
-use Rattle.page_table.specs.Frames.{Stands, Frames}
+use Rattle.std.proofs.Common.{List, ℕ, None, ◌≤◌, length, sym, subst, arith}
+use Rattle.page_pool.specs.Pool.{Tell}
+use Rattle.page_table.specs.Frames.{over, Stands, Frames}
 use Rattle.page_table.proofs.Framing.{frames_none, frames_then, stands_after}
 use Rattle.data_space.specs.Data.{SpaceData}
 use Rattle.live_spaces.specs.Live.{LiveData, space_roots}
@@ -9,8 +10,8 @@ use Rattle.live_spaces.proofs.live.Spaces.end.Goals as goal
 pub loop-space-init : goal.loop-space-init
 loop-space-init c = record {
   stands = subst (λ (live : LiveData). Stands c.args.pool.now (space_roots live.spaces) 0) (sym c.self.view_is) c.requires.agree;
-  frames = subst (λ (live : LiveData). Frames c.args.pool.now c.args.pool.now (space_roots live.spaces) (space_roots c.self.inside.spaces.entries)) c.self.view_is
-      (frames_none _ _);
+  frames = λ tell. subst (λ (live : LiveData). Frames (over c.args.pool.now tell) (over c.args.pool.now tell) (space_roots live.spaces) (space_roots c.self.inside.spaces.entries)) c.self.view_is
+      (frames_none (over c.args.pool.now tell) _);
   fewer = subst (λ (live : LiveData). length (space_roots c.self.inside.spaces.entries) ≤ length (space_roots live.spaces)) c.self.view_is (omega arith);
   frees = frees_none _;
   used = omega arith;
@@ -21,19 +22,19 @@ forget-requires c = record { agree = last_stands _ _ _ _ c.in-Some.ensures.entri
 
 pub loop-space-preserved : goal.loop-space-preserved
 loop-space-preserved c =
-    let frames = last_frames _ _ _ _ c.in-Some.ensures.entries _ _ c.forget.ensures.frames in
+    let frames = λ (tell : Tell). last_frames _ _ _ _ c.in-Some.ensures.entries (over c.loop-space.pool tell) (over c.forget.new.pool tell) (c.forget.ensures.frames tell) in
     let inv = c.loop-space.invariant in
     let fewer = last_fewer _ _ _ _ c.in-Some.ensures.entries in
     record {
-      stands = stands_after _ _ _ _ 0 0 (omega (arith, fewer)) frames inv.stands;
-      frames = frames_then _ _ _ _ _ _ (omega (arith, inv.fewer)) inv.frames frames;
+      stands = stands_after (over c.loop-space.pool None) (over c.forget.new.pool None) _ _ 0 0 (omega (arith, fewer)) (frames None) inv.stands;
+      frames = λ tell. frames_then (over c.args.pool.now tell) (over c.loop-space.pool tell) (over c.forget.new.pool tell) _ _ _ (omega (arith, inv.fewer)) (inv.frames tell) (frames tell);
       fewer = omega (arith, inv.fewer, fewer);
       frees = frees_then _ _ _ inv.frees c.forget.ensures.frees;
       used = omega (arith, inv.used, c.forget.ensures.used);
     }
 
 pub returns-clause-frames : goal.returns-clause-frames
-returns-clause-frames c =
+returns-clause-frames c = λ tell.
     let none = none_left c.loop-space.spaces.entries c.in_default.ensures.found.1 in
-    subst (λ (es : List (ℕ × SpaceData)). Frames c.args.pool.now c.loop-space.pool (space_roots c.args.self.spaces) (space_roots es)) none
-    c.loop-space.invariant.frames
+    subst (λ (es : List (ℕ × SpaceData)). Frames (over c.args.pool.now tell) (over c.loop-space.pool tell) (space_roots c.args.self.spaces) (space_roots es)) none
+    (c.loop-space.invariant.frames tell)

@@ -1,14 +1,14 @@
 use Rattle.std.proofs.Common.{◌≤◌, length}
-use Rattle.page_pool.specs.Pool.{used_of}
+use Rattle.page_pool.specs.Pool.{used_of, Tell}
 use Rattle.page_table.specs.Changes.{FreesOnly}
-use Rattle.page_table.specs.Frames.{Frames, Stands}
+use Rattle.page_table.specs.Frames.{over, Frames, Stands}
 use Rattle.live_spaces.specs.Live.{space_roots}
 use Rattle.live_spaces.proofs.live.Spaces.end.Given as goal
 
 abbrev pub invariant-loop-space : goal.invariant-loop-space
 invariant-loop-space l = record {
   stands : Stands l.pool (space_roots l.spaces.entries) 0;
-  frames : Frames l.fn.pool l.pool (space_roots l.fn.self.spaces) (space_roots l.spaces.entries);
+  frames : (tell : Tell) → Frames (over l.fn.pool tell) (over l.pool tell) (space_roots l.fn.self.spaces) (space_roots l.spaces.entries);
   fewer : length (space_roots l.spaces.entries) ≤ length (space_roots l.fn.self.spaces);
   frees : FreesOnly l.fn.pool l.pool;
   used : used_of l.pool ≤ used_of l.fn.pool;

@@ -5,7 +5,8 @@ use Rattle.live_packets.specs.Below.source_machine.specs.Systems.{kept_by}
 use Rattle.live_system.specs.declared.what.SourceText.TheVariants as sources
 use Rattle.live_system.specs.Texts.{source_of, as_told}
 use Rattle.live_system.proofs.Told.{told_source, told_short}
-use Rattle.live_system.proofs.Moments.{none_looked, task_looked}
+use Rattle.live_packets.specs.Packets.{kinds_in}
+use Rattle.live_system.proofs.Moments.{none_looked, task_looked, same_owns}
 use Rattle.live_system.proofs.system.System.source_under.Goals as goal
 
 pub returns-in-None-clause-source : goal.returns-in-None-clause-source
@@ -22,3 +23,13 @@ returns-in_ok-source_under-in-Some-clause-source c =
 
 pub returns-in_ok-source_under-in-Some-clause-short : goal.returns-in_ok-source_under-in-Some-clause-short
 returns-in_ok-source_under-in-Some-clause-short c = λ text is. told_short c.in_ok-source_under-in-Some.field-0 text c.in_ok-source_under-in-Some.ensures.short (sym c.told.ensures ∙ is)
+
+pub returns-in_ok-source_under-in-Some-clause-kept : goal.returns-in_ok-source_under-in-Some-clause-kept
+returns-in_ok-source_under-in-Some-clause-kept c = λ m s.
+    same_owns c.self.inside.desk c.self.inside.packets c.self.inside.tasks c.args.self.now c.self.view_is c.source_under.new.self
+    (λ owns stand. c.in_ok-source_under-in-Some.ensures.kept (kinds_in c.self.inside.packets) owns stand) m s
+
+pub returns-in_err-source_under-in-Some-clause-kept : goal.returns-in_err-source_under-in-Some-clause-kept
+returns-in_err-source_under-in-Some-clause-kept c = λ m s.
+    same_owns c.self.inside.desk c.self.inside.packets c.self.inside.tasks c.args.self.now c.self.view_is c.source_under.new.self
+    (λ owns stand. c.in_err-source_under-in-Some.ensures.kept (kinds_in c.self.inside.packets) owns stand) m s

@@ -2,6 +2,7 @@ use Rattle.std.proofs.Common.{ℕ, ◌+◌, length, set, ap, ◌∙◌, length-s
 use Rattle.eu_base.specs.DataSpaces.{Heads, the_space}
 use Rattle.eu_base.specs.declared.request.Reply.TheVariants.{Taken, Message}
 use Rattle.eu_base.specs.Requests.{plain}
+use Rattle.task_tidy.specs.Below.task_job.specs.Here.{nowhere}
 use Rattle.task_tidy.specs.Below.source_machine.specs.Tasks.{now}
 use Rattle.task_tidy.specs.Below.task_texts.proofs.Seen.{heads_now}
 use Rattle.live_tasks.specs.Tasks.{Live}
@@ -62,7 +63,7 @@ invariant_of-self-in-Err c =
     lost_it c.self.inside.pool c.self.inside.tasks.items c.args.self.now c.self.view_is c.self.invariant c.args.from c.args.to c.args.space c.requires.go
     c.index_mut-giver.result.now at c.send_out-sent.new.task c.send_out-sent.ensures.same c.index_mut-taker.result.now c.requires.to
     c.index_mut-taker.ensures.value c.send_out-sent.result (c.send_out-sent.ensures.frames c.self.inside.pool) c.in-Err.back c.in-Err.ensures.back
-    c.forget.new.pool c.forget.ensures.frames c.take_in.new.task c.in-Err.ensures.err
+    c.forget.new.pool (c.forget.ensures.frames nowhere) c.take_in.new.task c.in-Err.ensures.err
 
 pub returns-in-Ok-clause-many : goal.returns-in-Ok-clause-many
 returns-in-Ok-clause-many c =

@@ -28,12 +28,12 @@ pub returns : goal.returns
 returns c =
     let at = reads c.self.inside.pool c.self.inside.tasks.items c.args.self.now c.args.k c.index_mut-task.result.now c.self.view_is c.requires.task
     c.index_mut-task.ensures.value in
-    on_ok_weaker c.start.result (λ starts kinds_of owns own store h has idle kinds.
+    on_ok_weaker c.start.result (λ starts kinds_of owns own store i h has idle kinds.
     let all = stood kinds_of c.self.inside.pool c.self.inside.tasks.items c.args.self.now owns c.self.view_is h in
     let mine = stands_at kinds_of c.self.inside.pool c.self.inside.tasks.items owns c.args.k c.index_mut-task.result.now own all at has in
     let of : List Kind → Type 0 = λ ks. StandsFor ks c.self.inside.pool c.index_mut-task.result.now own in
     let after : List Kind → Type 0 = λ ks. StandsFor ks c.start.new.pool c.start.new.self (with_doing (Running (starting c.args.unit store)) own) in
     call_set c.self.inside.pool c.start.new.pool c.self.inside.tasks.items c.args.k c.index_mut-task.result.now at c.self.invariant c.start.new.self c.start.ensures.frames
     kinds_of owns all own has (with_doing (Running (starting c.args.unit store)))
-    (subst after kinds (starts own store idle (subst of (sym kinds) mine))))
+    (subst after kinds (starts own store i idle (subst of (sym kinds) mine))))
     c.start.ensures.starts

@@ -1,4 +1,4 @@
-use Rattle.std.proofs.Common.{arith}
+use Rattle.std.proofs.Common.{arith, None}
 use Rattle.space_memory.specs.Memories.{roots}
 use Rattle.space_memory.proofs.Framed.{roots_long}
 use Rattle.memory_tests.proofs.Tasks.{first_stands, first_after, fewer}
@@ -12,5 +12,5 @@ invariant_of-self c =
     let few = fewer c.args.s.0 _ _ c.forget.ensures.forgotten in
     record {
       agree = first_after _ (roots c.args.self.now.other) _ _ _ (omega (arith, few, roots_long c.args.self.now.memory.spaces, roots_long c.forget.new.self.spaces))
-          c.forget.ensures.frames c.args.self.now.agree;
+          (c.forget.ensures.frames None) c.args.self.now.agree;
     }

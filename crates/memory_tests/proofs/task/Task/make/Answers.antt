@@ -1,4 +1,4 @@
-use Rattle.std.proofs.Common.{arith}
+use Rattle.std.proofs.Common.{arith, None}
 use Rattle.memory_tests.proofs.Tasks.{memory_stands, memory_after}
 use Rattle.memory_tests.proofs.task.Task.make.Goals as goal
 
@@ -15,5 +15,5 @@ invariant_of-self c =
     let after = c.count-then-last_number-lt1000.ensures in
     record {
       agree = memory_after _ c.args.self.now.memory c.args.self.now.other (omega (arith, also.count, also.few)) c.args.self.now.agree _ c.make.new.self
-          (omega (arith, after.count, after.few)) c.make.ensures.frames;
+          (omega (arith, after.count, after.few)) (c.make.ensures.frames None);
     }

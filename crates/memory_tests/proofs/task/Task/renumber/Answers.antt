@@ -1,4 +1,4 @@
-use Rattle.std.proofs.Common.{sym, arith}
+use Rattle.std.proofs.Common.{sym, arith, None}
 use Rattle.space_memory.specs.Memories.{roots}
 use Rattle.memory_tests.proofs.Tasks.{taken, given, in_hand, let_go, fewer}
 use Rattle.memory_tests.proofs.task.Task.renumber.Goals as goal
@@ -24,4 +24,4 @@ pub invariant_of-self-in-Err : goal.invariant_of-self-in-Err
 invariant_of-self-in-Err c =
     let other = roots c.args.self.now.other in
     let held = taken other _ c.args.s.0 _ _ _ (sym c.if-live.ensures) c.take-space.ensures.space c.take-space.ensures.forgotten c.args.self.now.agree in
-    record { agree = rw c.in-Err.ensures.err (let_go _ _ _ _ (rw c.in-Err.ensures.back at c.forget.ensures.frames) held) }
+    record { agree = rw c.in-Err.ensures.err (let_go _ _ _ _ (rw c.in-Err.ensures.back at (c.forget.ensures.frames None)) held) }

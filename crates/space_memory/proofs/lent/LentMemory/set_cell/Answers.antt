@@ -1,3 +1,4 @@
+use Rattle.page_table.proofs.Framing.{homes_backed}
 use Rattle.std.proofs.Common.{refl}
 use Rattle.eu_base.specs.declared.address.Area.TheVariants.{Run, Packets, Space}
 use Rattle.space_memory.proofs.Areas.{left, of_run, of_packets, of_space, live_area}
@@ -6,58 +7,67 @@ use Rattle.space_memory.proofs.Held.{number_put}
 use Rattle.space_memory.proofs.lent.LentMemory.set_cell.Goals as goal
 
 pub set_run_cell-requires-clause-agree : goal.set_run_cell-requires-clause-agree
-set_run_cell-requires-clause-agree c = stands_now _ _ c.args.self.now.agree
+set_run_cell-requires-clause-agree g c = stands_now _ _ c.args.self.now.agree
 
 pub invariant_of-self : goal.invariant_of-self
-invariant_of-self c = record { agree = (left Run _ _ _ _ (of_run _ _ _ _ c.set_run_cell.ensures.rest) c.set_run_cell.ensures.frames c.args.self.now.agree).whole }
+invariant_of-self g c = record {
+  agree = (left Run _ _ _ _ (of_run _ _ _ _ c.set_run_cell.ensures.rest) c.set_run_cell.ensures.frames c.args.self.now.agree).whole;
+  backed = homes_backed _ _ (g.met.B.Backing.same_held _ _ c.set_run_cell.ensures.follows) c.set_run_cell.ensures.frames.homes c.args.self.now.backed;
+}
 
 pub returns-in-Run-clause-written : goal.returns-in-Run-clause-written
-returns-in-Run-clause-written c =
+returns-in-Run-clause-written g c =
     number_put Run _ _ _ _ refl (of_run _ _ _ _ c.set_run_cell.ensures.rest).leaves c.args.at c.in-Run.is c.requires.cell _ c.args.number c.set_run_cell.ensures.holds c.set_run_cell.ensures.kept
 
 pub returns-in-Run-clause-heads : goal.returns-in-Run-clause-heads
-returns-in-Run-clause-heads c = (of_run _ _ _ _ c.set_run_cell.ensures.rest).heads
+returns-in-Run-clause-heads g c = (of_run _ _ _ _ c.set_run_cell.ensures.rest).heads
 
 pub returns-in-Run-clause-follows : goal.returns-in-Run-clause-follows
-returns-in-Run-clause-follows c =
+returns-in-Run-clause-follows g c =
     let l = left Run _ _ _ _ (of_run _ _ _ _ c.set_run_cell.ensures.rest) c.set_run_cell.ensures.frames c.args.self.now.agree in
-    record { memory_name = refl; pool_name = refl; run_kind = l.only.run_kind; packets_kind = l.only.packets_kind; frames = l.frames }
+    record { memory_name = refl; pool_name = refl; backing_name = refl; run_kind = l.only.run_kind; packets_kind = l.only.packets_kind; frames = l.frames; follows = c.set_run_cell.ensures.follows }
 
 pub set_packet_cell-requires-clause-agree : goal.set_packet_cell-requires-clause-agree
-set_packet_cell-requires-clause-agree c = stands_now _ _ c.args.self.now.agree
+set_packet_cell-requires-clause-agree g c = stands_now _ _ c.args.self.now.agree
 
 pub invariant_of-self-in-Packets : goal.invariant_of-self-in-Packets
-invariant_of-self-in-Packets c = record { agree = (left Packets _ _ _ _ (of_packets _ _ _ _ c.set_packet_cell.ensures.rest) c.set_packet_cell.ensures.frames c.args.self.now.agree).whole }
+invariant_of-self-in-Packets g c = record {
+  agree = (left Packets _ _ _ _ (of_packets _ _ _ _ c.set_packet_cell.ensures.rest) c.set_packet_cell.ensures.frames c.args.self.now.agree).whole;
+  backed = homes_backed _ _ (g.met.B.Backing.same_held _ _ c.set_packet_cell.ensures.follows) c.set_packet_cell.ensures.frames.homes c.args.self.now.backed;
+}
 
 pub returns-in-Packets-clause-written : goal.returns-in-Packets-clause-written
-returns-in-Packets-clause-written c =
+returns-in-Packets-clause-written g c =
     number_put Packets _ _ _ _ refl (of_packets _ _ _ _ c.set_packet_cell.ensures.rest).leaves c.args.at c.in-Packets.is c.requires.cell _ c.args.number c.set_packet_cell.ensures.holds c.set_packet_cell.ensures.kept
 
 pub returns-in-Packets-clause-heads : goal.returns-in-Packets-clause-heads
-returns-in-Packets-clause-heads c = (of_packets _ _ _ _ c.set_packet_cell.ensures.rest).heads
+returns-in-Packets-clause-heads g c = (of_packets _ _ _ _ c.set_packet_cell.ensures.rest).heads
 
 pub returns-in-Packets-clause-follows : goal.returns-in-Packets-clause-follows
-returns-in-Packets-clause-follows c =
+returns-in-Packets-clause-follows g c =
     let l = left Packets _ _ _ _ (of_packets _ _ _ _ c.set_packet_cell.ensures.rest) c.set_packet_cell.ensures.frames c.args.self.now.agree in
-    record { memory_name = refl; pool_name = refl; run_kind = l.only.run_kind; packets_kind = l.only.packets_kind; frames = l.frames }
+    record { memory_name = refl; pool_name = refl; backing_name = refl; run_kind = l.only.run_kind; packets_kind = l.only.packets_kind; frames = l.frames; follows = c.set_packet_cell.ensures.follows }
 
 pub set_space_cell-requires-clause-agree : goal.set_space_cell-requires-clause-agree
-set_space_cell-requires-clause-agree c = stands_now _ _ c.args.self.now.agree
+set_space_cell-requires-clause-agree g c = stands_now _ _ c.args.self.now.agree
 
 pub set_space_cell-requires-clause-live : goal.set_space_cell-requires-clause-live
-set_space_cell-requires-clause-live c = live_area c.args.self.now.memory.now c.args.at.area c.in-Space.s c.in-Space.is c.requires.there
+set_space_cell-requires-clause-live g c = live_area c.args.self.now.memory.now c.args.at.area c.in-Space.s c.in-Space.is c.requires.there
 
 pub invariant_of-self-in-Space : goal.invariant_of-self-in-Space
-invariant_of-self-in-Space c = record { agree = (left (Space c.in-Space.s) _ _ _ _ (of_space _ _ _ _ c.in-Space.s c.set_space_cell.ensures.rest) c.set_space_cell.ensures.frames c.args.self.now.agree).whole }
+invariant_of-self-in-Space g c = record {
+  agree = (left (Space c.in-Space.s) _ _ _ _ (of_space _ _ _ _ c.in-Space.s c.set_space_cell.ensures.rest) c.set_space_cell.ensures.frames c.args.self.now.agree).whole;
+  backed = homes_backed _ _ (g.met.B.Backing.same_held _ _ c.set_space_cell.ensures.follows) c.set_space_cell.ensures.frames.homes c.args.self.now.backed;
+}
 
 pub returns-in-Space-clause-written : goal.returns-in-Space-clause-written
-returns-in-Space-clause-written c =
+returns-in-Space-clause-written g c =
     number_put (Space c.in-Space.s) _ _ _ _ (live_area c.args.self.now.memory.now c.args.at.area c.in-Space.s c.in-Space.is c.requires.there) (of_space _ _ _ _ c.in-Space.s c.set_space_cell.ensures.rest).leaves c.args.at c.in-Space.is c.requires.cell _ c.args.number c.set_space_cell.ensures.holds c.set_space_cell.ensures.kept
 
 pub returns-in-Space-clause-heads : goal.returns-in-Space-clause-heads
-returns-in-Space-clause-heads c = (of_space _ _ _ _ c.in-Space.s c.set_space_cell.ensures.rest).heads
+returns-in-Space-clause-heads g c = (of_space _ _ _ _ c.in-Space.s c.set_space_cell.ensures.rest).heads
 
 pub returns-in-Space-clause-follows : goal.returns-in-Space-clause-follows
-returns-in-Space-clause-follows c =
+returns-in-Space-clause-follows g c =
     let l = left (Space c.in-Space.s) _ _ _ _ (of_space _ _ _ _ c.in-Space.s c.set_space_cell.ensures.rest) c.set_space_cell.ensures.frames c.args.self.now.agree in
-    record { memory_name = refl; pool_name = refl; run_kind = l.only.run_kind; packets_kind = l.only.packets_kind; frames = l.frames }
+    record { memory_name = refl; pool_name = refl; backing_name = refl; run_kind = l.only.run_kind; packets_kind = l.only.packets_kind; frames = l.frames; follows = c.set_space_cell.ensures.follows }

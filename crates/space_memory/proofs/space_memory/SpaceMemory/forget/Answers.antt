@@ -1,3 +1,4 @@
+use Rattle.page_table.specs.Frames.{over}
 use Rattle.std.proofs.Common.{length, ap, sym, subst, arith}
 use Rattle.live_spaces.specs.Live.{LiveData, space_roots}
 use Rattle.space_names.specs.Directory as directory
@@ -16,11 +17,11 @@ invariant_of-self c =
     (led_without c.args.s.0 _ _ c.self.invariant))
 
 pub returns-clause-frames : goal.returns-clause-frames
-returns-clause-frames c = live_frames _ _ c.self.view_is _ _ c.forget-2.new.self.spaces c.forget-2.ensures.frames
+returns-clause-frames c = λ tell. live_frames _ _ c.self.view_is (over c.args.pool.now tell) (over c.forget-2.new.pool tell) c.forget-2.new.self.spaces (c.forget-2.ensures.frames tell)
 
 pub returns-clause-keeps : goal.returns-clause-keeps
-returns-clause-keeps c =
+returns-clause-keeps c = λ tell.
     let long = ap (λ (live : LiveData). length live.spaces) c.forget-2.ensures.others in
     let fewer = without_long c.args.s.0 c.self.inside.spaces.spaces in
-    left_keep _ _ c.self.view_is _ _ c.forget-2.new.self.spaces c.forget-2.ensures.frames 0 (omega (arith, long, fewer)) c.requires.agree
-    (space_roots c.forget-2.new.self.spaces) c.forget-2.ensures.keeps
+    left_keep _ _ c.self.view_is (over c.args.pool.now tell) (over c.forget-2.new.pool tell) c.forget-2.new.self.spaces (c.forget-2.ensures.frames tell) 0 (omega (arith, long, fewer)) c.requires.agree
+    (space_roots c.forget-2.new.self.spaces) (c.forget-2.ensures.keeps tell)

@@ -1,3 +1,4 @@
+use Rattle.page_table.specs.Frames.{over}
 use Rattle.page_table.proofs.Framing.{frames_none}
 use Rattle.live_spaces.proofs.Roots.{keeps_none}
 use Rattle.space_memory.specs.Memories.{roots}
@@ -6,10 +7,10 @@ use Rattle.space_memory.proofs.space_memory.SpaceMemory.make.Goals as goal
 use Rattle.space_memory.proofs.space_memory.SpaceMemory.make.Goals.{in-Ok, in-Err}
 
 pub returns-after-give-clause-frames : goal.returns-after-give-clause-frames
-returns-after-give-clause-frames c = elim c.match-give.branch [
-  | in-Ok w ↦ rw (w.in-Ok.ensures.given, c.nil.ensures) (nil_frames _ c.args.self.now)
-  | in-Err w ↦ rw w.in-Err.ensures.err (frames_none _ (roots c.args.self.now))
+returns-after-give-clause-frames c = λ tell. elim c.match-give.branch [
+  | in-Ok w ↦ rw (w.in-Ok.ensures.given, c.nil.ensures) (nil_frames (over c.args.pool.now tell) c.args.self.now)
+  | in-Err w ↦ rw w.in-Err.ensures.err (frames_none (over c.args.pool.now tell) (roots c.args.self.now))
 ]
 
 pub returns-after-give-clause-keeps : goal.returns-after-give-clause-keeps
-returns-after-give-clause-keeps c = keeps_none _ _
+returns-after-give-clause-keeps c = λ tell. keeps_none (over c.args.pool.now tell) _

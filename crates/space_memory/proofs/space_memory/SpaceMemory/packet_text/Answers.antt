@@ -1,11 +1,12 @@
+use Rattle.page_table.specs.Frames.{over}
 use Rattle.space_memory.proofs.Framed.{parcel_stands, parcel_frames, only_packets}
 use Rattle.space_memory.proofs.space_memory.SpaceMemory.packet_text.Goals as goal
 
 pub text-requires-clause-agree : goal.text-requires-clause-agree
-text-requires-clause-agree c = parcel_stands _ _ c.self.view_is _ 0 c.requires.agree
+text-requires-clause-agree g c = parcel_stands _ _ c.self.view_is _ 0 c.requires.agree
 
 pub returns-clause-rest : goal.returns-clause-rest
-returns-clause-rest c = only_packets _ _ c.self.view_is _ _ c.text.new.space c.text.ensures.kind c.text.ensures.frames c.requires.agree
+returns-clause-rest g c = only_packets _ _ c.self.view_is (over c.args.pool.now (g.B.Backing.tells c.args.backing.now)) (over c.text.new.pool (g.B.Backing.tells c.text.new.backing)) c.text.new.space c.text.ensures.kind c.text.ensures.frames c.requires.agree
 
 pub returns-clause-frames : goal.returns-clause-frames
-returns-clause-frames c = parcel_frames _ _ c.self.view_is _ _ c.text.new.space c.text.ensures.frames
+returns-clause-frames g c = parcel_frames _ _ c.self.view_is (over c.args.pool.now (g.B.Backing.tells c.args.backing.now)) (over c.text.new.pool (g.B.Backing.tells c.text.new.backing)) c.text.new.space c.text.ensures.frames

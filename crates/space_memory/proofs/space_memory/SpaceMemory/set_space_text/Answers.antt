@@ -1,6 +1,7 @@
+use Rattle.page_pool.specs.Pool.{Known}
 use Rattle.std.proofs.Common.{sym, subst}
 use Rattle.std.specs.Prelude.{IfOk, OnOk, IsSome}
-use Rattle.page_table.specs.Frames.{content_at}
+use Rattle.page_table.specs.Frames.{over, content_at}
 use Rattle.text_heap.specs.Texts.{Texts, Holds, Sets, KeepsCells}
 use Rattle.live_spaces.specs.Live.{LiveData, the_space}
 use Rattle.space_memory.specs.Memories.{MemoryData, LeadToSpaces}
@@ -9,28 +10,28 @@ use Rattle.space_memory.proofs.Led.{led_with}
 use Rattle.space_memory.proofs.space_memory.SpaceMemory.set_space_text.Goals as goal
 
 pub set_text-requires-clause-agree : goal.set_text-requires-clause-agree
-set_text-requires-clause-agree c = live_stand _ _ c.self.view_is _ 0 c.requires.agree
+set_text-requires-clause-agree g c = live_stand _ _ c.self.view_is _ 0 c.requires.agree
 
 pub invariant_of-self : goal.invariant_of-self
-invariant_of-self c =
+invariant_of-self g c =
     subst (λ (live : LiveData). LeadToSpaces c.self.inside.names live.spaces) (sym c.set_text.ensures.others)
     (led_with _ _ c.args.s.0 (the_space c.args.s.0 c.set_text.new.self.spaces) c.self.invariant)
 
 pub returns-clause-rest : goal.returns-clause-rest
-returns-clause-rest c =
-    only_space _ _ c.self.view_is _ _ c.args.s.0 c.set_text.new.self c.set_text.ensures.others c.set_text.ensures.kind c.set_text.ensures.frames c.set_text.ensures.keeps
+returns-clause-rest g c =
+    only_space _ _ c.self.view_is (over c.args.pool.now (g.B.Backing.tells c.args.backing.now)) (over c.set_text.new.pool (g.B.Backing.tells c.set_text.new.backing)) c.args.s.0 c.set_text.new.self c.set_text.ensures.others c.set_text.ensures.kind c.set_text.ensures.frames c.set_text.ensures.keeps
     c.requires.agree
 
 pub returns-clause-frames : goal.returns-clause-frames
-returns-clause-frames c = live_frames _ _ c.self.view_is _ _ c.set_text.new.self.spaces c.set_text.ensures.frames
+returns-clause-frames g c = live_frames _ _ c.self.view_is (over c.args.pool.now (g.B.Backing.tells c.args.backing.now)) (over c.set_text.new.pool (g.B.Backing.tells c.set_text.new.backing)) c.set_text.new.self.spaces c.set_text.ensures.frames
 
 pub returns-clause-sets : goal.returns-clause-sets
-returns-clause-sets c =
-    subst (λ (u : MemoryData). IfOk c.set_text.result (λ set. (texts : Texts) → Holds (content_at c.args.pool.now (the_space c.args.s.0 u.spaces).root) texts → IsSome (texts c.args.cell) →
-    Sets (content_at c.args.pool.now (the_space c.args.s.0 u.spaces).root) (content_at c.set_text.new.pool (the_space c.args.s.0 c.set_text.new.self.spaces).root) texts c.args.cell c.args.t.now set))
+returns-clause-sets g c =
+    subst (λ (u : MemoryData). IfOk c.set_text.result (λ set. Known (g.B.Backing.tells c.args.backing.now) c.args.pool.now → (texts : Texts) → Holds (content_at (over c.args.pool.now (g.B.Backing.tells c.args.backing.now)) (the_space c.args.s.0 u.spaces).root) texts → IsSome (texts c.args.cell) →
+    Sets (content_at (over c.args.pool.now (g.B.Backing.tells c.args.backing.now)) (the_space c.args.s.0 u.spaces).root) (content_at (over c.set_text.new.pool (g.B.Backing.tells c.set_text.new.backing)) (the_space c.args.s.0 c.set_text.new.self.spaces).root) texts c.args.cell c.args.t.now set))
     c.self.view_is c.set_text.ensures.sets
 
 pub returns-clause-cells : goal.returns-clause-cells
-returns-clause-cells c =
-    subst (λ (u : MemoryData). OnOk c.set_text.result (KeepsCells (content_at c.args.pool.now (the_space c.args.s.0 u.spaces).root) (content_at c.set_text.new.pool (the_space c.args.s.0 c.set_text.new.self.spaces).root) c.args.cell))
+returns-clause-cells g c =
+    subst (λ (u : MemoryData). OnOk c.set_text.result (Known (g.B.Backing.tells c.args.backing.now) c.args.pool.now → KeepsCells (content_at (over c.args.pool.now (g.B.Backing.tells c.args.backing.now)) (the_space c.args.s.0 u.spaces).root) (content_at (over c.set_text.new.pool (g.B.Backing.tells c.set_text.new.backing)) (the_space c.args.s.0 c.set_text.new.self.spaces).root) c.args.cell))
     c.self.view_is c.set_text.ensures.cells

@@ -1,7 +1,8 @@
+use Rattle.page_pool.specs.Pool.{Known}
 use Rattle.std.proofs.Common.{◌≡◌, sym, subst}
 use Rattle.std.specs.Prelude.{IfOk, OnOk}
 use Rattle.eu_base.specs.Spaces.{IsKept}
-use Rattle.page_table.specs.Frames.{content_at}
+use Rattle.page_table.specs.Frames.{over, content_at}
 use Rattle.cell_layout.specs.Layout.{cell_in}
 use Rattle.live_spaces.specs.Live.{LiveData, the_space}
 use Rattle.space_memory.specs.Memories.{MemoryData, LeadToSpaces}
@@ -10,27 +11,27 @@ use Rattle.space_memory.proofs.Led.{led_with}
 use Rattle.space_memory.proofs.space_memory.SpaceMemory.space_cell.Goals as goal
 
 pub cell-requires-clause-agree : goal.cell-requires-clause-agree
-cell-requires-clause-agree c = live_stand _ _ c.self.view_is _ 0 c.requires.agree
+cell-requires-clause-agree g c = live_stand _ _ c.self.view_is _ 0 c.requires.agree
 
 pub invariant_of-self : goal.invariant_of-self
-invariant_of-self c =
+invariant_of-self g c =
     subst (λ (live : LiveData). LeadToSpaces c.self.inside.names live.spaces) (sym c.cell.ensures.others)
     (led_with _ _ c.args.s.0 (the_space c.args.s.0 c.cell.new.self.spaces) c.self.invariant)
 
 pub returns-clause-rest : goal.returns-clause-rest
-returns-clause-rest c =
-    only_space _ _ c.self.view_is _ _ c.args.s.0 c.cell.new.self c.cell.ensures.others c.cell.ensures.kind c.cell.ensures.frames c.cell.ensures.keeps
+returns-clause-rest g c =
+    only_space _ _ c.self.view_is (over c.args.pool.now (g.B.Backing.tells c.args.backing.now)) (over c.cell.new.pool (g.B.Backing.tells c.cell.new.backing)) c.args.s.0 c.cell.new.self c.cell.ensures.others c.cell.ensures.kind c.cell.ensures.frames c.cell.ensures.keeps
     c.requires.agree
 
 pub returns-clause-frames : goal.returns-clause-frames
-returns-clause-frames c = live_frames _ _ c.self.view_is _ _ c.cell.new.self.spaces c.cell.ensures.frames
+returns-clause-frames g c = live_frames _ _ c.self.view_is (over c.args.pool.now (g.B.Backing.tells c.args.backing.now)) (over c.cell.new.pool (g.B.Backing.tells c.cell.new.backing)) c.cell.new.self.spaces c.cell.ensures.frames
 
 pub returns-clause-number : goal.returns-clause-number
-returns-clause-number c =
-    subst (λ (u : MemoryData). IfOk c.cell.result (λ number. number ≡ cell_in (content_at c.args.pool.now (the_space c.args.s.0 u.spaces).root) c.args.cell))
+returns-clause-number g c =
+    subst (λ (u : MemoryData). IfOk c.cell.result (λ number. Known (g.B.Backing.tells c.args.backing.now) c.args.pool.now → number ≡ cell_in (content_at (over c.args.pool.now (g.B.Backing.tells c.args.backing.now)) (the_space c.args.s.0 u.spaces).root) c.args.cell))
     c.self.view_is c.cell.ensures.number
 
 pub returns-clause-same : goal.returns-clause-same
-returns-clause-same c =
-    subst (λ (u : MemoryData). OnOk c.cell.result (IsKept (content_at c.args.pool.now (the_space c.args.s.0 u.spaces).root) (content_at c.cell.new.pool (the_space c.args.s.0 c.cell.new.self.spaces).root)))
+returns-clause-same g c =
+    subst (λ (u : MemoryData). OnOk c.cell.result (IsKept (content_at (over c.args.pool.now (g.B.Backing.tells c.args.backing.now)) (the_space c.args.s.0 u.spaces).root) (content_at (over c.cell.new.pool (g.B.Backing.tells c.cell.new.backing)) (the_space c.args.s.0 c.cell.new.self.spaces).root)))
     c.self.view_is c.cell.ensures.same

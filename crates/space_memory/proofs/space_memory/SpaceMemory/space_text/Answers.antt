@@ -1,7 +1,8 @@
+use Rattle.page_pool.specs.Pool.{Known}
 use Rattle.std.proofs.Common.{◌≡◌, Some, sym, subst}
 use Rattle.std.specs.Prelude.{IfOk, OnOk, IsSome}
 use Rattle.eu_base.specs.Spaces.{IsKept}
-use Rattle.page_table.specs.Frames.{content_at}
+use Rattle.page_table.specs.Frames.{over, content_at}
 use Rattle.text_heap.specs.Texts.{Texts, Holds}
 use Rattle.live_spaces.specs.Live.{LiveData, the_space}
 use Rattle.space_memory.specs.Memories.{MemoryData, LeadToSpaces}
@@ -10,27 +11,27 @@ use Rattle.space_memory.proofs.Led.{led_with}
 use Rattle.space_memory.proofs.space_memory.SpaceMemory.space_text.Goals as goal
 
 pub text-requires-clause-agree : goal.text-requires-clause-agree
-text-requires-clause-agree c = live_stand _ _ c.self.view_is _ 0 c.requires.agree
+text-requires-clause-agree g c = live_stand _ _ c.self.view_is _ 0 c.requires.agree
 
 pub invariant_of-self : goal.invariant_of-self
-invariant_of-self c =
+invariant_of-self g c =
     subst (λ (live : LiveData). LeadToSpaces c.self.inside.names live.spaces) (sym c.text.ensures.others)
     (led_with _ _ c.args.s.0 (the_space c.args.s.0 c.text.new.self.spaces) c.self.invariant)
 
 pub returns-clause-rest : goal.returns-clause-rest
-returns-clause-rest c =
-    only_space _ _ c.self.view_is _ _ c.args.s.0 c.text.new.self c.text.ensures.others c.text.ensures.kind c.text.ensures.frames c.text.ensures.keeps
+returns-clause-rest g c =
+    only_space _ _ c.self.view_is (over c.args.pool.now (g.B.Backing.tells c.args.backing.now)) (over c.text.new.pool (g.B.Backing.tells c.text.new.backing)) c.args.s.0 c.text.new.self c.text.ensures.others c.text.ensures.kind c.text.ensures.frames c.text.ensures.keeps
     c.requires.agree
 
 pub returns-clause-frames : goal.returns-clause-frames
-returns-clause-frames c = live_frames _ _ c.self.view_is _ _ c.text.new.self.spaces c.text.ensures.frames
+returns-clause-frames g c = live_frames _ _ c.self.view_is (over c.args.pool.now (g.B.Backing.tells c.args.backing.now)) (over c.text.new.pool (g.B.Backing.tells c.text.new.backing)) c.text.new.self.spaces c.text.ensures.frames
 
 pub returns-clause-text : goal.returns-clause-text
-returns-clause-text c =
-    subst (λ (u : MemoryData). IfOk c.text.result (λ text. (texts : Texts) → Holds (content_at c.args.pool.now (the_space c.args.s.0 u.spaces).root) texts → IsSome (texts c.args.cell) → texts c.args.cell ≡ Some text))
+returns-clause-text g c =
+    subst (λ (u : MemoryData). IfOk c.text.result (λ text. Known (g.B.Backing.tells c.args.backing.now) c.args.pool.now → (texts : Texts) → Holds (content_at (over c.args.pool.now (g.B.Backing.tells c.args.backing.now)) (the_space c.args.s.0 u.spaces).root) texts → IsSome (texts c.args.cell) → texts c.args.cell ≡ Some text))
     c.self.view_is c.text.ensures.text
 
 pub returns-clause-same : goal.returns-clause-same
-returns-clause-same c =
-    subst (λ (u : MemoryData). OnOk c.text.result (IsKept (content_at c.args.pool.now (the_space c.args.s.0 u.spaces).root) (content_at c.text.new.pool (the_space c.args.s.0 c.text.new.self.spaces).root)))
+returns-clause-same g c =
+    subst (λ (u : MemoryData). OnOk c.text.result (IsKept (content_at (over c.args.pool.now (g.B.Backing.tells c.args.backing.now)) (the_space c.args.s.0 u.spaces).root) (content_at (over c.text.new.pool (g.B.Backing.tells c.text.new.backing)) (the_space c.args.s.0 c.text.new.self.spaces).root)))
     c.self.view_is c.text.ensures.same

@@ -2,7 +2,7 @@ use Rattle.std.proofs.Common.{refl, sym, ap, ◌∙◌}
 use Rattle.eu_base.specs.declared.request.Reply.{Reply}
 use Rattle.code_form.specs.Machine.{answered}
 use Rattle.space_memory.specs.Memories.{roots}
-use Rattle.space_memory.specs.Changes.{memory_frames_then}
+use Rattle.task_job.proofs.Here.{memory_frames_then}
 use Rattle.source_machine.specs.Tasks.{with_reply}
 use Rattle.task_job.proofs.Standing.{at_run, receives_on, takes_reply, settles}
 use Rattle.task_job.proofs.job.Job.answer.Goals as goal
@@ -26,7 +26,6 @@ returns-clause-answered c kinds command q a pages before asks is got h =
 pub returns-clause-sound : goal.returns-clause-sound
 returns-clause-sound c = record {
   unit = c.requires.sound.unit;
-  behaves = c.requires.sound.behaves;
   fits = c.in_ok-go_over.ensures.fits;
 }
 

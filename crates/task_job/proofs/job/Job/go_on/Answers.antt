@@ -9,6 +9,5 @@ returns-clause-rests c kinds command h =
 pub returns-clause-sound : goal.returns-clause-sound
 returns-clause-sound c = record {
   unit = c.requires.sound.unit;
-  behaves = c.requires.sound.behaves;
   fits = c.in_ok-halt.ensures.fits;
 }

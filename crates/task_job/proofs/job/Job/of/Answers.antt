@@ -1,23 +1,23 @@
 use Rattle.cell_kinds.specs.Kinds.{packet_kinds}
 use Rattle.space_memory.specs.Memories.{roots}
-use Rattle.space_memory.specs.Changes.{memory_frames_then}
+use Rattle.task_job.proofs.Here.{memory_frames_then}
 use Rattle.source_machine.specs.Tasks.{starting}
 use Rattle.task_job.proofs.Standing.{if_given, starts}
 use Rattle.task_job.proofs.job.Job.of.Goals as goal
 
 pub settle-requires : goal.settle-requires
 settle-requires c = record {
-  sound = record { unit = c.requires.unit; behaves = c.requires.behaves; fits = c.in-Ok.ensures.fits };
+  sound = record { unit = c.requires.unit; fits = c.in-Ok.ensures.fits };
   agree = c.in-Ok.ensures.stands;
 }
 
 pub returns-in-Ok-clause-starts : goal.returns-in-Ok-clause-starts
 returns-in-Ok-clause-starts c =
     if_given c.settle.result _ _
-    (λ job settled store h.
+    (λ job settled store i h.
     settled (packet_kinds c.args.unit.core.packets) (starting c.args.unit store)
     (starts c.args.pool.now c.start_over.new.pool c.args.memory.now c.start_over.new.memory c.args.unit c.args.code c.in-Ok.run' store
-    c.requires.behaves h c.in-Ok.ensures.run c.in-Ok.ensures.made c.in-Ok.ensures.heads)) c.settle.ensures.settled
+    i h c.in-Ok.ensures.run c.in-Ok.ensures.made c.in-Ok.ensures.heads)) c.settle.ensures.settled
 
 pub returns-in-Ok-clause-frames : goal.returns-in-Ok-clause-frames
 returns-in-Ok-clause-frames c =

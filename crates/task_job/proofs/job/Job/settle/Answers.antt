@@ -10,6 +10,5 @@ returns-in-Ok-clause-settled c kinds command h =
 pub returns-in-Ok-clause-sound : goal.returns-in-Ok-clause-sound
 returns-in-Ok-clause-sound c = record {
   unit = c.requires.sound.unit;
-  behaves = c.requires.sound.behaves;
   fits = c.in-Ok.ensures.fits;
 }
