@@ -7,7 +7,7 @@ set -euo pipefail
 top="$(cd "$(dirname "${BASH_SOURCE[0]}")/.." && pwd)"
 work="$(mktemp -d)"
 trap 'rm -rf "$work"' EXIT
-crates="containers eu_base page_pool page_table data_space cell_layout text_blocks text_heap task_numbers space_names live_spaces space_memory"
+crates="containers eu_base page_pool page_table data_space cell_layout text_heap task_numbers space_names space_memory"
 
 mkdir -p "$work/crates/cells/src" "$work/crates/cells/proofs/run"
 for crate in $crates; do

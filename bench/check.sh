@@ -8,9 +8,8 @@ top="$(cd "$(dirname "${BASH_SOURCE[0]}")/.." && pwd)"
 limit="${1:-120}"
 work="$(mktemp -d)"
 trap 'rm -rf "$work"' EXIT
-crates="containers eu_base cell_kinds call_graph elan_tree elan_lexer elan_grammar elan_kinds elan_cursor type_parser form_parser expression_parser phrase_parser
-    text_parser elan_parser elan_types elan_names elan_scope elan_meant value_rules unit_rules choice_rules elan_rules elan_walk type_definitions
-    type_names elan_levels elan_judge elan_bodies text_judge elan_check"
+crates="containers task_numbers eu_base cell_kinds call_graph elan_tree elan_lexer elan_grammar elan_cursor phrase_parser elan_parser
+    elan_types elan_names elan_scope elan_meant value_rules elan_rules elan_walk type_names elan_judge elan_check"
 
 mkdir -p "$work/crates/parts/src"
 for crate in $crates; do

@@ -7,7 +7,7 @@ set -euo pipefail
 top="$(cd "$(dirname "${BASH_SOURCE[0]}")/.." && pwd)"
 work="$(mktemp -d)"
 trap 'rm -rf "$work"' EXIT
-crates="containers eu_base page_pool page_table data_space cell_layout text_blocks text_heap"
+crates="containers task_numbers eu_base page_pool page_table data_space cell_layout text_heap"
 
 mkdir -p "$work/crates/texts/src" "$work/crates/texts/proofs/run"
 for crate in $crates; do
@@ -18,13 +18,13 @@ echo "texts: text_heap cell_layout data_space page_table page_pool eu_base" >>"$
 cp "$top/HANDLES" "$work/"
 
 cat >"$work/crates/texts/proofs/Lib.antt" <<'END'
-mod Spaces
+mod TwoSpaces
 END
 
-cp "$top/crates/memory_tests/proofs/Spaces.antt" "$work/crates/texts/proofs/"
+cp "$top/crates/memory_tests/proofs/TwoSpaces.antt" "$work/crates/texts/proofs/"
 
 cat >"$work/crates/texts/proofs/run/Answers.antt" <<'END'
-use Rattle.texts.proofs.Spaces.{nil_stands}
+use Rattle.texts.proofs.TwoSpaces.{nil_stands}
 use Rattle.texts.proofs.run.Goals as goal
 
 pub over-lent-requires : goal.over-lent-requires

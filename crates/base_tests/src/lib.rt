@@ -1,4 +1,4 @@
-//! Tests of containers, of numbers as text, of the outside objects, of disks and of fixpoints.
+//! Tests of what lies at the bottom: base types, disks, streams, operations of the machine, and records.
 #![tactic(auto)]
 
 #[cfg(test)]
@@ -16,8 +16,20 @@ mod image;
 #[cfg(test)]
 mod real;
 #[cfg(test)]
+mod record_cells;
+#[cfg(test)]
+mod record_roots;
+#[cfg(test)]
+mod record_rows;
+#[cfg(test)]
+mod record_tables;
+#[cfg(test)]
+mod record_tests;
+#[cfg(test)]
 mod stopped;
 #[cfg(test)]
 mod streams;
+#[cfg(test)]
+mod table;
 #[cfg(test)]
 mod tests;

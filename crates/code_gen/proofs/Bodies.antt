@@ -15,7 +15,7 @@ use Rattle.elan_types.specs.declared.core_phrase.Content.TheVariants as contents
 use Rattle.elan_types.specs.declared.core_phrase.Body.{Body}
 use Rattle.elan_types.specs.Typing.{Outside, result_of_content, is_content_typed}
 use Rattle.elan_types.specs.Eval.{Gives, all, act, value}
-use Rattle.code_draft.specs.Stretch.{one, keeps, all_code, action_code, value_code, content_code}
+use Rattle.place_gen.specs.Stretch.{one, keeps, all_code, action_code, value_code, content_code}
 use Rattle.place_gen.proofs.Lines.{HasAt, has_front, has_rest, IsSized, join_sized}
 use Rattle.place_gen.proofs.Homes.{Delivers, Agrees, IsHome, has_shape_is}
 use Rattle.place_gen.proofs.Carry.{finish_bind, reach, Ends}

@@ -1,3 +1,10 @@
+pub mod Adds
+pub mod Left
+pub mod Levels
+pub mod Same
+pub mod Typed
+pub mod Walks
+pub mod Coding
 pub mod Tables
 pub mod Entered
 pub mod Framed

@@ -16,7 +16,7 @@ use Rattle.elan_types.specs.declared.core_phrase.Core.{Core}
 use Rattle.elan_types.specs.declared.core_phrase.Content.TheVariants.{Units}
 use Rattle.elan_types.specs.Typing as typing
 use Rattle.elan_types.specs.Typing.{outside_of, IsScope, IsStart, IsWellTyped}
-use Rattle.code_draft.specs.Stretch.{Stretch, one, keeps, all_code, action_code, content_code}
+use Rattle.place_gen.specs.Stretch.{Stretch, one, keeps, all_code, action_code, content_code}
 use Rattle.place_gen.proofs.Lines.{HasAt, has_front, has_rest, has_all, join_sized}
 use Rattle.place_gen.specs.Layouts.{parameter_kind, layout_of}
 use Rattle.place_gen.proofs.Homes.{Agrees}

@@ -39,7 +39,7 @@ use Rattle.elan_types.specs.Typing.{outside_of, result_of_content, IsStart, Star
 use Rattle.elan_types.specs.Eval.{Slot, Holds, Taken, slot_at, World, Outcome, Gives, Left, Stopped, OutOfMarks, Asks, bind, branch, slot_blocks, cut, called, content, all, act, level}
 use Rattle.elan_types.specs.Command as endings
 use Rattle.elan_types.specs.Command.{Ending, ending, from_level, first_kinds, run_started, run_from, evaluate_from}
-use Rattle.code_draft.specs.Stretch.{Stretch, keeps, all_code, action_code, content_code}
+use Rattle.place_gen.specs.Stretch.{Stretch, keeps, all_code, action_code, content_code}
 use Rattle.place_gen.specs.Correct.{StandsFor, HasVariables, HasSpaces, HasAll, Shows, Comes, scene_of}
 use Rattle.place_gen.proofs.Lines.{HasAt, has_front, has_rest}
 use Rattle.place_gen.proofs.Homes.{Delivers, LeftBy}

@@ -9,7 +9,7 @@ use Rattle.elan_types.specs.declared.core_phrase.Body.{Body}
 use Rattle.elan_types.specs.declared.core_phrase.Core.{Core}
 use Rattle.elan_types.specs.Typing.{result_of_content}
 use Rattle.place_gen.specs.Layouts.{layout_of}
-use Rattle.code_draft.specs.Stretch.{Stretch, one, keeps, join, all_code, action_code, content_code}
+use Rattle.place_gen.specs.Stretch.{Stretch, one, keeps, join, all_code, action_code, content_code}
 
 -- the level's units, and the end of the command
 abbrev pub level_code : Core → Stretch

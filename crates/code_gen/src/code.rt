@@ -7,11 +7,10 @@ ghost use Rattle.code_gen.specs.Program.{program_of, start_from, lines_from, siz
 
 use crate::entries::emit_bodies;
 use cell_kinds::Packet;
-use code_draft::Draft;
 use code_form::{Code, Instr, Start};
 use elan_types::{Body, Core};
 use eu_base::NoMemory;
-use place_gen::{emit_actions, emit_content};
+use place_gen::{Draft, emit_actions, emit_content};
 use std::alloc::Global;
 
 /// The code of a command. It does what the command does, with any marks and replies.

@@ -4,11 +4,10 @@ ghost use Rattle.elan_types.specs.Typing.{result_of_content};
 ghost use Rattle.place_gen.specs.Layouts.{layout_of, parameter_kind};
 ghost use Rattle.code_gen.specs.Program.{body_lines, entries, entry_of};
 
-use code_draft::Draft;
 use code_form::{Entry, Layout, OperandKind};
 use elan_types::{Access, Body, Content, Formal, Scope};
 use eu_base::{List, NoMemory, Shape, Shared};
-use place_gen::emit_content;
+use place_gen::{Draft, emit_content};
 use std::alloc::Global;
 
 /// Adds the code of bodies, one behind another, and gives their entries.

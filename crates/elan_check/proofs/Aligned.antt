@@ -41,30 +41,30 @@ use Rattle.elan_scope.specs.declared.scope.Scope.{Scope}
 use Rattle.elan_scope.specs.declared.scope.Within.{Within}
 use Rattle.elan_scope.specs.declared.scope.Home.{Home}
 use Rattle.elan_scope.specs.Scope.{Found}
-use Rattle.elan_levels.specs.Bodies as b
+use Rattle.type_names.specs.Bodies as b
 use Rattle.type_names.specs.Types.{body_types}
 use Rattle.elan_names.specs.declared.type_name.TypeName.{TypeName}
 use Rattle.elan_scope.specs.Scope.{has_open}
-use Rattle.elan_levels.specs.Bodies.{parameters, result, frame, parameter_names, own_names, body_names, refinement_headings, bodies_in, unit_headings}
+use Rattle.type_names.specs.Bodies.{parameters, result, frame, parameter_names, own_names, body_names, refinement_headings, bodies_in, unit_headings}
 use Rattle.elan_scope.specs.Phrase as form
 use Rattle.elan_scope.specs.Phrase.{plain, Phrase, phrase, Parts, none, part, all_of, leaf}
 use Rattle.elan_scope.specs.Ruled.{Ruled, gives, before}
 use Rattle.elan_scope.specs.declared.delivery.Delivery.TheVariants.{Open}
 use Rattle.elan_scope.specs.Known.{delivered}
-use Rattle.elan_bodies.specs.Refinements.{stated}
+use Rattle.elan_judge.specs.Refinements.{stated}
 use Rattle.elan_scope.specs.declared.known.Known.{Known}
 use Rattle.value_rules.specs.Calls as calls
-use Rattle.unit_rules.specs.Units as u
+use Rattle.elan_rules.specs.Units as u
 use Rattle.elan_meant.specs.Verdict as verdict
 use Rattle.elan_rules.specs.Rules.{ruled}
 use Rattle.elan_judge.specs.Shape as shape
-use Rattle.elan_bodies.specs.Level as l
+use Rattle.elan_judge.specs.Level as l
 use Rattle.elan_rules.specs.Meaning.{judged, judged_all}
 use Rattle.elan_rules.proofs.First.{bind_gives, before_gives, gives_is}
 use Rattle.elan_judge.proofs.InScope.{InScope, body_units_in}
-use Rattle.elan_bodies.proofs.Inferred.{unless_gives}
-use Rattle.elan_levels.proofs.Held.{held_append}
-use Rattle.elan_levels.proofs.OwnNames.{own_held}
+use Rattle.elan_judge.proofs.Inferred.{unless_gives}
+use Rattle.type_names.proofs.Held.{held_append}
+use Rattle.type_names.proofs.OwnNames.{own_held}
 use Rattle.std.specs.Option.{option_map_or}
 use Rattle.elan_rules.proofs.TypedPerformed.{owner_with, behind}
 use Rattle.elan_rules.proofs.TypedCalls.{held_cells, AllSized}

@@ -26,11 +26,11 @@ use Rattle.elan_walk.specs.Operators.{operator_text}
 use Rattle.elan_rules.specs.Meaning.{phrases, phrases_of}
 use Rattle.elan_judge.specs.Shape as shape
 use Rattle.elan_judge.proofs.InScope.{Names, InScope, AllIn, statement_in, body_units_in}
-use Rattle.elan_levels.specs.Bodies as b
-use Rattle.elan_bodies.specs.Level as l
-use Rattle.elan_bodies.specs.Refinements.{units_in, bodies_within, known_of}
+use Rattle.type_names.specs.Bodies as b
+use Rattle.elan_judge.specs.Level as l
+use Rattle.elan_judge.specs.Refinements.{units_in, bodies_within, known_of}
 use Rattle.elan_check.specs.Text.{known}
-use Rattle.elan_bodies.specs.walks.Units.{level_units, all_unit_bodies}
+use Rattle.elan_judge.specs.walks.Units.{level_units, all_unit_bodies}
 
 abbrev units_of : List Phrase → List Phrase
 units_of ps = flat_map units_in ps

@@ -11,7 +11,7 @@ use Rattle.elan_scope.specs.declared.known.Known.{Known}
 use Rattle.elan_rules.specs.Meaning.{judged}
 use Rattle.elan_check.specs.declared.error.CheckError.{CheckError}
 use Rattle.elan_check.specs.declared.error.CheckError.TheVariants.{NoMemory, NoMeaning}
-use Rattle.elan_bodies.specs.Level.{text}
+use Rattle.elan_judge.specs.Level.{text}
 use Rattle.elan_check.specs.Text.{Means, Refused, IsCore, IsRefusal, Answers, earliest, known, faults}
 use Rattle.elan_check.specs.Packets.{AreCompiled}
 use Rattle.type_names.specs.Faults.{first_fault}

@@ -24,15 +24,15 @@ use Rattle.elan_names.specs.declared.type_name.TypeName.{TypeName}
 use Rattle.elan_scope.specs.Ruled.{Fault}
 use Rattle.elan_scope.specs.Scope.{held, all_held, has_open, is_open_result}
 use Rattle.value_rules.specs.Calls.{holds_open}
-use Rattle.type_definitions.specs.declared.definition.Definition.{Definition}
-use Rattle.type_definitions.specs.Definitions as definitions
+use Rattle.elan_walk.specs.declared.definition.Definition.{Definition}
+use Rattle.elan_walk.specs.Definitions as definitions
 use Rattle.type_names.specs.Types as names
 use Rattle.type_names.specs.Types.{meant, look, type_in, defined_by, first_from, names_of, body_definitions, parameter_definitions, refinement_definitions, in_refinements}
 use Rattle.type_names.specs.Types.{unit_definitions, level_definitions, level_types, body_types}
 use Rattle.type_names.specs.Faults.{Here, here, node_faults, nodes_faults, named_faults, or_named, written_faults, unit_faults, routine_faults, level_faults}
 use Rattle.type_names.proofs.Sound.{Mean, Sound, written_means, names_mean, seen_mean}
-use Rattle.elan_levels.specs.Declarations as d
-use Rattle.elan_levels.specs.Bodies as b
+use Rattle.type_names.specs.Declarations as d
+use Rattle.type_names.specs.Bodies as b
 
 -- ---- lists
 

@@ -35,7 +35,7 @@ use Rattle.elan_meant.specs.Operands.{takes, may_take, is_unclear, becomes}
 use Rattle.elan_meant.specs.Parts.{nth}
 use Rattle.value_rules.specs.Calls as c
 use Rattle.value_rules.specs.Calls.{holds_open, denotes_open, is_open_name, declares_open, is_open_type}
-use Rattle.unit_rules.specs.Units.{binding_if}
+use Rattle.elan_rules.specs.Units.{binding_if}
 use Rattle.elan_rules.specs.Rules.{hangs_on}
 use Rattle.elan_judge.proofs.InScope.{Names}
 use Rattle.type_names.proofs.Sound.{Mean}

@@ -12,7 +12,7 @@ use Rattle.elan_scope.specs.declared.known.Known.{Known}
 use Rattle.elan_meant.specs.declared.meant.Meant.{Meant}
 use Rattle.elan_meant.specs.declared.meant.Meant.TheVariants as means
 use Rattle.elan_meant.specs.Parts.{actions_of}
-use Rattle.unit_rules.specs.Units.{bodies_of}
+use Rattle.elan_rules.specs.Units.{bodies_of}
 use Rattle.elan_scope.specs.Phrase as form
 use Rattle.elan_scope.specs.Phrase.{plain, all_of}
 use Rattle.elan_scope.specs.Ruled.{Fault, Ruled, gives, breaks, hangs, ◌>>=◌}
@@ -24,8 +24,8 @@ use Rattle.elan_names.specs.declared.type_name.TypeName.{TypeName}
 use Rattle.elan_scope.specs.Shown.{shown_types}
 use Rattle.type_names.specs.Types.{level_types}
 use Rattle.type_names.specs.Faults.{first_fault, level_faults}
-use Rattle.elan_bodies.specs.Level.{level_in, exports_in, exports, level_parts, level_bodies, text_scope, text_parts, text}
-use Rattle.elan_bodies.specs.Refinements.{known_of}
+use Rattle.elan_judge.specs.Level.{level_in, exports_in, exports, level_parts, level_bodies, text_scope, text_parts, text}
+use Rattle.elan_judge.specs.Refinements.{known_of}
 use Rattle.elan_check.specs.Text.{Answers, IsFault, earliest, faults, core_of, bodies_known, judged_text}
 use Rattle.elan_check.specs.Packets.{AreCompiled}
 use Rattle.elan_check.proofs.Spots.{never_hangs}

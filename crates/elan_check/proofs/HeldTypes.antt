@@ -22,9 +22,9 @@ use Rattle.elan_names.specs.declared.type_name.TypeName.{TypeName}
 use Rattle.elan_scope.specs.Scope.{all_held}
 use Rattle.type_names.specs.Types.{body_definitions, body_types}
 use Rattle.type_names.proofs.Sized.{SizedNames, type_sized, seen_sized}
-use Rattle.elan_levels.specs.Declarations as d
-use Rattle.elan_levels.specs.Bodies as b
-use Rattle.elan_levels.proofs.Held.{held_append}
+use Rattle.type_names.specs.Declarations as d
+use Rattle.type_names.specs.Bodies as b
+use Rattle.type_names.proofs.Held.{held_append}
 use Rattle.elan_rules.proofs.TypedCalls.{AllSized, AllConst}
 
 -- what holds of nothing, of two lists together, of each name of a declaration, and of names that hold nothing, where these names of types can be seen

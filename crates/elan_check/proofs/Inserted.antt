@@ -26,7 +26,7 @@ use Rattle.elan_scope.specs.Shown.{shows, shown_types}
 use Rattle.type_names.specs.Types.{look, level_definitions}
 use Rattle.type_names.proofs.Looked.{look_both}
 use Rattle.type_names.proofs.Sized.{IsSized, none_sized, names_sized, seen_sized}
-use Rattle.elan_levels.specs.Bodies.{seen_types}
+use Rattle.type_names.specs.Bodies.{seen_types}
 use Rattle.elan_rules.proofs.TypedPerformed.{Fitting}
 use Rattle.elan_rules.proofs.TypedCalls.{HeldThere, PacketFits}
 use Rattle.elan_check.specs.Packets.{AreCompiled, none, behind, IsPacket, after, interface}

@@ -10,25 +10,25 @@ use Rattle.elan_meant.specs.declared.meant.Meant.{Meant}
 use Rattle.elan_meant.specs.Parts.{nth}
 use Rattle.elan_meant.specs.declared.meant.Meant.TheVariants.{Absent, Variable, Value, Done, Left, Labels, Bodies, Level, Start}
 use Rattle.elan_scope.specs.declared.scope.Scope.{Scope}
-use Rattle.elan_levels.specs.Bodies as b
-use Rattle.elan_levels.specs.Bodies.{headings, level_names}
+use Rattle.type_names.specs.Bodies as b
+use Rattle.type_names.specs.Bodies.{headings, level_names}
 use Rattle.elan_scope.specs.Phrase as form
 use Rattle.elan_scope.specs.Phrase.{plain, Phrase, phrase, Parts, none, part, all_of, around}
 use Rattle.elan_scope.specs.Ruled.{gives}
 use Rattle.elan_scope.specs.declared.known.Known.{Known}
 use Rattle.elan_walk.specs.Operators.{operator_text}
-use Rattle.unit_rules.specs.Units as u
+use Rattle.elan_rules.specs.Units as u
 use Rattle.elan_meant.specs.Verdict.{told}
 use Rattle.elan_rules.specs.Rules.{ruled}
 use Rattle.elan_judge.specs.Shape as shape
-use Rattle.elan_bodies.specs.Level as l
+use Rattle.elan_judge.specs.Level as l
 use Rattle.elan_rules.specs.Meaning.{judged, judged_all}
 use Rattle.elan_rules.proofs.First.{bind_gives, before_gives, gives_is}
-use Rattle.elan_bodies.proofs.Counts.{unit_headings_count}
+use Rattle.elan_judge.proofs.Counts.{unit_headings_count}
 use Rattle.elan_check.proofs.HeldTypes.{BodiesSized}
 use Rattle.elan_check.proofs.Aligned.{Inside, Row, Rows, rows_append, routine_rows, procedure_quiet, type_quiet}
-use Rattle.elan_levels.specs.walks.Headings.{all_headings}
-use Rattle.elan_bodies.specs.walks.Units.{all_unit_bodies, level_units}
+use Rattle.type_names.specs.walks.Headings.{all_headings}
+use Rattle.elan_judge.specs.walks.Units.{all_unit_bodies, level_units}
 
 -- ---- the rows of a level
 

@@ -1,3 +1,6 @@
+pub mod Routines
+pub mod Over
+pub mod JudgedScopes
 pub mod Bodies
 pub mod OneAnswer
 pub mod Aligned

@@ -13,8 +13,8 @@ use Rattle.elan_names.specs.declared.type_name.TypeName.{TypeName}
 use Rattle.elan_scope.specs.declared.env.Env.{Env}
 use Rattle.elan_scope.specs.Shown.{shown_types}
 use Rattle.type_names.specs.Types.{names_of, level_types, level_definitions}
-use Rattle.elan_levels.specs.Bodies.{names_in, headings_in}
-use Rattle.elan_bodies.specs.Level.{level_in, exports_in, export_name}
+use Rattle.type_names.specs.Bodies.{names_in, headings_in}
+use Rattle.elan_judge.specs.Level.{level_in, exports_in, export_name}
 use Rattle.elan_check.specs.walks.Shown.{shown_in}
 use Rattle.elan_check.specs.Packets.{nothing, interface}
 

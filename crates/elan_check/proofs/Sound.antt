@@ -16,8 +16,8 @@ use Rattle.elan_scope.specs.declared.env.Env.{Env}
 use Rattle.elan_scope.specs.declared.scope.Home.TheVariants.{Packet as of_packet}
 use Rattle.elan_scope.specs.Scope.{all_held, variables_of}
 use Rattle.elan_scope.specs.Shown.{shown_types}
-use Rattle.elan_levels.specs.Bodies.{seen_types, level_names}
-use Rattle.elan_bodies.specs.Level.{home_of, level_in}
+use Rattle.type_names.specs.Bodies.{seen_types, level_names}
+use Rattle.elan_judge.specs.Level.{home_of, level_in}
 use Rattle.elan_rules.proofs.TypeEquations.{Stand}
 use Rattle.elan_rules.proofs.TypedPerformed.{Fitting}
 use Rattle.elan_rules.proofs.TypedCalls.{held_cells, HeldThere, AllFit}

@@ -26,8 +26,8 @@ use Rattle.elan_names.specs.declared.heading.Heading.{Heading}
 use Rattle.elan_scope.specs.declared.scope.Scope.{Scope}
 use Rattle.elan_scope.specs.declared.env.Env.{Env}
 use Rattle.elan_scope.specs.Shown.{shown_types}
-use Rattle.elan_levels.specs.Bodies as b
-use Rattle.elan_levels.specs.Bodies.{parameters, result, frame}
+use Rattle.type_names.specs.Bodies as b
+use Rattle.type_names.specs.Bodies.{parameters, result, frame}
 use Rattle.elan_walk.specs.Operators.{operator_text}
 use Rattle.elan_scope.specs.Phrase as form
 use Rattle.elan_scope.specs.Phrase.{Plain, plain, Phrase, none, part, all_of, row, leaf}
@@ -36,16 +36,16 @@ use Rattle.elan_scope.specs.Known.{delivered, delivery_at, leads_back}
 use Rattle.elan_scope.specs.declared.known.Known.{Known}
 use Rattle.elan_rules.specs.Rules.{rule, ruled, hangs_on}
 use Rattle.elan_judge.specs.Shape as shape
-use Rattle.elan_bodies.specs.Level as l
+use Rattle.elan_judge.specs.Level as l
 use Rattle.elan_rules.specs.Meaning.{judged, judged_all}
-use Rattle.elan_bodies.specs.Refinements.{stated, called_in, known_of}
+use Rattle.elan_judge.specs.Refinements.{stated, called_in, known_of}
 use Rattle.elan_rules.proofs.First.{Faultless, whole, open_one, bind_faultless, before_faultless}
 use Rattle.elan_judge.proofs.InScope.{InScope, body_units_in, statement_in}
 use Rattle.elan_meant.proofs.Told.{told_never_hangs}
 use Rattle.call_graph.proofs.Walks.{In, Call, no_walk}
-use Rattle.elan_bodies.proofs.Settled.{open_last, calls_are}
-use Rattle.elan_bodies.proofs.Counts.{unit_headings_count, all_headings_count}
-use Rattle.elan_bodies.proofs.Places.{same_length}
+use Rattle.elan_judge.proofs.Settled.{open_last, calls_are}
+use Rattle.elan_judge.proofs.Counts.{unit_headings_count, all_headings_count}
+use Rattle.elan_judge.proofs.Places.{same_length}
 use Rattle.elan_check.proofs.Hanging.{before_both, bind_hangs, before_hangs, IsHeaded, Leaf, leaf_of, body_leaf, clear}
 use Rattle.elan_check.proofs.Closed.{ScopeClosed, PacketsClosed, HeadingsClosed, nothing_hangs}
 use Rattle.elan_check.proofs.Clean as clean
@@ -54,8 +54,8 @@ use Rattle.elan_check.specs.Text.{faults}
 use Rattle.elan_scope.specs.Scope.{has_open, is_open_result}
 use Rattle.value_rules.specs.Calls.{heading_open}
 use Rattle.elan_meant.specs.Verdict.{Verdict, told, is_given}
-use Rattle.elan_levels.specs.walks.Headings.{all_headings}
-use Rattle.elan_bodies.specs.walks.Units.{all_unit_bodies, level_units}
+use Rattle.type_names.specs.walks.Headings.{all_headings}
+use Rattle.elan_judge.specs.walks.Units.{all_unit_bodies, level_units}
 
 module _ (kn : Known) (s : Scope) where
   -- the units of a body without fault, in their scope

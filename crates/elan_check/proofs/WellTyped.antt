@@ -43,7 +43,7 @@ use Rattle.elan_scope.specs.Scope.{number_of, all_held}
 use Rattle.elan_scope.specs.declared.scope.Scope.{Scope}
 use Rattle.elan_scope.specs.declared.scope.Within.{Within}
 use Rattle.elan_names.specs.declared.type_name.TypeName.{TypeName}
-use Rattle.elan_levels.specs.Bodies as b
+use Rattle.type_names.specs.Bodies as b
 use Rattle.elan_scope.specs.Phrase as form
 use Rattle.elan_scope.specs.Phrase.{plain, Phrase, phrase, Parts, none, part, all_of, around}
 use Rattle.elan_scope.specs.Ruled.{gives}
@@ -51,12 +51,12 @@ use Rattle.elan_scope.specs.Known.{delivery_at}
 use Rattle.elan_scope.specs.declared.known.Known.{Known}
 use Rattle.elan_walk.specs.Operators.{operator_text}
 use Rattle.elan_meant.specs.Parts as p
-use Rattle.unit_rules.specs.Units as u
+use Rattle.elan_rules.specs.Units as u
 use Rattle.elan_rules.specs.Rules.{ruled}
 use Rattle.elan_judge.specs.Shape as shape
-use Rattle.elan_bodies.specs.Level as l
+use Rattle.elan_judge.specs.Level as l
 use Rattle.elan_rules.specs.Meaning.{judged, judged_all}
-use Rattle.elan_bodies.specs.Refinements.{stated, delivery_of, known_of}
+use Rattle.elan_judge.specs.Refinements.{stated, delivery_of, known_of}
 use Rattle.elan_rules.proofs.First.{bind_gives, before_gives, gives_is}
 use Rattle.elan_judge.proofs.InScope.{statement_in}
 use Rattle.elan_rules.proofs.TypeEquations.{Stand}
@@ -68,12 +68,12 @@ use Rattle.elan_names.specs.declared.interface.Inserted.{Inserted}
 use Rattle.elan_scope.specs.declared.scope.Home.{Home as HeldIn}
 use Rattle.elan_check.proofs.HeldTypes.{BodiesSized, level_sized, bodies_sized}
 use Rattle.elan_judge.proofs.TypedRules.{good}
-use Rattle.elan_bodies.proofs.Counts.{all_headings_count}
-use Rattle.elan_bodies.proofs.Settled.{told_found, refinement_found}
+use Rattle.elan_judge.proofs.Counts.{all_headings_count}
+use Rattle.elan_judge.proofs.Settled.{told_found, refinement_found}
 use Rattle.elan_check.proofs.Aligned.{Made, surroundings, Inside, Frames, within, Stands, Row, Rows, rows_append, refinement_rows, split, bodies_append, exports_quiet}
 use Rattle.elan_check.proofs.LevelRows.{at_behind, units_rows, rows_count, inside_first, row_of_heading, heading_of_body}
-use Rattle.elan_levels.specs.walks.Headings.{all_headings}
-use Rattle.elan_bodies.specs.walks.Units.{all_unit_bodies, level_units}
+use Rattle.type_names.specs.walks.Headings.{all_headings}
+use Rattle.elan_judge.specs.walks.Units.{all_unit_bodies, level_units}
 
 -- ---- what a body delivers
 

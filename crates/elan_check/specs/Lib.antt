@@ -1,4 +1,4 @@
+pub mod walks
 pub mod Text
 pub mod Packets
 pub mod Starts
-pub mod walks

@@ -10,8 +10,8 @@ use Rattle.elan_names.specs.declared.interface.Interface.{Interface}
 use Rattle.elan_scope.specs.declared.env.Env.{Env}
 use Rattle.elan_scope.specs.Shown.{shown_types}
 use Rattle.type_names.specs.Types.{names_of, level_definitions}
-use Rattle.elan_levels.specs.Bodies.{level_names, headings}
-use Rattle.elan_bodies.specs.Level.{level_in, exports_in, export_name, packet_cells}
+use Rattle.type_names.specs.Bodies.{level_names, headings}
+use Rattle.elan_judge.specs.Level.{level_in, exports_in, export_name, packet_cells}
 use Rattle.elan_check.specs.Text.{Means}
 
 abbrev pub nothing : Env

@@ -12,13 +12,13 @@ use Rattle.elan_meant.specs.declared.meant.Meant.TheVariants as means
 use Rattle.elan_scope.specs.declared.env.Env.{Env}
 use Rattle.elan_scope.specs.Scope.{variables_of}
 use Rattle.elan_scope.specs.Shown.{shown_types}
-use Rattle.elan_levels.specs.Bodies.{level_names}
+use Rattle.type_names.specs.Bodies.{level_names}
 use Rattle.elan_meant.specs.declared.meant.Meant.{Meant}
 use Rattle.elan_scope.specs.Ruled.{Fault, Ruled, gives, breaks}
 use Rattle.type_names.specs.Faults.{first_fault, level_faults}
-use Rattle.elan_bodies.specs.Level.{level_in, level_bodies, text_scope, text}
+use Rattle.elan_judge.specs.Level.{level_in, level_bodies, text_scope, text}
 use Rattle.elan_scope.specs.declared.known.Known.{Known}
-use Rattle.elan_bodies.specs.Refinements.{bodies_within, known_of}
+use Rattle.elan_judge.specs.Refinements.{bodies_within, known_of}
 use Rattle.elan_rules.specs.Meaning as phrase
 
 -- after these packets

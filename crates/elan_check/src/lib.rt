@@ -1,12 +1,16 @@
-//! What a text means: its names and types, and the first phrase that breaks a rule.
+//! What a text means, phrase after phrase: its names and types, and the first phrase that breaks a rule.
 #![tactic(auto)]
 
 mod error;
 mod laws;
+pub mod level;
 mod packets;
+mod routine;
+pub mod shown;
 mod start;
 mod text;
 mod text_core;
+pub mod text_scope;
 
 pub use error::CheckError;
 pub use laws::{

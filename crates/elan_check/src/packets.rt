@@ -1,16 +1,16 @@
 //! The packets of a task.
 
 ghost use Rattle.std.specs.Prelude.{◌≡◌, ◌-◌, ◌∷◌, ◌++◌, [], length, IfOk};
-ghost use Rattle.elan_bodies.specs.Level.{packet_cells};
+ghost use Rattle.elan_judge.specs.Level.{packet_cells};
 ghost use Rattle.type_names.specs.Types.{names_of, level_types as types_in, level_definitions};
-ghost use Rattle.elan_levels.specs.Bodies.{names_in, headings_in};
+ghost use Rattle.type_names.specs.Bodies.{names_in, headings_in};
 ghost use Rattle.elan_check.specs.Packets as spec;
 ghost use Rattle.elan_check.specs.walks.Shown as walks;
 ghost use Rattle.elan_check.specs.Packets.{AreCompiled, IsPacket};
 
+use crate::shown::export_names;
+use crate::text_scope::{cells_of, exports_in, level_in};
 use cell_kinds::Packet;
-use elan_levels::bodies::{level_names, level_types};
-use elan_levels::heading::headings;
 use elan_meant::row::both;
 use elan_names::directory::Directory;
 use elan_names::headings::Headings;
@@ -19,12 +19,12 @@ use elan_names::type_directory::TypeDirectory;
 use elan_scope::env::Env;
 use elan_tree::{Export, Level, Tree};
 use elan_types::{Body, Core};
+use elan_walk::definition::level_definitions;
 use eu_base::{List, NoMemory, Shared};
 use std::alloc::Global;
 use std::marker::Model;
-use text_judge::shown::export_names;
-use text_judge::text_scope::{cells_of, exports_in, level_in};
-use type_definitions::definition::level_definitions;
+use type_names::bodies::{level_names, level_types};
+use type_names::heading::headings;
 use type_names::resolve::{Around, names_of};
 
 /// The packets of a task, as a text sees them that is compiled after them. Each is a text that has a meaning after those before it.

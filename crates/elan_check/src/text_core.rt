@@ -5,18 +5,20 @@ ghost use Rattle.elan_meant.specs.declared.meant.Meant.{Meant as Meanings};
 ghost use Rattle.elan_scope.specs.Ruled.{Ruled, breaks};
 ghost use Rattle.elan_scope.specs.Shown.{shown_types};
 ghost use Rattle.elan_scope.specs.Answer.{Is};
-ghost use Rattle.elan_bodies.specs.Level as spec;
+ghost use Rattle.elan_judge.specs.Level as spec;
 ghost use Rattle.elan_check.specs.Text as texts;
 ghost use Rattle.elan_check.specs.Packets.{AreCompiled};
 
 use crate::error::CheckError;
+use crate::level::judge_level;
 use crate::packets::shared;
+use crate::text_scope::{exports_in, level_in, text_scope};
 use cell_kinds::{CellKinds, Packet};
-use elan_bodies::known_of;
-use elan_levels::bodies::held_kinds;
+use elan_judge::known_of;
 use elan_meant::meant::Meant;
 use elan_meant::row::Row;
 use elan_names::type_directory::TypeDirectory;
+use elan_rules::body::level;
 use elan_scope::env::Env;
 use elan_scope::known::Known;
 use elan_scope::scope::Scope;
@@ -25,12 +27,10 @@ use elan_tree::Tree;
 use elan_types::{Action, Body, Core, Why};
 use eu_base::{List, NoMemory, Shared};
 use std::alloc::Global;
-use text_judge::level::judge_level;
-use text_judge::text_scope::{exports_in, level_in, text_scope};
+use type_names::bodies::held_kinds;
 use type_names::fault::level_fault;
 use type_names::resolve::Around;
 use type_names::search::Fault;
-use unit_rules::body::level;
 
 // The fault of a type, or that of a phrase, if that stands before it.
 fn earlier(fault: Fault, at: u32, why: Why) -> CheckError

@@ -6,9 +6,9 @@ ghost use Rattle.elan_grammar.specs.Rule.{Gives};
 ghost use Rattle.elan_grammar.specs.Kinds as kinds;
 ghost use Rattle.elan_grammar.specs.Terminals as spec;
 
+use crate::kind::{ahead, is_init, is_key, is_level, is_rep, is_sign, is_symbol, kind_of};
 use containers::{Bytes, NoMemory};
 use elan_grammar::{Joint, Kind, ParseError};
-use elan_kinds::{ahead, is_init, is_key, is_level, is_rep, is_sign, is_symbol, kind_of};
 use elan_tree::{
     Access, Constant, Export, Expr, Key, Label, Name, Operator, OperatorName, Sign, Size, Token,
     TypePhrase, Word,

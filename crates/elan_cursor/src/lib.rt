@@ -2,8 +2,8 @@
 #![tactic(auto)]
 
 mod cursor;
+pub mod kind;
 pub mod made;
 pub mod passing;
 
 pub use cursor::Cursor;
-pub use elan_kinds as kind;

@@ -12,7 +12,7 @@ use Rattle.elan_meant.specs.declared.meant.Meant.TheVariants.{Labels}
 use Rattle.elan_scope.specs.declared.scope.Scope.{Scope}
 use Rattle.elan_scope.specs.declared.trouble.Trouble.{Trouble}
 use Rattle.elan_scope.specs.Answer.{Is, Fails}
-use Rattle.choice_rules.specs.Choices.{labels_of}
+use Rattle.elan_rules.specs.Choices.{labels_of}
 use Rattle.elan_rules.specs.Meaning.{judged, judged_all}
 use Rattle.elan_scope.specs.declared.delivery.Delivery.{Delivery}
 use Rattle.elan_scope.specs.declared.delivery.Delivery.TheVariants.{Nothing}

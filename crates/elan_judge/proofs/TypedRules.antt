@@ -15,7 +15,7 @@ use Rattle.elan_scope.specs.Phrase as form
 use Rattle.elan_scope.specs.Phrase.{Form, Plain, plain, Phrase, phrase, Parts, none, part}
 use Rattle.elan_meant.specs.Parts as p
 use Rattle.value_rules.specs.Calls as r
-use Rattle.choice_rules.specs.walks.Steps as walk
+use Rattle.elan_rules.specs.walks.ChoiceSteps as walk
 use Rattle.elan_rules.specs.Rules as all
 use Rattle.elan_meant.specs.declared.meant.Meant.TheVariants.{Start}
 use Rattle.elan_rules.specs.Rules.{rule, ruled}
@@ -27,7 +27,7 @@ use Rattle.elan_rules.proofs.Typed.{Gives, MayGive, on_if, on_bind, on_told, on_
 use Rattle.elan_rules.proofs.TypeEquations.{Stand}
 use Rattle.elan_rules.proofs.TypedUnits.{number_good, truth_good, text_good, bracketed_good, concr_good, cand_good, cor_good, assigned_good, initial_good, in_order_good}
 use Rattle.elan_types.specs.declared.core_phrase.Action.{Action}
-use Rattle.unit_rules.specs.Units.{binding_if}
+use Rattle.elan_rules.specs.Units.{binding_if}
 use Rattle.elan_rules.proofs.TypedUnits.{MayTyped, named_binding_good, indexed_good, field_part_good, alone_good, without_value_good, must_deliver_good}
 use Rattle.elan_rules.proofs.TypedChoices.{choice_good, selected_good, label_named_good}
 use Rattle.elan_rules.proofs.TypedLoops.{counted_good, loop_good}

@@ -1,2 +1,4 @@
 pub mod Shape
 pub mod walks
+pub mod Level
+pub mod Refinements

@@ -9,11 +9,11 @@ ghost use Rattle.elan_judge.specs.Shape as shape;
 
 use elan_meant::row::Judged;
 use elan_meant::together::{none, pair, with};
+use elan_rules::list::definition;
 use elan_scope::known::Known;
 use elan_scope::scope::Scope;
 use elan_tree::{Constant, LetItem};
 use std::alloc::Global;
-use unit_rules::list::definition;
 use value_rules::name::{declared, type_declared};
 use value_rules::value::{number, text, truth};
 

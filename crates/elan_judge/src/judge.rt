@@ -15,12 +15,13 @@ use crate::define::judge_let;
 use crate::label::{add_numbers, judge_labels};
 use crate::place::unit_place;
 use crate::role::{Wanted, asked};
-use choice_rules::choice::choice;
-use choice_rules::selection::selected;
 use elan_meant::meant::Meant;
 use elan_meant::row::{Judged, Row};
 use elan_meant::together::{Three, before, let_go, none, one, pair, three, with};
 use elan_names::heading::Sort;
+use elan_rules::choice::choice;
+use elan_rules::list::{alone, declaration, in_order, must_deliver, without_value};
+use elan_rules::selection::selected;
 use elan_rules::whole::{
     assignment_phrase, cand_phrase, cor_phrase, count_phrase, index_phrase, initial_phrase,
     loop_phrase,
@@ -33,7 +34,6 @@ use elan_types::Way;
 use elan_walk::operator_text;
 use eu_base::List;
 use std::alloc::Global;
-use unit_rules::list::{alone, declaration, in_order, must_deliver, without_value};
 use value_rules::call::{applied, is_begin_name};
 use value_rules::leave::leaving;
 use value_rules::name::{declared, named, start_named, started};

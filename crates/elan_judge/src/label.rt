@@ -9,9 +9,9 @@ ghost use Rattle.elan_scope.specs.Answer.{Is, Gives};
 ghost use Rattle.elan_judge.specs.Shape as shape;
 ghost use Rattle.elan_judge.specs.walks.Steps as walk;
 
-use choice_rules::selection::{label_is, label_named};
 use elan_meant::meant::Meant;
 use elan_meant::row::Judged;
+use elan_rules::selection::{label_is, label_named};
 use elan_scope::known::Known;
 use elan_scope::scope::Scope;
 use elan_scope::trouble::Trouble;

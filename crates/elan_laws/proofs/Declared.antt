@@ -35,9 +35,9 @@ use Rattle.elan_walk.specs.declared.node.Held.TheVariants.{Variable, Constant, B
 use Rattle.elan_walk.specs.Nodes as nodes
 use Rattle.elan_walk.specs.Nodes.{Node, other, sign, of_type, content, item}
 use Rattle.elan_scope.specs.declared.scope.Usage.TheVariants.{Counter as Counts}
-use Rattle.elan_levels.specs.Declarations as d
+use Rattle.type_names.specs.Declarations as d
 use Rattle.type_names.specs.Types.{defined_by}
-use Rattle.type_definitions.specs.declared.definition.Definition.{Definition}
+use Rattle.elan_walk.specs.declared.definition.Definition.{Definition}
 use Rattle.elan_names.specs.declared.type_name.TypeName.{TypeName}
 use Rattle.elan_names.specs.declared.entry.Entry.{Entry}
 use Rattle.elan_scope.specs.Scope.{find, find_own, find_own_type}

@@ -15,11 +15,11 @@ use Rattle.elan_scope.specs.Phrase.{Phrase}
 use Rattle.elan_scope.specs.Ruled.{Ruled, gives, breaks, hangs}
 use Rattle.elan_meant.specs.declared.meant.Meant.{Meant}
 use Rattle.elan_rules.specs.Meaning.{judged}
-use Rattle.elan_levels.specs.Bodies.{headings}
-use Rattle.elan_bodies.specs.Level.{level_in, text}
-use Rattle.elan_bodies.specs.Refinements.{bodies_within, delivery_of, last_unit, outcome, unit_delivery, known_after}
-use Rattle.elan_bodies.proofs.Inferred.{Below, same_meaning}
-use Rattle.elan_bodies.proofs.Settled.{not_open, from, told_found, open_last}
+use Rattle.type_names.specs.Bodies.{headings}
+use Rattle.elan_judge.specs.Level.{level_in, text}
+use Rattle.elan_judge.specs.Refinements.{bodies_within, delivery_of, last_unit, outcome, unit_delivery, known_after}
+use Rattle.elan_judge.proofs.Inferred.{Below, same_meaning}
+use Rattle.elan_judge.proofs.Settled.{not_open, from, told_found, open_last}
 use Rattle.elan_laws.specs.Settled.{Delivers, Settles, IsSettled}
 
 -- what a heading says

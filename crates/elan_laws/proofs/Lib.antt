@@ -1,3 +1,8 @@
+pub mod Limits
+pub mod TypeLimits
+pub mod ExpressionLimits
+pub mod UnitLimits
+pub mod TextLimits
 pub mod Through
 pub mod TextOrder
 pub mod WholeOrder

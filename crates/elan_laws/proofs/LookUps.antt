@@ -33,13 +33,13 @@ use Rattle.elan_scope.specs.declared.scope.Home.TheVariants.{Routine as of_routi
 use Rattle.elan_names.specs.declared.heading.What.TheVariants as what
 use Rattle.elan_walk.specs.declared.node.Held.TheVariants.{Variable, Constant, Bound}
 use Rattle.std.proofs.lemmas.Bool.Decides.{Decides-eqb}
-use Rattle.elan_levels.specs.Declarations as d
+use Rattle.type_names.specs.Declarations as d
 use Rattle.elan_names.specs.declared.type_name.TypeName.{TypeName}
 use Rattle.elan_names.specs.Types.{first_type}
 use Rattle.type_names.specs.Types.{type_name, names_from, names_of, in_units, in_refinements, refinement_definitions}
 use Rattle.type_names.proofs.Looked.{look_append}
-use Rattle.type_definitions.specs.declared.definition.Definition.{Definition}
-use Rattle.elan_levels.specs.Bodies as b
+use Rattle.elan_walk.specs.declared.definition.Definition.{Definition}
+use Rattle.type_names.specs.Bodies as b
 use Rattle.elan_laws.specs.Served.{HasBody}
 use Rattle.elan_types.specs.declared.elan_type.Parameter.{Parameter}
 use Rattle.elan_laws.proofs.Declared.{Named}

@@ -54,11 +54,11 @@ use Rattle.elan_meant.specs.Parts as p
 use Rattle.value_rules.specs.Values as v
 use Rattle.value_rules.specs.walks.Steps as value_walk
 use Rattle.value_rules.specs.Calls as r
-use Rattle.unit_rules.specs.Units as u
-use Rattle.unit_rules.specs.Loops as o
-use Rattle.unit_rules.specs.walks.Steps as unit_walk
-use Rattle.choice_rules.specs.Choices as c
-use Rattle.choice_rules.specs.walks.Steps as choice_walk
+use Rattle.elan_rules.specs.Units as u
+use Rattle.elan_rules.specs.Loops as o
+use Rattle.elan_rules.specs.walks.UnitSteps as unit_walk
+use Rattle.elan_rules.specs.Choices as c
+use Rattle.elan_rules.specs.walks.ChoiceSteps as choice_walk
 use Rattle.elan_rules.specs.Rules as all
 use Rattle.elan_rules.specs.Rules.{rule, ruled}
 use Rattle.elan_laws.specs.Order.{Follows, own}

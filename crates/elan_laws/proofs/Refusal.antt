@@ -11,7 +11,7 @@ use Rattle.elan_rules.specs.Rules.{ruled}
 use Rattle.elan_rules.specs.Meaning.{phrases, IsFirst, judged, judged_all}
 use Rattle.elan_rules.proofs.First as first
 use Rattle.type_names.specs.Faults.{first_fault}
-use Rattle.elan_bodies.specs.Level.{text}
+use Rattle.elan_judge.specs.Level.{text}
 use Rattle.elan_check.specs.Text.{IsEarliest, Refused, faults, known}
 use Rattle.elan_laws.specs.Places.{places, type_places}
 use Rattle.elan_laws.specs.Order.{Follows, ends, stays, goes_on, own, in_phrase, in_parts}

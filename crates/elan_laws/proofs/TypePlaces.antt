@@ -34,7 +34,7 @@ use Rattle.elan_names.specs.declared.type_name.Named.TheVariants as named
 use Rattle.elan_scope.specs.declared.env.Env.{Env}
 use Rattle.elan_scope.specs.Ruled.{Fault}
 use Rattle.elan_scope.specs.Shown.{shown_types}
-use Rattle.type_definitions.specs.declared.definition.Definition.{Definition}
+use Rattle.elan_walk.specs.declared.definition.Definition.{Definition}
 use Rattle.type_names.specs.Types.{first_from, names_of, body_definitions, level_definitions, look, size_in, size_of, is_broken}
 use Rattle.type_names.specs.Faults as faults
 use Rattle.type_names.specs.Faults.{Here, here, Judged, JudgedFields}

@@ -8,7 +8,7 @@ use Rattle.elan_types.specs.Types.{same_type}
 use Rattle.elan_types.proofs.Types.{same_type_self}
 use Rattle.elan_names.specs.declared.type_name.TypeName.{TypeName}
 use Rattle.type_names.specs.Types as types
-use Rattle.type_definitions.specs.declared.definition.Definition.{Definition}
+use Rattle.elan_walk.specs.declared.definition.Definition.{Definition}
 use Rattle.elan_tree.specs.declared.written_type.Name.{Name}
 use Rattle.elan_tree.specs.declared.written_type.TypePhrase.{TypePhrase}
 use Rattle.elan_tree.specs.declared.written_type.Formal.{Formal}
@@ -37,16 +37,16 @@ use Rattle.elan_scope.specs.Scope.{same_sort, types_of}
 use Rattle.elan_scope.specs.Known.{delivered}
 use Rattle.elan_scope.specs.Phrase as form
 use Rattle.elan_scope.specs.Phrase.{Phrase, leaf, all_of}
-use Rattle.elan_levels.specs.Declarations as d
-use Rattle.elan_levels.specs.Bodies as b
-use Rattle.elan_bodies.specs.Level as l
+use Rattle.type_names.specs.Declarations as d
+use Rattle.type_names.specs.Bodies as b
+use Rattle.elan_judge.specs.Level as l
 use Rattle.elan_laws.specs.Served.{AreServed, AllServed}
 use Rattle.elan_laws.proofs.Declared.{NamedType, AllNamed, AllDefined, Fine, unit_alone_found, body_units_found}
 use Rattle.elan_laws.proofs.LookUps.{Has, in_first, in_second, Defines, defined_first, defined_second, refined, type_named, type_seen, bytes_self, named, own}
 use Rattle.elan_laws.proofs.LookUps.{HasHeading, heading_first, heading_second, heading_is, both_true, SubHeadings, Bodies}
 use Rattle.elan_laws.proofs.LookUps.{bodies_of, lead_append, nodes_lead, formals_lead, refinements_lead, units_lead}
-use Rattle.elan_levels.specs.walks.Headings.{all_headings}
-use Rattle.elan_bodies.specs.walks.Units.{level_units}
+use Rattle.type_names.specs.walks.Headings.{all_headings}
+use Rattle.elan_judge.specs.walks.Units.{level_units}
 
 abbrev Sub : Scope → List Entry → Type 0
 Sub z es = (x : List ℕ) → Has es x → Has (own z) x

@@ -22,15 +22,15 @@ use Rattle.elan_scope.specs.declared.scope.Scope.{Scope}
 use Rattle.elan_scope.specs.Known.{delivered}
 use Rattle.elan_walk.specs.Operators.{operator_text}
 use Rattle.elan_scope.specs.Phrase.{Phrase, phrase, Parts, none, part}
-use Rattle.elan_levels.specs.Bodies.{result, bodies_in, bodies_of_units}
+use Rattle.type_names.specs.Bodies.{result, bodies_in, bodies_of_units}
 use Rattle.elan_rules.specs.Meaning.{phrases, phrases_of}
-use Rattle.elan_bodies.specs.Level as l
+use Rattle.elan_judge.specs.Level as l
 use Rattle.elan_laws.specs.Places as at
 use Rattle.elan_laws.specs.Places.{places}
 use Rattle.elan_laws.specs.Order.{Follows, ends, IsSame, own, in_phrase, in_parts, leaves}
 use Rattle.elan_laws.proofs.Through.{behind, beside, both, same, twice, nothing, all_of_it, through}
 use Rattle.elan_laws.proofs.TextOrder.{places_of, parts_follow, one_part, body_units_follow, unit_alone_follows}
-use Rattle.elan_bodies.specs.walks.Units.{level_units}
+use Rattle.elan_judge.specs.walks.Units.{level_units}
 
 -- ---- bodies
 

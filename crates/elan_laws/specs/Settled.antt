@@ -12,9 +12,9 @@ use Rattle.elan_scope.specs.Known.{delivered, delivery_at}
 use Rattle.elan_scope.specs.Phrase.{Phrase}
 use Rattle.elan_meant.specs.declared.meant.Meant.{Meant}
 use Rattle.elan_rules.specs.Meaning.{Means}
-use Rattle.elan_levels.specs.Bodies.{headings}
-use Rattle.elan_bodies.specs.Level.{level_in, text}
-use Rattle.elan_bodies.specs.Refinements.{bodies_within, delivery_of, last_unit}
+use Rattle.type_names.specs.Bodies.{headings}
+use Rattle.elan_judge.specs.Level.{level_in, text}
+use Rattle.elan_judge.specs.Refinements.{bodies_within, delivery_of, last_unit}
 use Rattle.elan_check.specs.Text.{known}
 
 -- A list of units delivers what its last unit delivers, where that has a meaning.

@@ -11,7 +11,7 @@ ghost use Rattle.elan_meant.specs.declared.meant.Meant.{Meant};
 ghost use Rattle.elan_meant.specs.Operands.{chosen};
 ghost use Rattle.elan_meant.specs.Verdict.{gives};
 ghost use Rattle.value_rules.specs.Calls.{given, performed};
-ghost use Rattle.elan_bodies.specs.Level.{text};
+ghost use Rattle.elan_judge.specs.Level.{text};
 ghost use Rattle.elan_laws.specs.Served.{AreServed};
 
 /// In every text each rule is given what it asks for: so many parts, and what it looks up. Each name that is declared,

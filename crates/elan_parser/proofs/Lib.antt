@@ -1,1 +1,3 @@
 pub mod Fronts
+pub mod Marks
+pub mod PlaceFronts

@@ -1,3 +1,4 @@
+pub mod Skips
 pub use Rattle.elan_grammar.specs.Depth
 pub use Rattle.elan_grammar.specs.Grammar
 pub use Rattle.elan_grammar.specs.Place

@@ -1,20 +1,26 @@
 //! The parser of ELAN: from tokens to the tree that they spell.
 #![tactic(auto)]
 
+mod bodies;
+mod copies;
 mod error;
+mod operators;
 mod place;
+mod procs;
+mod texts;
 
 ghost use Rattle.std.specs.Prelude.{◌≡◌, ℕ, Err, ◌≤◌, IfOk};
 ghost use Rattle.elan_grammar.specs.Reads.{Reads};
 ghost use Rattle.elan_grammar.specs.Depth.{tree_depth};
 ghost use Rattle.elan_grammar.specs.Place.{IsPlace, place_of};
 
+pub use copies::continued;
 use elan_grammar::ParseError as ReadError;
 pub use elan_grammar::{one_place, one_tree};
 use elan_tree::{Token, Tree};
 pub use error::ParseError;
 use std::alloc::Global;
-use text_parser::whole;
+pub use texts::{left, whole};
 
 /// The tree that the tokens spell, as a packet or as a program; else the place where they stop being a text of the grammar.
 pub fn parse(alloc: Global, tokens: &[Token], packet: bool) -> Result<Tree, ParseError>

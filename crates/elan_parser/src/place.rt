@@ -7,14 +7,14 @@ ghost use Rattle.elan_grammar.specs.Place as place;
 ghost use Rattle.elan_grammar.specs.Place.{CanGoOn, IsPlace};
 ghost use Rattle.elan_grammar.specs.Stops.{left, tokens_of};
 
+use crate::{continued, left};
 use containers::NoMemory;
 use elan_grammar::Continuation;
 use elan_tree::Token;
 use std::alloc::Global;
-use text_parser::{continued, left};
 
 /// Whether the parser reads a front to its end, before what stands behind it.
-#[tactic(auto, using(crate::proofs::Fronts::added, crate::proofs::Fronts::front_fits))]
+#[tactic(auto, using(crate::proofs::PlaceFronts::added, crate::proofs::PlaceFronts::front_fits))]
 fn reaches_end(
     alloc: Global,
     front: &[Token],
@@ -52,7 +52,7 @@ fn can_go_on(alloc: Global, front: &[Token], packet: bool) -> Result<bool, NoMem
 
 /// How many tokens stand before the place, from a front of `start` tokens that can go on. The parser stops a token or two before
 /// the place where what it saw ahead led it another way, and else at the place.
-#[tactic(auto, using(crate::proofs::Fronts::place_here, crate::proofs::Fronts::place_behind, crate::proofs::Fronts::one_more))]
+#[tactic(auto, using(crate::proofs::PlaceFronts::place_here, crate::proofs::PlaceFronts::place_behind, crate::proofs::PlaceFronts::one_more))]
 fn tokens_before(
     alloc: Global,
     tokens: &[Token],
@@ -78,7 +78,7 @@ fn token_at(tokens: &[Token], at: usize) -> Option<&Token>
 }
 
 /// The place in bytes where so many tokens stand before it.
-#[tactic(auto, using(crate::proofs::Fronts::at_next, crate::proofs::Fronts::behind_last, crate::proofs::Fronts::without_tokens))]
+#[tactic(auto, using(crate::proofs::PlaceFronts::at_next, crate::proofs::PlaceFronts::behind_last, crate::proofs::PlaceFronts::without_tokens))]
 fn place_of(tokens: &[Token], before: usize) -> u32
     ensures { result ≡ place.place_of tokens.now before }
 {
@@ -92,7 +92,7 @@ fn place_of(tokens: &[Token], before: usize) -> u32
 }
 
 /// The place of a refusal, where the parser leaves so many tokens.
-#[tactic(auto, using(crate::proofs::Fronts::from_left, crate::proofs::Fronts::left_fits))]
+#[tactic(auto, using(crate::proofs::PlaceFronts::from_left, crate::proofs::PlaceFronts::left_fits))]
 pub(crate) fn refusal_place(
     alloc: Global,
     tokens: &[Token],

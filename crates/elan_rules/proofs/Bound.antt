@@ -10,7 +10,7 @@ use Rattle.elan_meant.specs.declared.meant.Meant.{Meant}
 use Rattle.elan_meant.specs.Operands.{becomes, chosen, is_unclear}
 use Rattle.elan_meant.specs.Parts.{unit_of}
 use Rattle.elan_meant.specs.Verdict.{gives, told, unless, Tells}
-use Rattle.unit_rules.specs.Units.{binding, binding_if}
+use Rattle.elan_rules.specs.Units.{binding, binding_if}
 use Rattle.elan_rules.specs.Rules.{assignment, assignment_as, assignment_or}
 
 module _ (out : Result Meant Trouble) (at : ℕ) (s : Scope) (l r : Meant) where

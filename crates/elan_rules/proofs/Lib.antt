@@ -1,3 +1,6 @@
+mod Lists
+mod Stores
+mod ChoiceLists
 pub mod First
 pub mod TypeEquations
 pub mod Typed

@@ -23,8 +23,8 @@ use Rattle.elan_meant.specs.Verdict.{Verdict, gives}
 use Rattle.elan_rules.proofs.Typed as ty
 use Rattle.elan_rules.proofs.Typed.{same_type_is, has_self, agree_self, only_if_holds, both, and_true, Gives, on_if, on_bind}
 use Rattle.elan_meant.specs.Parts as p
-use Rattle.choice_rules.specs.Choices as r
-use Rattle.choice_rules.specs.walks.Steps as w
+use Rattle.elan_rules.specs.Choices as r
+use Rattle.elan_rules.specs.walks.ChoiceSteps as w
 use Rattle.elan_rules.proofs.TypedUnits.{unreached_typed, if_value_typed}
 use Rattle.elan_rules.proofs.TypeEquations.{Stand, arm_typed, arm_shape, if_is, select_is, value_select_is, value_arm_is, arm_is}
 

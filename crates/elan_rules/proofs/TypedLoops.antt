@@ -13,8 +13,8 @@ use Rattle.eu_base.specs.declared.operation.Way.{Way}
 use Rattle.elan_rules.proofs.Typed as ty
 use Rattle.elan_rules.proofs.Typed.{same_type_is, has_self, agree_self, only_if_holds, both, and_true, Gives, on_if, on_bind}
 use Rattle.elan_meant.specs.Parts as p
-use Rattle.unit_rules.specs.Loops as r
-use Rattle.unit_rules.specs.walks.Steps as walk
+use Rattle.elan_rules.specs.Loops as r
+use Rattle.elan_rules.specs.walks.UnitSteps as walk
 use Rattle.elan_rules.proofs.TypeEquations.{Stand, number_is, loop_is, count_is}
 
 module _ (here : Stand) where

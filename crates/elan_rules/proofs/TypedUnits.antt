@@ -36,7 +36,7 @@ use Rattle.elan_meant.specs.Operands.{delivers}
 use Rattle.elan_rules.proofs.Typed as ty
 use Rattle.elan_rules.proofs.Typed.{same_type_is, type_shape, has_self, agree_self, only_if_holds, both, and_true, Gives, on_if, on_bind}
 use Rattle.elan_meant.specs.Parts as p
-use Rattle.unit_rules.specs.Units as r
+use Rattle.elan_rules.specs.Units as r
 use Rattle.value_rules.specs.walks.Steps as walk
 use Rattle.elan_rules.specs.Rules as rules
 use Rattle.elan_rules.proofs.TypeEquations.{Stand, typed, shape, cells as places, number_is, truth_is, text_is, value_if_is, value_unit_is, after_is, store_is, copy_is, bind_is, content_is}

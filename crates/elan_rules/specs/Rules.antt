@@ -15,9 +15,9 @@ use Rattle.elan_scope.specs.declared.scope.Scope.{Scope}
 use Rattle.elan_names.specs.declared.heading.Sort.TheVariants.{Procedure, Operator}
 use Rattle.value_rules.specs.Calls.{named, applied, start_named, started, called, declared, heading, leaving}
 use Rattle.value_rules.specs.Calls.{type_declared, exported, leaves_open, is_open_name, declares_open, is_open_type, heading_open}
-use Rattle.unit_rules.specs.Units.{assigned, initial, binding_if, in_order, alone, without_value, must_deliver, body_with, content_as, content_of, bodies_in}
-use Rattle.choice_rules.specs.Choices.{choice, label_is, label_named, labels_in, selected}
-use Rattle.unit_rules.specs.Loops.{counted, loop}
+use Rattle.elan_rules.specs.Units.{assigned, initial, binding_if, in_order, alone, without_value, must_deliver, body_with, content_as, content_of, bodies_in}
+use Rattle.elan_rules.specs.Choices.{choice, label_is, label_named, labels_in, selected}
+use Rattle.elan_rules.specs.Loops.{counted, loop}
 use Rattle.elan_scope.specs.Phrase as form
 use Rattle.elan_scope.specs.Phrase.{Plain, Form}
 use Rattle.elan_scope.specs.Ruled.{Ruled}

@@ -5,10 +5,12 @@ ghost use Rattle.std.specs.Prelude.{[], ◌∷◌, ◌&&◌, is_none};
 ghost use Rattle.elan_names.specs.declared.heading.Sort.TheVariants as sorts;
 ghost use Rattle.elan_scope.specs.Answer.{Is};
 ghost use Rattle.elan_meant.specs.Operands.{becomes, chosen, is_unclear};
-ghost use Rattle.unit_rules.specs.Units.{binding_if};
+ghost use Rattle.elan_rules.specs.Units.{binding_if};
 ghost use Rattle.elan_meant.specs.Verdict.{told, unless, Tells};
 ghost use Rattle.elan_names.specs.walks.Seen as seen;
 
+use crate::list::alone;
+use crate::store::{assigned, binds, bound};
 use elan_meant::meant::Meant;
 use elan_meant::operands::{chosen, is_unclear};
 use elan_meant::row::Judged;
@@ -19,8 +21,6 @@ use elan_scope::scope::Scope;
 use elan_scope::trouble::Trouble;
 use eu_base::List;
 use std::alloc::Global;
-use unit_rules::list::alone;
-use unit_rules::store::{assigned, binds, bound};
 use value_rules::call::called;
 
 // A call that stands alone.

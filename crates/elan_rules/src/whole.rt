@@ -9,14 +9,14 @@ ghost use Rattle.elan_meant.specs.walks.Arity.{triple};
 ghost use Rattle.elan_rules.specs.Meaning.{judged};
 
 use crate::assignment::assignment;
+use crate::body::refinement;
+use crate::repetition::{Bounds, Turns, counted, repeated};
+use crate::store::initial;
 use elan_meant::row::Judged;
 use elan_meant::together::{Three, six, two};
 use elan_scope::scope::Scope;
 use elan_types::{Scope as Owner, Way};
 use std::alloc::Global;
-use unit_rules::body::refinement;
-use unit_rules::repetition::{Bounds, Turns, counted, repeated};
-use unit_rules::store::initial;
 use value_rules::part::indexed;
 use value_rules::value::{cand, cor};
 

@@ -1,6 +1,8 @@
-//! One walk over trees, for whoever looks at their nodes, and how operators are written.
+//! One walk over trees, for whoever looks at their nodes; how operators are written; what the types of names are defined to be.
 #![tactic(auto, using(crate::proofs::Went::went_append))]
 
+mod copy;
+pub mod definition;
 mod node;
 mod operators;
 mod walk;

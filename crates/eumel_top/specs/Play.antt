@@ -3,9 +3,9 @@ use Rattle.std.specs.Prelude.{◌≡◌, ℕ, ◌⊎◌, Bool, List, Option, Res
 use Rattle.edge.specs.Told.{OnTold}
 use Rattle.line_command.specs.declared.status.Status.{Status}
 use Rattle.line_command.specs.declared.status.Status.TheVariants.{Done, BadWords, NoMemory, SourceFault, SinkFault, DiskFault, Foreign, BadLine, SessionFull}
-use Rattle.session_events.specs.declared.ending.Ending.{Ending}
-use Rattle.session_events.specs.declared.ending.Ending.TheVariants as ending
-use Rattle.session_events.specs.Sessions.{session_of}
+use Rattle.session_lines.specs.declared.ending.Ending.{Ending}
+use Rattle.session_lines.specs.declared.ending.Ending.TheVariants as ending
+use Rattle.session_lines.specs.Sessions.{session_of}
 use Rattle.session_play.specs.declared.error.PlayError.{PlayError}
 use Rattle.session_play.specs.declared.error.PlayError.TheVariants as error
 use Rattle.session_play.specs.Play.{PlayEnds, PlayStops}

@@ -23,7 +23,7 @@ use Rattle.place_gen.specs.Correct.{StandsFor, HasVariables, HasSpaces, HasSlots
 use Rattle.page_pool.specs.Pool.{Pages, Tell, Known}
 use Rattle.page_table.proofs.Framing.{nil_agree, stands_of}
 use Rattle.space_memory.specs.Memories.{StandsWhole, roots, new_memory}
-use Rattle.zero_calls.proofs.Written.{at_other, behind}
+use Rattle.zero_machine.proofs.Written.{at_other, behind}
 use Rattle.code_gen.specs.Correct.{Behaves}
 use Rattle.code_gen.proofs.Plays.{has_blank}
 

@@ -4,7 +4,7 @@ use Rattle.elan_types.specs.declared.core_phrase.Core.{Core}
 use Rattle.elan_check.specs.Packets.{nothing}
 use Rattle.packet_store.specs.declared.error.Refusal.{Refusal}
 use Rattle.packet_store.specs.Meaning as behind
-use Rattle.refusals.specs.Refusals.{refusal_text}
+use Rattle.packet_store.specs.Refusals.{refusal_text}
 use Rattle.line_command.specs.Program.{Shows}
 
 -- The text, which stands behind no packets, has this meaning as a program.

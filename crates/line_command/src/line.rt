@@ -16,9 +16,8 @@ use crate::stream::{Line, read_line};
 use code_form::Code;
 use edge::{Sink, Source, put_all};
 use eu_base::{Bytes, MemFault, NoMemory, Nowhere};
-use packet_store::{CompileError, Library, Refusal, Unit};
+use packet_store::{CompileError, Library, Refusal, Unit, refusal_text};
 use page_pool::Pool;
-use refusals::refusal_text;
 use space_memory::SpaceMemory;
 use std::alloc::Global;
 

@@ -24,7 +24,7 @@ use crate::endings::keep_inserted;
 use crate::packets::{Packets, release_unused};
 use eu_base::{Bytes, List, NoMemory, is_name};
 use live_tasks::Tasks;
-use refusals::{CompileError, Loaded, Unit, refusal_text};
+use packet_store::{CompileError, Loaded, Unit, refusal_text};
 use std::alloc::Global;
 use task_desk::TaskDesk;
 use task_numbers::{TASKS, TaskNo};

@@ -13,7 +13,7 @@ ghost use Rattle.live_tasks.specs.Tasks.{Stand, StandOver, AgreeBut};
 use cell_kinds::{CellKinds, Packet};
 use eu_base::NoMemory;
 use live_tasks::Tasks;
-use refusals::Loaded;
+use packet_store::Loaded;
 use std::alloc::Global;
 
 /// A program of a task is over: the task is idle, and keeps what the program left.

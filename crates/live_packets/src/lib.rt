@@ -9,7 +9,7 @@ mod place;
 pub use changes::{begin_task, can_begin, can_end, install, remove, said_of, start_unit};
 pub use endings::{finish, settle};
 pub use live_tasks::{Tasks, Went};
+pub use packet_store::Loaded;
 pub use packets::{Packets, told};
 pub use place::{last_of, place_of};
-pub use refusals::Loaded;
 pub use task_desk::{TaskDesk, one_reading};

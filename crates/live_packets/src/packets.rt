@@ -14,7 +14,7 @@ ghost use Rattle.live_tasks.specs.Tasks.{Stand};
 
 use eu_base::{NoMemory, Stop};
 use live_tasks::Tasks;
-use refusals::{CompileError, Library, Loaded, PACKETS, Unit};
+use packet_store::{CompileError, Library, Loaded, PACKETS, Unit};
 use std::alloc::Global;
 use std::marker::Model;
 

@@ -3,4 +3,3 @@ pub use Rattle.live_packets as live_packets
 pub use Rattle.live_packets.specs.Below.source_machine as source_machine
 pub use Rattle.live_packets.specs.Below.packet_store as packet_store
 pub use Rattle.live_packets.specs.Below.elan_check as elan_check
-pub use Rattle.live_packets.specs.Below.refusals as refusals

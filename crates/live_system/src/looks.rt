@@ -3,7 +3,7 @@ ghost use Rattle.std.specs.Prelude.{◌≡◌, ◌<◌, ◌≤◌, ℕ, List as 
 ghost use Rattle.std.specs.Option.{option_copied};
 ghost use Rattle.task_tree.specs.Tree as tree;
 ghost use Rattle.task_tree.specs.Trees.{IsTree};
-ghost use Rattle.task_walks.specs.Families.{family, listed};
+ghost use Rattle.task_tree.specs.Families.{family, listed};
 ghost use Rattle.terminals.specs.Channels as channels;
 ghost use Rattle.live_packets.specs.Below.source_machine.specs.Systems.{Moment, doing, requested, kept, runs};
 ghost use Rattle.live_packets.specs.Below.source_machine.specs.Ends.{number_refusal};
@@ -24,7 +24,7 @@ use eu_base::{Bytes, List, NoMemory, Request, Stop, is_name};
 use live_packets::{TaskDesk, Tasks, place_of};
 use std::alloc::Global;
 use task_numbers::TaskNo;
-use task_walks::Entry;
+use task_tree::Entry;
 
 impl System {
     /// The task at a channel.

@@ -2,7 +2,7 @@
 ghost use Rattle.std.specs.Prelude.{IfOk, OnOk, ◌≡◌, ◌++◌};
 ghost use Rattle.live_packets.specs.Below.source_machine.specs.Systems.{Moment, opening, at_event};
 ghost use Rattle.live_packets.specs.Below.source_machine.specs.Whole.{IsSystem};
-ghost use Rattle.output_pieces.specs.Display.{rendered};
+ghost use Rattle.session_text.specs.Display.{rendered};
 ghost use Rattle.live_system.specs.Machines.{StandsAt};
 
 use eu_base::{Bytes, NoMemory};

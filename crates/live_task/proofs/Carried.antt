@@ -13,7 +13,7 @@ use Rattle.page_table.specs.Sharing.{occ}
 use Rattle.page_table.proofs.Framing.{named_first, named_later}
 use Rattle.text_heap.specs.Held.{HoldsCells}
 use Rattle.text_heap.proofs.Kept.{kept_held}
-use Rattle.live_spaces.specs.Live.{the_space}
+use Rattle.space_memory.specs.Live.{the_space}
 use Rattle.space_memory.specs.Memories.{MemoryData, roots, is_there}
 use Rattle.task_job.specs.Here.{Knows, content_at, KeepsBytes, HoldsAll, bytes_in}
 use Rattle.space_memory.proofs.Areas.{root_among}

@@ -12,7 +12,7 @@ use Rattle.eu_base.specs.declared.address.Area.TheVariants.{Run, Packets}
 use Rattle.eu_base.specs.Cells.{Free}
 use Rattle.eu_base.specs.DataSpaces.{no_spaces}
 use Rattle.text_heap.specs.Held.{HoldsCells}
-use Rattle.live_spaces.specs.Live.{no_space}
+use Rattle.space_memory.specs.Live.{no_space}
 use Rattle.space_memory.specs.Memories.{MemoryData, roots, new_memory}
 use Rattle.task_job.specs.Here.{content_at, KeepsBytes, HoldsAll}
 use Rattle.code_form.specs.declared.halt.Halt.{Halt}

@@ -7,7 +7,7 @@ ghost use Rattle.cell_kinds.specs.Kinds.{packet_kinds};
 ghost use Rattle.page_pool.specs.Pool.{Pages};
 ghost use Rattle.page_table.specs.Frames.{Stands};
 ghost use Rattle.code_form.specs.Runs.{asked};
-ghost use Rattle.command_code.specs.Codes.{IsCodeOf};
+ghost use Rattle.code_gen.specs.Codes.{IsCodeOf};
 ghost use Rattle.task_job.specs.Below.packet_store.specs.Units.{IsUnit};
 ghost use Rattle.space_memory.specs.Memories.{roots, most_roots, StandsWhole};
 ghost use Rattle.task_job.specs.Here.{Knows, Frames, MemoryFrames};

@@ -29,7 +29,7 @@ use Rattle.task_tidy.specs.Below.live_task.proofs.Carried.{stands_carried}
 use Rattle.task_tidy.specs.Below.live_task.proofs.Dues.{due_carried}
 use Rattle.task_tidy.specs.Below.task_messages.specs.Passing.{does_run}
 use Rattle.live_tasks.specs.Tasks.{Live, IsFit, StandIn, task_roots, all_roots}
-use Rattle.live_spaces.specs.Live.{IsLive}
+use Rattle.space_memory.specs.Live.{IsLive}
 use Rattle.live_tasks.specs.Handing.{CanGo, Owed, paid, owing, StandsOrDue, handing}
 use Rattle.live_tasks.proofs.Owning.{joined, split, others_stand, room_memory}
 use Rattle.live_tasks.proofs.Standing.{roots_fit, call_small, call_sound, with_own_is}

@@ -4,7 +4,7 @@ use Rattle.std.specs.List.{AllZip}
 use Rattle.eu_base.specs.declared.value.Kind.{Kind}
 use Rattle.eu_base.specs.Requests.{Answer}
 use Rattle.page_pool.specs.Pool.{Pages}
-use Rattle.live_spaces.specs.Live.{IsLive}
+use Rattle.space_memory.specs.Live.{IsLive}
 use Rattle.task_numbers.specs.declared.number.SpaceNo.{SpaceNo}
 use Rattle.task_tidy.specs.Below.source_machine.specs.Tasks.{Own}
 use Rattle.task_tidy.specs.Below.live_task.specs.declared.task.Task.{Task}

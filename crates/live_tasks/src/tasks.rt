@@ -5,7 +5,7 @@ ghost use Rattle.eu_base.specs.declared.value.Kind.{Kind};
 ghost use Rattle.eu_base.specs.Requests.{plain, is_plain};
 ghost use Rattle.eu_base.specs.Room.{cells_fit};
 ghost use Rattle.cell_kinds.specs.Kinds.{packet_kinds};
-ghost use Rattle.command_code.specs.Codes.{IsCodeOf};
+ghost use Rattle.code_gen.specs.Codes.{IsCodeOf};
 ghost use Rattle.elan_types.specs.Eval.{World};
 ghost use Rattle.task_tidy.specs.Below.packet_store.specs.Units.{IsUnit};
 ghost use Rattle.task_tidy.specs.Below.source_machine.specs.Stores.{Store, heir, tidied};

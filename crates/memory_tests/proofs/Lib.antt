@@ -1,4 +1,5 @@
-mod Spaces
+pub mod Systems
+mod TwoSpaces
 mod Threes
 mod Tasks
 mod Settled

@@ -9,8 +9,8 @@ use Rattle.page_table.specs.Sharing.{Agree}
 use Rattle.space_memory.specs.Memories.{MemoryData, MemoryFrames, roots, forgotten, with_new, new_memory, heir}
 use Rattle.space_memory.proofs.Framed.{roots_long, taken_same, given_same}
 use Rattle.space_memory.proofs.Led.{without_long}
-use Rattle.live_spaces.proofs.Roots.{flip}
-use Rattle.live_spaces.specs.Live.{IsLive, the_space}
+use Rattle.space_memory.proofs.Roots.{flip}
+use Rattle.space_memory.specs.Live.{IsLive, the_space}
 use Rattle.data_space.specs.Data.{SpaceData}
 use Rattle.page_table.proofs.Framing.{Same, same_app, same_self, agree_same, nil_agree}
 use Rattle.page_table.proofs.Counting.{occ-append}

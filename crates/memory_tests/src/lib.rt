@@ -1,4 +1,5 @@
-//! Tests of what tasks keep in pages, in memory and behind it: pages, data spaces, texts in a space, and the memory of a task.
+//! Tests of what tasks keep in pages, in memory and behind it: pages, data spaces, texts in a space, the memory of a task, and tasks
+//! with two spaces each over one pool.
 #![tactic(auto)]
 
 #[cfg(test)]
@@ -13,6 +14,7 @@ mod failing;
 mod memories;
 #[cfg(test)]
 mod numbers;
+mod opened;
 #[cfg(test)]
 mod out;
 #[cfg(test)]
@@ -21,9 +23,16 @@ mod pages;
 mod sources;
 #[cfg(test)]
 mod space_steps;
+mod space_task;
+mod spaces;
+mod system;
 #[cfg(test)]
 mod task;
 #[cfg(test)]
 mod tests;
 #[cfg(test)]
 mod texts;
+
+pub use opened::open_page;
+pub use space_task::Task;
+pub use system::System;

@@ -2,10 +2,8 @@
 use crate::out::{put_digit, tell, tell_done, tell_fault};
 use cell_layout::cells as cell_count;
 use eu_base::{Addr, Area, Bytes, CELLS, Memory, Shape, SpaceOperation, Value};
-use live_spaces::MOST_LIVE;
-use space_assign::{assign_bound, assign_copy};
-use space_calls::perform;
-use space_places::{shape_is_there, values_are_there};
+use space_calls::{assign_bound, assign_copy, perform, shape_is_there, values_are_there};
+use space_memory::MOST_LIVE;
 use std::alloc::Global;
 use task_numbers::SpaceNo;
 

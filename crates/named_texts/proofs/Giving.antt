@@ -11,8 +11,8 @@ use Rattle.page_table.proofs.Framing.{frames_nil, frames_more, frames_then, stan
 use Rattle.data_space.specs.Data.{SpaceData}
 use Rattle.source_texts.specs.Spaces.{HoldsSpace}
 use Rattle.source_texts.specs.Sources.{source_space}
-use Rattle.live_spaces.specs.Live.{IsLive, space_at}
-use Rattle.live_spaces.specs.Kept.{KeepsBytes}
+use Rattle.space_memory.specs.Live.{IsLive, space_at}
+use Rattle.space_memory.specs.Kept.{KeepsBytes}
 use Rattle.space_names.specs.Directory as directory
 use Rattle.space_memory.specs.Memories.{MemoryData, roots, with_new, forgotten}
 use Rattle.space_memory.proofs.Framed.{beside_keep, taken_same, given_same, roots_long}

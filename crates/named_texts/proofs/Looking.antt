@@ -6,8 +6,8 @@ use Rattle.std.specs.Prelude.{slice_get}
 use Rattle.page_pool.specs.Pool.{Pages}
 use Rattle.page_table.specs.Frames.{Stands}
 use Rattle.data_space.specs.Data.{SpaceData}
-use Rattle.live_spaces.specs.Live.{space_at}
-use Rattle.live_spaces.proofs.Roots.{one_stands}
+use Rattle.space_memory.specs.Live.{space_at}
+use Rattle.space_memory.proofs.Roots.{one_stands}
 use Rattle.space_memory.specs.Memories.{MemoryData, roots}
 use Rattle.space_memory.proofs.Framed.{rest_stand}
 

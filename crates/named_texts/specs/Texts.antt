@@ -5,8 +5,8 @@ use Rattle.page_table.specs.Frames.{Over as Pages, Knows}
 use Rattle.data_space.specs.Data.{SpaceData}
 use Rattle.source_texts.specs.Spaces.{HoldsSpace}
 use Rattle.source_texts.specs.Sources.{source_space}
-use Rattle.live_spaces.specs.Live.{space_at}
-use Rattle.live_spaces.specs.Kept.{KeepsBytes}
+use Rattle.space_memory.specs.Live.{space_at}
+use Rattle.space_memory.specs.Kept.{KeepsBytes}
 use Rattle.space_names.specs.Directory as directory
 use Rattle.space_memory.specs.Memories.{MemoryData, roots, with_new, forgotten}
 

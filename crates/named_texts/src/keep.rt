@@ -4,17 +4,16 @@ ghost use Rattle.std.specs.List.{All};
 ghost use Rattle.eu_base.specs.Cells.{HasFaultCause};
 ghost use Rattle.page_pool.specs.Pool.{Tell, Backed};
 ghost use Rattle.page_table.specs.Frames.{over, Frames, Stands};
-ghost use Rattle.live_spaces.specs.Kept.{KeepsBytes};
+ghost use Rattle.space_memory.specs.Kept.{KeepsBytes};
 ghost use Rattle.space_names.specs.Directory as directory;
 ghost use Rattle.space_memory.specs.Memories.{roots, with_new};
 ghost use Rattle.named_texts.specs.Texts.{KeepsText, named_last, without_named};
 
 use data_space::DataSpace;
 use eu_base::{Bytes, MemFault, NoMemory};
-use live_spaces::MOST_LIVE;
 use page_pool::{Backing, Pool};
 use source_texts::{LONGEST_LINE, MOST_LINES, write_source};
-use space_memory::SpaceMemory;
+use space_memory::{MOST_LIVE, SpaceMemory};
 use std::alloc::Global;
 
 /// A text of these lines becomes the last space, and its name the last of the directory. An older space of that name is forgotten

@@ -5,7 +5,7 @@ ghost use Rattle.page_pool.specs.Pool.{Backed};
 ghost use Rattle.page_table.specs.Entries.{Names};
 ghost use Rattle.page_table.specs.Frames.{over, Frames, Stands};
 ghost use Rattle.source_texts.specs.Spaces.{Space, HoldsSpace};
-ghost use Rattle.live_spaces.specs.Live.{space_at};
+ghost use Rattle.space_memory.specs.Live.{space_at};
 ghost use Rattle.data_space.specs.Data.{SpaceData};
 ghost use Rattle.space_memory.specs.Memories.{roots};
 ghost use Rattle.named_texts.specs.Texts.{under};

@@ -2,3 +2,4 @@ pub mod Meaning
 pub mod Units
 pub mod Library
 pub mod Below
+pub mod Refusals

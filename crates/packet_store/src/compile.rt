@@ -10,7 +10,7 @@ ghost use Rattle.packet_store.specs.Units as spec;
 
 use crate::error::CompileError;
 use crate::unit::{Compiled, Source, Unit};
-use command_code::code_of;
+use code_gen::code_of;
 use elan_check::{Packets, check, interface_of};
 use elan_lexer::tokens;
 use elan_names::interface::Interface;

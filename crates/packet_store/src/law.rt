@@ -8,12 +8,12 @@ ghost use Rattle.elan_scope.specs.declared.env.Env.{Env};
 ghost use Rattle.elan_names.specs.declared.interface.Interface.{Interface};
 ghost use Rattle.elan_check.specs.Packets.{AreCompiled, after};
 ghost use Rattle.packet_store.specs.declared.error.Refusal.{Refusal};
-ghost use Rattle.command_code.specs.Codes.{IsCodeOf};
+ghost use Rattle.code_gen.specs.Codes.{IsCodeOf};
 ghost use Rattle.packet_store.specs.Meaning.{Means, IsRefused, HasOutcome};
 ghost use Rattle.packet_store.specs.declared.unit.Compiled.{Compiled};
 ghost use Rattle.packet_store.specs.Units.{BodiesKeepTheirNumbers, HasPacket, IsUnitOf};
 
-use command_code::one_code;
+use code_gen::one_code;
 use elan_check::{each_text_has_one_answer, meant_is_not_refused, one_core, one_refusal};
 use elan_parser::one_tree;
 

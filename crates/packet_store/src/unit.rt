@@ -1,7 +1,7 @@
 //! What a text, or a start procedure, is compiled to.
 
 ghost use Rattle.std.specs.Prelude.{◌≡◌};
-ghost use Rattle.command_code.specs.Codes.{IsCodeOf};
+ghost use Rattle.code_gen.specs.Codes.{IsCodeOf};
 ghost use Rattle.packet_store.specs.Units as spec;
 
 use code_form::Code;
@@ -64,7 +64,7 @@ impl Model for Loaded {
 }
 
 impl Model for Unit {
-    ghost use Rattle.command_code.specs.Codes.{IsCodeOf};
+    ghost use Rattle.code_gen.specs.Codes.{IsCodeOf};
     ghost use Rattle.packet_store.specs.declared.unit.Compiled.{Compiled};
     ghost use Rattle.std.specs.Coded.{codes};
     ghost use Rattle.elan_names.specs.contracts.interface.Interface as interfaces;

@@ -1,2 +1,3 @@
+pub mod LoopDepth
 pub mod Nothing
 pub mod VarOrConst

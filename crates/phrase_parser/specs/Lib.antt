@@ -1,2 +1,5 @@
-pub mod Nests
+pub mod TypeNests
+pub mod FormNests
+pub mod ExpressionNests
+pub mod UnitNests
 pub mod VarOrConst

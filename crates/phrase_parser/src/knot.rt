@@ -6,13 +6,13 @@ ghost use Rattle.elan_grammar.specs.Rule.{Parses, AtMost, Below, IsTall};
 ghost use Rattle.elan_grammar.specs.Units as spec;
 ghost use Rattle.elan_grammar.specs.Depth.{type_depth, expr_depth, unit_depth, deepest_of};
 
+use crate::Grammar;
 use crate::phrases::Phrases;
 use containers::List;
 use elan_cursor::Cursor;
 use elan_grammar::ParseError;
 use elan_grammar::tall::Tall;
 use elan_tree::{Expr, TypePhrase, Unit};
-use expression_parser::Grammar;
 use std::alloc::Global;
 
 /// An expression less than `depth` deep.

@@ -2,13 +2,12 @@
 
 ghost use Rattle.std.specs.Prelude.{◌≡◌};
 
+use crate::{Grammar, Inner};
 use containers::List;
 use elan_cursor::Cursor;
 use elan_grammar::ParseError;
 use elan_grammar::tall::Tall;
 use elan_tree::{Expr, Unit};
-use expression_parser::Grammar;
-use form_parser::Inner;
 use std::alloc::Global;
 
 /// The rules of units whose parts are less than `depth` deep, which the two functions parse.

@@ -4,11 +4,12 @@ ghost use Rattle.std.specs.Prelude.{◌≡◌};
 ghost use Rattle.elan_grammar.specs.Rule.{Parses, AtMost, IsTall};
 ghost use Rattle.elan_grammar.specs.Units as units;
 ghost use Rattle.phrase_parser.specs.VarOrConst as either;
-ghost use Rattle.phrase_parser.specs.Nests.{Nests};
+ghost use Rattle.phrase_parser.specs.UnitNests.{Nests};
 ghost use Rattle.elan_grammar.specs.Depth.{type_depth, expr_depth, item_depth, unit_depth, type_place, expr_place, deepest_of};
 
 use crate::access::{declaration_of, declaring, is_bare};
 use crate::phrases::Phrases;
+use crate::{expr_place, let_items, type_place, types};
 use containers::List;
 use elan_cursor::Cursor;
 use elan_cursor::kind::{WORD_LEVEL, begins_typed};
@@ -17,9 +18,7 @@ use elan_cursor::passing::before_key;
 use elan_grammar::ParseError;
 use elan_grammar::tall::{Tall, and, single};
 use elan_tree::{Access, Expr, Item, Key, Sign, TypePhrase, Unit};
-use expression_parser::expr_place;
 use std::alloc::Global;
-use type_parser::{let_items, type_place, types};
 
 impl<
     E: Fn(Global, &mut Cursor<'_>, u16, u8) -> Result<Tall<Expr>, ParseError> + Copy,

@@ -18,7 +18,7 @@ use Rattle.code_form.specs.Valid.{IsRefinement, with_result}
 use Rattle.elan_types.specs.declared.core_phrase.Exit.{Exit}
 use Rattle.elan_types.specs.declared.core_phrase.Exit.TheVariants as exits
 use Rattle.elan_types.specs.Eval.{Place, World, Gives, Left, bind, Passed, AsValue, AsPlace, all_slots, holding_passed, actuals, delivered, Calls, Run}
-use Rattle.code_draft.specs.Stretch.{Stretch, none, one, keeps, join, all_code, call_code, refer_code, leave_instr}
+use Rattle.place_gen.specs.Stretch.{Stretch, none, one, keeps, join, all_code, call_code, refer_code, leave_instr}
 use Rattle.elan_types.specs.Command.{Ending}
 use Rattle.place_gen.specs.Correct.{scene_of}
 use Rattle.place_gen.proofs.Lines.{join_sized}

@@ -55,7 +55,7 @@ use Rattle.elan_types.specs.Eval.{heed, followed, after_answer, ask_at, ask, bra
 use Rattle.elan_types.specs.Eval.{Slot, Taken, is_there, if_there, fetch, load, Passed, AsValue, AsPlace, all_slots}
 use Rattle.elan_types.specs.Command as endings
 use Rattle.elan_types.specs.Command.{Ending}
-use Rattle.code_draft.specs.Stretch.{Stretch, join}
+use Rattle.place_gen.specs.Stretch.{Stretch, join}
 use Rattle.place_gen.specs.Correct.{addr_of, StandsFor, Image, RestsAs, Shows, Comes, scene_of}
 use Rattle.place_gen.proofs.Lines.{HasAt, has_front, has_rest}
 use Rattle.elan_types.proofs.Shapes.{cell_is}

@@ -23,7 +23,7 @@ use Rattle.elan_types.specs.declared.core_phrase.Exit.{Exit}
 use Rattle.elan_types.specs.Eval.{Place, World, Outcome, Gives, Stopped, bind, spend, branch, or_stop, fetch, the, assign, save, modify, holding_place}
 use Rattle.elan_types.specs.Eval.{Calls, Run, holds}
 use Rattle.elan_types.specs.Command.{Ending}
-use Rattle.code_draft.specs.Stretch.{Stretch, one, keeps, join, if_code, whens, arm_code}
+use Rattle.place_gen.specs.Stretch.{Stretch, one, keeps, join, if_code, whens, arm_code}
 use Rattle.place_gen.specs.Correct.{addr_of, Comes, scene_of}
 use Rattle.place_gen.proofs.Spans.{found, reads_one, place_fits}
 use Rattle.place_gen.proofs.Lines.{HasAt, has_front, has_rest, join_sized}

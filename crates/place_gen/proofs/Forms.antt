@@ -38,7 +38,7 @@ use Rattle.elan_types.specs.Typing.{Held, values_held, begins}
 use Rattle.elan_types.specs.Eval.{World, Place, slot_at, place_of, Gives, bind, or_stop, or_outside, fetch_all, beyond, the, assign, save, load_all, deliver}
 use Rattle.elan_types.specs.Eval.{deliver_place, holding, holding_place, stored, part_of, Calls, Run}
 use Rattle.elan_types.specs.Eval.{all, values}
-use Rattle.code_draft.specs.Stretch.{Stretch, none, one, pushes, join}
+use Rattle.place_gen.specs.Stretch.{Stretch, none, one, pushes, join}
 use Rattle.place_gen.specs.Correct.{addr_of, scene_of}
 use Rattle.place_gen.proofs.Lines.{HasAt, join_sized}
 use Rattle.place_gen.proofs.Homes.{use_of, frame_uses}

@@ -1,3 +1,6 @@
+pub mod Adds
+pub mod Makes
+pub mod Select
 pub mod Lines
 pub mod Tables
 pub mod LoopTables

@@ -29,7 +29,7 @@ use Rattle.elan_types.specs.declared.core_phrase.Exit.{Exit as Exit'}
 use Rattle.elan_types.specs.Eval.{Place, Taken, World, Outcome, Gives, Stopped, bind, branch, fetch, the, holding_place, cut, Calls, Run, turns}
 use Rattle.elan_types.specs.Eval.{is_there, if_there, step as step_on, step_to, limited, counted}
 use Rattle.elan_types.specs.Command.{Ending}
-use Rattle.code_draft.specs.Stretch.{Stretch, PlaceCode, join, Exit, step_code, step_to_code, turns_code, limit_code, counted_code}
+use Rattle.place_gen.specs.Stretch.{Stretch, PlaceCode, join, Exit, step_code, step_to_code, turns_code, limit_code, counted_code}
 use Rattle.place_gen.specs.Correct.{addr_of, Comes, scene_of}
 use Rattle.place_gen.proofs.Spans.{found, reads_one, fetch_wider, place_fits, looks_same}
 use Rattle.place_gen.proofs.Lines.{HasAt, has_front, has_rest, join_sized}

@@ -6,7 +6,7 @@ use Rattle.std.proofs.Math.Seq.{get_or-append_seam}
 use Rattle.code_form.specs.declared.operand.OperandKind.{OperandKind}
 use Rattle.code_form.specs.declared.code.Line.{Line}
 use Rattle.code_form.specs.declared.code.Spot.{Spot}
-use Rattle.code_draft.specs.Stretch.{Stretch, join}
+use Rattle.place_gen.specs.Stretch.{Stretch, join}
 
 -- these lines stand in the code at this place
 abbrev pub HasAt : List Line → ℕ → List Line → Type 0

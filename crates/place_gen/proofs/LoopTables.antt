@@ -11,8 +11,8 @@ use Rattle.code_form.specs.declared.instr.Instr.TheVariants.{Mark, Modify, Jump,
 use Rattle.code_form.specs.declared.code.Spot.{Spot}
 use Rattle.code_form.specs.Program.{Program, line_of, instr_of, deeper}
 use Rattle.code_form.specs.Valid.{Next, is_mark, Lands, IsFine, cell_value, cell_place}
-use Rattle.code_draft.specs.Stretch.{Stretch, PlaceCode, never_code, one, keeps, pushes, join, if_code, whens, arm_code, Exit, stays, exit_join, while_code, until_code, step_code}
-use Rattle.code_draft.specs.Stretch.{step_to_code, turn_code, turns_code, limit_code, counted_code}
+use Rattle.place_gen.specs.Stretch.{Stretch, PlaceCode, never_code, one, keeps, pushes, join, if_code, whens, arm_code, Exit, stays, exit_join, while_code, until_code, step_code}
+use Rattle.place_gen.specs.Stretch.{step_to_code, turn_code, turns_code, limit_code, counted_code}
 use Rattle.place_gen.proofs.Lines.{HasAt, has_front, has_rest, IsSized}
 use Rattle.place_gen.proofs.Tables.{Each, each_rest, moved, forth, Table, ValueTable, PlaceTable, ActionTable, above, join_table, one_table, number_table}
 

@@ -29,7 +29,7 @@ use Rattle.elan_types.specs.declared.core_phrase.Exit.{Exit as Exit'}
 use Rattle.elan_types.specs.Eval.{slots_in, Place, Slot, World, Outcome, Gives, Stopped, bind, branch, fetch, the, assign, save, store_blocks, deliver, holding_place, modify, Calls, Run, turns}
 use Rattle.elan_types.specs.Eval.{is_there, load, while_true, until_true, then_on, done, turn, go_on, forever, step as step_on, step_to, step_from}
 use Rattle.elan_types.specs.Command.{Ending}
-use Rattle.code_draft.specs.Stretch.{Stretch, PlaceCode, never_code, none, one, pushes, join, Exit, stays, exit_join, while_code, until_code, step_code, step_to_code, turn_code, turns_code}
+use Rattle.place_gen.specs.Stretch.{Stretch, PlaceCode, never_code, none, one, pushes, join, Exit, stays, exit_join, while_code, until_code, step_code, step_to_code, turn_code, turns_code}
 use Rattle.place_gen.specs.Correct.{addr_of, Comes, scene_of}
 use Rattle.place_gen.proofs.Spans.{IsFound, found, reads_one, place_fits}
 use Rattle.eu_base.specs.declared.address.Area.TheVariants as areas

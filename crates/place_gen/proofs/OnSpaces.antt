@@ -35,7 +35,7 @@ use Rattle.code_form.specs.Machine.{with_cells, takes_number, keeps_space, fills
 use Rattle.elan_types.specs.declared.core_phrase.Exit.{Exit}
 use Rattle.elan_types.specs.Eval.{Calls, Place, World, Outcome, Gives, Stopped, Run, bind, branch, fetch, load, the, assign, without_held, copy_into, bind_to, holding_place, deliver_place, content_of, consult, or_refused, changed_by, values}
 use Rattle.elan_types.specs.Command.{Ending}
-use Rattle.code_draft.specs.Stretch.{Stretch, one, join}
+use Rattle.place_gen.specs.Stretch.{Stretch, one, join}
 use Rattle.place_gen.specs.Correct.{addr_of, Comes, scene_of}
 use Rattle.place_gen.proofs.Lines.{join_sized}
 use Rattle.place_gen.proofs.Cells.{Uses, Keeps, AtPlace}

@@ -35,7 +35,7 @@ use Rattle.elan_types.specs.declared.core_phrase.Exit.{Exit}
 use Rattle.elan_types.specs.Eval.{Place, AsPlace, Outcome, spend, ask_at, ask, ask_for, with_sent, settle, receive_at, receive, last_made, is_there, fetch, without_held, changed_by}
 use Rattle.elan_types.specs.Eval.{Passed, World, Reach, Gives, Stopped, bind, branch, or_stop, assign, value_given, keep, actuals, request, request_value, deliver, Run}
 use Rattle.elan_types.specs.Command.{Ending}
-use Rattle.code_draft.specs.Stretch.{Stretch, one, join}
+use Rattle.place_gen.specs.Stretch.{Stretch, one, join}
 use Rattle.place_gen.specs.Correct.{addr_of, Comes, scene_of}
 use Rattle.place_gen.proofs.Lines.{join_sized}
 use Rattle.place_gen.proofs.Tables.{size_is}

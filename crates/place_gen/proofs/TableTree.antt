@@ -40,9 +40,9 @@ use Rattle.elan_types.specs.Typing.{Outside, Typed, Taken, Home, has, only_if, s
 use Rattle.elan_types.specs.Typing.{phrase_shape, is_typed, value_kind_step, actual_kind_step, place_kinds_step, value_arm_kind_step, action_typed_step}
 use Rattle.elan_types.specs.Typing.{arm_typed_step}
 use Rattle.elan_types.specs.Typing.{is_content_typed, result_of_content, formal, request_formals}
-use Rattle.code_draft.specs.Stretch.{Stretch, Exit, none, one, place_code, keeps, pushes, join, stays, all_code, select_code, while_code, until_code, turn_code}
-use Rattle.code_draft.specs.Stretch.{turns_code, store_code, counted_code, action_code, actual_code, value_code, content_code, action_code_step}
-use Rattle.code_draft.specs.Stretch.{actual_code_step, place_code_step, value_code_step, arm_code_step, value_arm_code_step, arm_code_of, value_arm_code}
+use Rattle.place_gen.specs.Stretch.{Stretch, Exit, none, one, place_code, keeps, pushes, join, stays, all_code, select_code, while_code, until_code, turn_code}
+use Rattle.place_gen.specs.Stretch.{turns_code, store_code, counted_code, action_code, actual_code, value_code, content_code, action_code_step}
+use Rattle.place_gen.specs.Stretch.{actual_code_step, place_code_step, value_code_step, arm_code_step, value_arm_code_step, arm_code_of, value_arm_code}
 use Rattle.place_gen.specs.Layouts.{parameter_kind}
 use Rattle.place_gen.proofs.Homes.{Delivers, Agrees, IsHome, agree_is, held_cell, proc_is, part_is, left_is, only_if_is, both}
 use Rattle.place_gen.proofs.PlaceKinds.{starts_is, one_starts, first_behind, held_behind, place_held_is, if_true_is, items_are, first_of_drop, row_items}

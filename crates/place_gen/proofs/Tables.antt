@@ -29,8 +29,8 @@ use Rattle.code_form.specs.Valid.{Next, Lands, pushed_kinds, pushed_operands, re
 use Rattle.code_form.specs.Valid.{cell_value, cell_place, with_answer, AreItems, IsPart}
 use Rattle.elan_types.specs.declared.core_phrase.Exit.{Exit}
 use Rattle.elan_types.specs.declared.core_phrase.Exit.TheVariants as exits
-use Rattle.code_draft.specs.Stretch.{Stretch, none, one, keeps, pushes, join, all_code, call_code, refer_code}
-use Rattle.code_draft.specs.Stretch.{leave_instr}
+use Rattle.place_gen.specs.Stretch.{Stretch, none, one, keeps, pushes, join, all_code, call_code, refer_code}
+use Rattle.place_gen.specs.Stretch.{leave_instr}
 use Rattle.place_gen.proofs.Lines.{HasAt, has_front, has_rest, IsSized, join_sized}
 use Rattle.place_gen.proofs.Homes.{Delivers, LeftBy}
 

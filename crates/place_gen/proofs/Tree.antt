@@ -43,10 +43,10 @@ use Rattle.elan_types.specs.Typing.{formal, request_formals, place_kinds, place_
 use Rattle.elan_types.specs.Typing.{phrase_shape, is_typed, value_kind_step, value_arm_kind_step, actual_kind_step, action_typed_step, arm_typed_step}
 use Rattle.elan_types.specs.Eval.{Run, Place, Passed, Labelled, bind, stored, turns, holds, branch, counted, all, values, selected, while_true, until_true, turn, go_on}
 use Rattle.elan_types.specs.Eval.{act, value, action_step, actual_step, place_step, value_step, arm_step, value_arm_step}
-use Rattle.code_draft.specs.Stretch.{Stretch, none, join, stays, turns_code, store_code, all_code, arm_code, select_code, while_code, until_code, turn_code}
-use Rattle.code_draft.specs.Stretch.{counted_code, action_code, actual_code, place_code, value_code, action_code_step, actual_code_step, place_code_step}
-use Rattle.code_draft.specs.Stretch.{value_code_step, arm_code_step}
-use Rattle.code_draft.specs.Stretch.{value_arm_code_step, arm_code_of, value_arm_code}
+use Rattle.place_gen.specs.Stretch.{Stretch, none, join, stays, turns_code, store_code, all_code, arm_code, select_code, while_code, until_code, turn_code}
+use Rattle.place_gen.specs.Stretch.{counted_code, action_code, actual_code, place_code, value_code, action_code_step, actual_code_step, place_code_step}
+use Rattle.place_gen.specs.Stretch.{value_code_step, arm_code_step}
+use Rattle.place_gen.specs.Stretch.{value_arm_code_step, arm_code_of, value_arm_code}
 use Rattle.place_gen.specs.Layouts.{parameter_kind}
 use Rattle.place_gen.proofs.Cells.{Uses}
 use Rattle.place_gen.proofs.Carry.{Any, OfShape}

@@ -1,13 +1,13 @@
 //! The instructions of phrases. Want of memory is kept in the draft and told at the end. The functions call each other in one
 //! cycle, so they stand in one file.
 ghost use Rattle.std.specs.Prelude.{◌≡◌, ℕ, OnOk, map, option_map};
-ghost use Rattle.code_draft.specs.Stretch.{all_code, while_code, until_code, limit_code, step_code, step_to_code, place_code, value_code, action_code, actual_code};
-ghost use Rattle.code_draft.specs.Stretch.{content_code, value_arm_code, arm_code_of, value_parts, action_parts};
-ghost use Rattle.code_draft.specs.Adds.{Adds};
-ghost use Rattle.code_draft.specs.Makes.{Makes, MakesExit, MakesArm};
-ghost use Rattle.code_draft.specs.Steps.{loop_code, turn_of, step_of, count_code, transfer_code, spaces_code};
+ghost use Rattle.place_gen.specs.Stretch.{all_code, while_code, until_code, limit_code, step_code, step_to_code, place_code, value_code, action_code, actual_code};
+ghost use Rattle.place_gen.specs.Stretch.{content_code, value_arm_code, arm_code_of, value_parts, action_parts};
+ghost use Rattle.place_gen.specs.Adds.{Adds};
+ghost use Rattle.place_gen.specs.Makes.{Makes, MakesExit, MakesArm};
+ghost use Rattle.place_gen.specs.Steps.{loop_code, turn_of, step_of, count_code, transfer_code, spaces_code};
 
-use code_draft::{
+use crate::{
     Draft, count_actions, count_arms, count_loop, count_value, count_value_arms, put_bind,
     put_else, put_jump, put_leave, put_leave_with, put_load, put_never, put_number, put_on_spaces,
     put_operation, put_place, put_request, put_store, put_test, put_text, put_truth, put_value,

@@ -33,8 +33,8 @@ pub fn answer(alloc: Global, out: &mut Bytes, text: &[u8], row: &str, asked: Ask
 }
 
 fn of_code(alloc: Global, out: &mut Bytes, code: &Code, row: &str, asked: Asked) {
-    if let Asked::Typed(marks) = asked {
-        typed::run(alloc, out, code, row, marks);
+    if let Asked::Typed(rests) = asked {
+        typed::run(alloc, out, code, row, rests);
     } else if let Ok(listed) = listing(alloc, code) {
         if matches!(asked, Asked::Listing) {
             put(out, listed.as_slice());

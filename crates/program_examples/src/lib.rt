@@ -21,6 +21,8 @@ mod packets;
 #[cfg(test)]
 mod played;
 #[cfg(test)]
+mod revived;
+#[cfg(test)]
 mod row_sizes;
 #[cfg(test)]
 mod row_values;

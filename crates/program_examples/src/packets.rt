@@ -1,7 +1,7 @@
 //! Packets through the library: what later texts see of them, and what they do over one memory.
 
 use crate::rows::put;
-use crate::typed;
+use crate::typed::{self, Rests};
 use code_form::listing;
 use elan_types::Why;
 use eu_base::{Bytes, Memory, Nowhere, decimal};
@@ -328,6 +328,7 @@ fn put_refusal(alloc: Global, out: &mut Bytes, cause: CompileError) {
 struct Task {
     library: Library,
     packets: Vec<u32>,
+    rests: Rests,
 }
 
 impl Task {
@@ -369,7 +370,7 @@ impl Task {
                     put_number(alloc, out, number);
                     put(out, b"\n");
                     if let Some(live) = self.library.get(number) {
-                        typed::run_over(alloc, out, live.unit.code(), "", 100_000, memory);
+                        typed::run_over(alloc, out, live.unit.code(), "", self.rests, memory);
                     }
                 }
                 Err(InstallError::Full) => put(out, b"Full\n"),
@@ -426,7 +427,7 @@ impl Task {
 
     fn program<M: Memory>(&self, alloc: Global, out: &mut Bytes, text: &str, memory: &mut M) {
         if let Some(unit) = self.command(alloc, out, text) {
-            typed::run_over(alloc, out, unit.code(), "", 100_000, memory);
+            typed::run_over(alloc, out, unit.code(), "", self.rests, memory);
             unit.let_go();
         }
     }
@@ -456,7 +457,7 @@ impl Task {
 }
 
 /// Adds the steps of a scene with their answers.
-pub fn answer(alloc: Global, out: &mut Bytes, row: &str) {
+pub fn answer(alloc: Global, out: &mut Bytes, row: &str, rests: Rests) {
     let Ok(mut pool) = Pool::new(alloc) else {
         return;
     };
@@ -466,6 +467,7 @@ pub fn answer(alloc: Global, out: &mut Bytes, row: &str) {
     let mut task = Task {
         library: Library::new(alloc),
         packets: Vec::new(alloc),
+        rests,
     };
     let mut parts = row.split("\n< ");
     let _name = parts.next();
@@ -479,6 +481,7 @@ pub fn answer(alloc: Global, out: &mut Bytes, row: &str) {
     let Task {
         library,
         packets: _,
+        rests: _,
     } = task;
     library.let_go();
 }

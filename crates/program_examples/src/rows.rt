@@ -1,5 +1,6 @@
 //! Rows of tables, and what they ask.
 
+use crate::typed::Rests;
 use crate::{code, outside, packets};
 use eu_base::Bytes;
 use std::alloc::Global;
@@ -15,10 +16,10 @@ pub enum Asked {
     Listing,
     /// How the listing of a program in cells ends.
     End,
-    /// What it shows with the lines that are typed, where it has so many marks at a time.
-    Typed(u32),
-    /// The answers to the steps of a scene with packets.
-    Packets,
+    /// What it shows with the lines that are typed, where it comes to rest so.
+    Typed(Rests),
+    /// The answers to the steps of a scene with packets, whose programs come to rest so.
+    Packets(Rests),
 }
 
 /// Adds to an answer. Where memory is refused, the answer is not the one that a row tells, so nothing else has to say it.
@@ -55,7 +56,7 @@ fn answer(alloc: Global, out: &mut Bytes, program: &str, row: &str, asked: Asked
     match asked {
         Asked::Line(how) => outside::run(alloc, out, how, copied(alloc, program)),
         Asked::Outside => outside::run_row(alloc, out, program),
-        Asked::Packets => packets::answer(alloc, out, row),
+        Asked::Packets(rests) => packets::answer(alloc, out, row, rests),
         Asked::End => code::answer(alloc, out, spelled(alloc, program).as_slice(), row, asked),
         Asked::Listing | Asked::Typed(_) => {
             code::answer(alloc, out, program.as_bytes(), row, asked);

@@ -2,9 +2,10 @@
 
 use crate::played::shows;
 use crate::rows::{Asked, add, is_right, put};
+use crate::typed::Rests;
 use crate::{
-    code, endings, lets, lines, meanings, messages, outside, packets, row_sizes, row_values,
-    sessions, spaces, structures, table, tasks, texts, typed, types,
+    code, endings, lets, lines, meanings, messages, outside, packets, revived, row_sizes,
+    row_values, sessions, spaces, structures, table, tasks, texts, typed, types,
 };
 use eu_base::Bytes;
 use eumel_top::{Status, one_output};
@@ -105,26 +106,48 @@ fn wrong_sessions(alloc: Global) -> &'static str {
     }
 }
 
+// The first table that is not right where each command is revived at each of its rests.
+fn wrong_revival(alloc: Global) -> &'static str {
+    if !is_right(alloc, revived::STATES, Asked::Typed(Rests::Seldom)) {
+        "states"
+    } else if !is_right(alloc, revived::STATES, Asked::Typed(Rests::Revived)) {
+        "states, revived"
+    } else if !is_right(alloc, typed::TYPED, Asked::Typed(Rests::Revived)) {
+        "typed, revived"
+    } else if !is_right(alloc, tasks::ANSWERED, Asked::Typed(Rests::Revived)) {
+        "answers on tasks, revived"
+    } else if !is_right(alloc, packets::SCENES, Asked::Packets(Rests::Revived)) {
+        "packets, revived"
+    } else if !is_right(alloc, revived::CRAFTED, Asked::Typed(Rests::Crafted)) {
+        "crafted"
+    } else {
+        ""
+    }
+}
+
 fn wrong_table(alloc: Global) -> &'static str {
     let lines = wrong_lines(alloc);
     let sessions = wrong_sessions(alloc);
+    let revival = wrong_revival(alloc);
     if !lines.is_empty() {
         lines
     } else if !sessions.is_empty() {
         sessions
+    } else if !revival.is_empty() {
+        revival
     } else if !writes_until_spent(alloc) {
         "endless"
     } else if !is_right(alloc, lines::LISTINGS, Asked::Listing) {
         "listings"
     } else if !is_right(alloc, code::DEEP, Asked::End) {
         "deep"
-    } else if !is_right(alloc, typed::TYPED, Asked::Typed(100_000)) {
+    } else if !is_right(alloc, typed::TYPED, Asked::Typed(Rests::Seldom)) {
         "typed"
-    } else if !is_right(alloc, typed::TYPED, Asked::Typed(1)) {
+    } else if !is_right(alloc, typed::TYPED, Asked::Typed(Rests::Often)) {
         "typed, a mark at a time"
-    } else if !is_right(alloc, tasks::ANSWERED, Asked::Typed(100_000)) {
+    } else if !is_right(alloc, tasks::ANSWERED, Asked::Typed(Rests::Seldom)) {
         "answers on tasks"
-    } else if !is_right(alloc, packets::SCENES, Asked::Packets) {
+    } else if !is_right(alloc, packets::SCENES, Asked::Packets(Rests::Seldom)) {
         "packets"
     } else if !codes_are_right() {
         "codes"

@@ -1,11 +1,13 @@
 //! Programs that get lines.
 
+ghost use Rattle.std.specs.Prelude.{◌≡◌, IfOk};
 ghost use Rattle.code_form.specs.Valid.{Fits};
 
+use crate::revived::{crafted, revived};
 use crate::rows::put;
 use crate::tasks::reply_to;
 use code_form::{Code, Halt};
-use eu_base::{Bytes, Memory, Nowhere, Reply, Request};
+use eu_base::{Bytes, Memory, NoMemory, Nowhere, Reply, Request};
 use page_pool::Pool;
 use space_memory::SpaceMemory;
 use std::alloc::Global;
@@ -178,29 +180,58 @@ FEHLER : typed
 /// How often a program comes to rest at most.
 const RESTS: u32 = 100_000;
 
-/// Runs code from its start over a memory, with so many marks at a time.
+/// How a program comes to rest.
+#[derive(Clone, Copy, PartialEq, Eq)]
+pub enum Rests {
+    /// Where it asks, and as good as nowhere else.
+    Seldom,
+    /// Before each mark.
+    Often,
+    /// Before each mark, and what goes on is revived from what was recorded there.
+    Revived,
+    /// Where it asks; at the first time the place that is pending is made the last cell of its area.
+    Crafted,
+}
+
+impl Rests {
+    fn marks(self) -> u32 {
+        match self {
+            Rests::Seldom | Rests::Crafted => 100_000,
+            Rests::Often | Rests::Revived => 1,
+        }
+    }
+}
+
+/// Runs code from its start over a memory.
 pub fn run_over<M: Memory>(
     alloc: Global,
     out: &mut Bytes,
     code: &Code,
     row: &str,
-    marks: u32,
+    rests: Rests,
     memory: &mut M,
 ) {
-    if let Ok(command) = TaskRun::start(alloc, code, memory) {
-        serve(alloc, out, code, command, memory, row, marks);
+    let Ok(command) = TaskRun::start(alloc, code, memory) else {
+        return;
+    };
+    if rests == Rests::Crafted {
+        if let Ok(command) = crafted(alloc, code, command, memory) {
+            serve(alloc, out, code, command, memory, row, Rests::Seldom);
+        }
+    } else {
+        serve(alloc, out, code, command, memory, row, rests);
     }
 }
 
 /// Runs code from its start over a memory of its own.
-pub fn run(alloc: Global, out: &mut Bytes, code: &Code, row: &str, marks: u32) {
+pub fn run(alloc: Global, out: &mut Bytes, code: &Code, row: &str, rests: Rests) {
     let Ok(mut pool) = Pool::new(alloc) else {
         return;
     };
     let mut memory = SpaceMemory::new(alloc);
     let mut nowhere = Nowhere;
     let mut lent = memory.over(&mut pool, &mut nowhere);
-    run_over(alloc, out, code, row, marks, &mut lent);
+    run_over(alloc, out, code, row, rests, &mut lent);
 }
 
 fn end_line(out: &mut Bytes) {
@@ -222,6 +253,17 @@ fn typed(alloc: Global, out: &mut Bytes, part: Option<&str>) -> Bytes {
     text
 }
 
+// The command, or the same as it is revived.
+fn at_rest(alloc: Global, code: &Code, command: TaskRun, rests: Rests) -> Result<TaskRun, NoMemory>
+    requires { Fits code.now command }
+    ensures { IfOk result (λ same. same ≡ command) }
+{
+    match rests {
+        Rests::Revived => revived(alloc, code, &command),
+        Rests::Seldom | Rests::Often | Rests::Crafted => Ok(command),
+    }
+}
+
 fn serve<M: Memory>(
     alloc: Global,
     out: &mut Bytes,
@@ -229,14 +271,18 @@ fn serve<M: Memory>(
     mut command: TaskRun,
     memory: &mut M,
     row: &str,
-    marks: u32,
+    rests: Rests,
 )
     requires { Fits code.now command }
 {
     let mut parts = row.split("\n< ");
     let mut part = parts.next();
     for _ in 0..RESTS {
-        let mut left = marks;
+        let Ok(same) = at_rest(alloc, code, command, rests) else {
+            return;
+        };
+        command = same;
+        let mut left = rests.marks();
         let reply = match command.go(code, memory, &mut left) {
             Ok(Halt::Marked) => continue,
             Ok(Halt::Asks(Request::Out { bytes, ends })) => {
@@ -262,6 +308,10 @@ fn serve<M: Memory>(
             Ok(Halt::Ended) => return end_line(out),
             Err(_) => return,
         };
+        let Ok(same) = at_rest(alloc, code, command, rests) else {
+            return;
+        };
+        command = same;
         if command.answer(code, memory, reply).is_err() {
             return;
         }

@@ -2,7 +2,7 @@
 use Rattle.std.proofs.Common.{◌≡◌, ℕ, ◌≤◌, Bool, List, Option, Some, None, Result, Ok, Err, refl, arith}
 use Rattle.std.specs.Prelude.{IfOk, IfErr, IfSome}
 use Rattle.eu_base.specs.Faults.{Rose}
-use Rattle.session_events.specs.declared.ending.Ending.{Ending}
+use Rattle.session_lines.specs.declared.ending.Ending.{Ending}
 use Rattle.session_play.specs.declared.error.PlayError.{PlayError}
 use Rattle.session_play.specs.declared.error.PlayError.TheVariants.{NoMemory, SourceFault, SinkFault}
 use Rattle.session_play.specs.declared.fault.LineFault.{LineFault}

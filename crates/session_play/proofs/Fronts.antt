@@ -5,7 +5,7 @@ use Rattle.edge.specs.Piece.{AppendsFront}
 use Rattle.edge.proofs.Composed.{appends_more}
 use Rattle.elan_scope.specs.declared.env.Env.{Env}
 use Rattle.session_text.specs.declared.events.Event.{Event}
-use Rattle.session_events.specs.Sessions.{Session, with_events}
+use Rattle.session_lines.specs.Sessions.{Session, with_events}
 use Rattle.system.specs.Below.source_machine.specs.Monitor.{Reading}
 use Rattle.system.specs.Below.source_machine.specs.Systems.{System}
 use Rattle.system.specs.Below.source_machine.specs.Events.{after, shown, run, output}

@@ -15,13 +15,13 @@ use Rattle.session_lines.specs.Lines as lined
 use Rattle.session_lines.specs.Lines.{lines_of}
 use Rattle.session_lines.specs.Reading as reading
 use Rattle.session_lines.specs.declared.reader.TheConstants.{LONGEST}
-use Rattle.session_events.specs.declared.ending.Ending.{Ending}
-use Rattle.session_events.specs.declared.ending.Ending.TheVariants as ended
-use Rattle.session_events.specs.declared.ending.TheConstants.{MOST_LINES}
-use Rattle.session_events.specs.Sessions.{Session, ends, with_events, from_line, shuts, session, session_of}
-use Rattle.session_events.specs.Serving.{HaveEvents, BeginsWith, AreFirst}
-use Rattle.session_events.proofs.Sessions.{made, line_full, line_is, line_goes, line_shuts, line_none, line_behind, all_events}
-use Rattle.session_events.proofs.Serving.{are_first, line_next}
+use Rattle.session_lines.specs.declared.ending.Ending.{Ending}
+use Rattle.session_lines.specs.declared.ending.Ending.TheVariants as ended
+use Rattle.session_lines.specs.declared.ending.TheConstants.{MOST_LINES}
+use Rattle.session_lines.specs.Sessions.{Session, ends, with_events, from_line, shuts, session, session_of}
+use Rattle.session_lines.specs.Serving.{HaveEvents, BeginsWith, AreFirst}
+use Rattle.session_lines.proofs.EventSessions.{made, line_full, line_is, line_goes, line_shuts, line_none, line_behind, all_events}
+use Rattle.session_lines.proofs.Serving.{are_first, line_next}
 use Rattle.system.specs.Below.source_machine.specs.Systems.{System, opening}
 use Rattle.system.specs.Below.source_machine.specs.Events.{run, output}
 use Rattle.system.specs.Below.source_machine.proofs.Runs.{run_join, output_join}

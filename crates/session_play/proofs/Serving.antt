@@ -9,7 +9,7 @@ use Rattle.edge.specs.Piece.{AppendsFront}
 use Rattle.edge.proofs.Composed.{appends_more}
 use Rattle.session_text.specs.declared.events.Event.{Event}
 use Rattle.session_text.specs.Lines.{events_of}
-use Rattle.session_events.specs.Sessions.{shuts}
+use Rattle.session_lines.specs.Sessions.{shuts}
 use Rattle.system.specs.Below.source_machine.specs.Events.{after, shown, run, output}
 use Rattle.system.specs.Systems.{StandsFor, IsShort}
 use Rattle.session_play.specs.declared.desk.Desk.{Desk}

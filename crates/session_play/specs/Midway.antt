@@ -5,10 +5,10 @@ use Rattle.edge.specs.Piece.{AppendsFront}
 use Rattle.elan_scope.specs.declared.env.Env.{Env}
 use Rattle.session_text.specs.declared.events.Event.{Event}
 use Rattle.session_lines.specs.Reading as reading
-use Rattle.session_events.specs.declared.ending.Ending.{Ending}
-use Rattle.session_events.specs.declared.ending.Ending.TheVariants as ended
-use Rattle.session_events.specs.Sessions.{Session, with_events, session}
-use Rattle.session_events.specs.Serving.{HaveEvents, BeginsWith}
+use Rattle.session_lines.specs.declared.ending.Ending.{Ending}
+use Rattle.session_lines.specs.declared.ending.Ending.TheVariants as ended
+use Rattle.session_lines.specs.Sessions.{Session, with_events, session}
+use Rattle.session_lines.specs.Serving.{HaveEvents, BeginsWith}
 use Rattle.system.specs.Below.source_machine.specs.Monitor.{Reading}
 use Rattle.system.specs.Below.source_machine.specs.Readings.{IsReading}
 use Rattle.system.specs.Below.source_machine.specs.Systems.{System, opening}

@@ -5,9 +5,9 @@ use Rattle.std.specs.Io.KnownBytes.{Keeps, Appends}
 use Rattle.edge.specs.Piece.{AppendsFront}
 use Rattle.elan_scope.specs.declared.env.Env.{Env}
 use Rattle.session_text.specs.declared.events.Event.{Event}
-use Rattle.session_events.specs.declared.ending.Ending.{Ending}
-use Rattle.session_events.specs.declared.ending.Ending.TheVariants.{ByShut, AtEnd, BadLine, Full}
-use Rattle.session_events.specs.Sessions.{Session}
+use Rattle.session_lines.specs.declared.ending.Ending.{Ending}
+use Rattle.session_lines.specs.declared.ending.Ending.TheVariants.{ByShut, AtEnd, BadLine, Full}
+use Rattle.session_lines.specs.Sessions.{Session}
 use Rattle.system.specs.Below.source_machine.specs.Monitor.{Reading}
 use Rattle.system.specs.Below.source_machine.specs.Readings.{IsReading}
 use Rattle.system.specs.Below.source_machine.specs.Systems.{opening}

@@ -2,9 +2,9 @@
 use Rattle.std.specs.Prelude.{◌≡◌, ℕ, Bool, List, Option, Result, Ok, Err}
 use Rattle.edge.specs.Told.{OnTold}
 use Rattle.session_text.specs.declared.events.Event.{Event}
-use Rattle.session_events.specs.declared.ending.Ending.{Ending}
-use Rattle.session_events.specs.Sessions.{session_of}
-use Rattle.session_events.specs.Serving.{AreFirst, AreTaken}
+use Rattle.session_lines.specs.declared.ending.Ending.{Ending}
+use Rattle.session_lines.specs.Sessions.{session_of}
+use Rattle.session_lines.specs.Serving.{AreFirst, AreTaken}
 use Rattle.session_play.specs.declared.error.PlayError.{PlayError}
 use Rattle.session_play.specs.declared.error.PlayError.TheVariants.{NoMemory, SourceFault, SinkFault}
 use Rattle.session_play.specs.Output.{PutsOutput, PutsFront, PutsEvents}

@@ -5,9 +5,9 @@ use Rattle.edge.specs.Piece.{AppendsFront}
 use Rattle.elan_scope.specs.declared.env.Env.{Env}
 use Rattle.session_text.specs.declared.events.Event.{Event}
 use Rattle.session_text.specs.Lines.{events_of}
-use Rattle.session_events.specs.declared.ending.TheConstants.{MOST_LINES}
-use Rattle.session_events.specs.Sessions.{shuts}
-use Rattle.session_events.specs.Serving.{BeginsWith}
+use Rattle.session_lines.specs.declared.ending.TheConstants.{MOST_LINES}
+use Rattle.session_lines.specs.Sessions.{shuts}
+use Rattle.session_lines.specs.Serving.{BeginsWith}
 use Rattle.system.specs.Below.source_machine.specs.Monitor.{Reading}
 use Rattle.system.specs.Below.source_machine.specs.Readings.{IsReading}
 use Rattle.system.specs.Below.source_machine.specs.Systems.{System}

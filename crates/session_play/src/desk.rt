@@ -3,7 +3,7 @@ ghost use Rattle.std.specs.Prelude.{◌≡◌, ◌+◌, ◌<◌, ◌≤◌, ℕ,
 ghost use Rattle.eu_base.specs.Faults.{Rose};
 ghost use Rattle.session_text.specs.Lines.{events_of};
 ghost use Rattle.session_lines.specs.declared.reader.TheConstants.{LONGEST};
-ghost use Rattle.session_events.specs.Sessions.{shuts};
+ghost use Rattle.session_lines.specs.Sessions.{shuts};
 ghost use Rattle.system.specs.Below.source_machine.specs.Systems.{opening};
 ghost use Rattle.system.specs.Systems.{StandsFor};
 ghost use Rattle.session_play.specs.Causes.{HasLineCause};
@@ -13,7 +13,7 @@ use crate::LineFault;
 use crate::put::{put_bad_line, put_whole};
 use edge::Sink;
 use eu_base::{Bytes, NoMemory};
-use session_events::{MOST_LINES, shuts};
+use session_lines::{MOST_LINES, shuts};
 use session_text::{Event, LineError, event};
 use std::alloc::Global;
 use system::System;

@@ -11,4 +11,4 @@ pub use desk::Desk;
 pub use error::PlayError;
 pub use fault::LineFault;
 pub use play::run_play;
-pub use session_events::{Ending, MOST_LINES};
+pub use session_lines::{Ending, MOST_LINES};

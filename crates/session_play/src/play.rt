@@ -10,8 +10,7 @@ ghost use Rattle.session_play.specs.Play.{PlayEnds, PlayStops, PlaySettles};
 
 use crate::{Desk, LineFault, PlayError};
 use edge::{Sink, Source};
-use session_events::{Ending, MOST_LINES};
-use session_lines::{LineReader, Next};
+use session_lines::{Ending, LineReader, MOST_LINES, Next};
 use std::alloc::Global;
 
 /// Runs a session of the opening system: each line is served, and what its events show is put, before the next is read. It answers how

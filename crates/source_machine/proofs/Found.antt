@@ -23,23 +23,23 @@ use Rattle.elan_scope.specs.declared.known.Known.{Known}
 use Rattle.elan_scope.specs.Ruled.{Fault, Ruled, gives, breaks, hangs}
 use Rattle.elan_scope.specs.Phrase as form
 use Rattle.elan_scope.specs.Phrase.{plain, Phrase, phrase, all_of}
-use Rattle.unit_rules.specs.Units.{bodies_of}
+use Rattle.elan_rules.specs.Units.{bodies_of}
 use Rattle.elan_rules.specs.Rules.{ruled}
 use Rattle.elan_rules.specs.Meaning.{judged, judged_all}
 use Rattle.elan_rules.proofs.First.{bind_gives, gives_is}
-use Rattle.elan_bodies.specs.Level.{text_parts}
+use Rattle.elan_judge.specs.Level.{text_parts}
 use Rattle.type_names.specs.Faults.{first_fault}
-use Rattle.refusals.specs.Below.elan_check.specs.declared.error.CheckError.TheVariants as check
-use Rattle.refusals.specs.Below.elan_check.specs.Packets.{AreCompiled}
-use Rattle.refusals.specs.Below.elan_check.specs.Text.{Answers, bodies_known, judged_text, earliest, faults, core_of}
-use Rattle.refusals.specs.Below.elan_check.proofs.Inserted.{is_sound}
-use Rattle.refusals.specs.Below.elan_check.proofs.Spots.{never_hangs}
-use Rattle.refusals.specs.Below.elan_check.proofs.Checked.{text_checked}
-use Rattle.refusals.specs.Below.packet_store.specs.declared.error.Refusal.TheVariants.{NoToken, TooMany, NotElan, NoMeaning}
-use Rattle.refusals.specs.Below.packet_store.specs.declared.unit.Source.TheVariants.{Text}
-use Rattle.refusals.specs.Below.packet_store.specs.Meaning.{HasTokens, means, no_token, too_many, no_tree, no_meaning}
-use Rattle.refusals.specs.Below.packet_store.specs.Units.{shown_by}
-use Rattle.refusals.specs.Below.packet_store.proofs.ReadAs.{kind_read, shown_is}
+use Rattle.packet_store.specs.Below.elan_check.specs.declared.error.CheckError.TheVariants as check
+use Rattle.packet_store.specs.Below.elan_check.specs.Packets.{AreCompiled}
+use Rattle.packet_store.specs.Below.elan_check.specs.Text.{Answers, bodies_known, judged_text, earliest, faults, core_of}
+use Rattle.packet_store.specs.Below.elan_check.proofs.Inserted.{is_sound}
+use Rattle.packet_store.specs.Below.elan_check.proofs.Spots.{never_hangs}
+use Rattle.packet_store.specs.Below.elan_check.proofs.Checked.{text_checked}
+use Rattle.packet_store.specs.declared.error.Refusal.TheVariants.{NoToken, TooMany, NotElan, NoMeaning}
+use Rattle.packet_store.specs.declared.unit.Source.TheVariants.{Text}
+use Rattle.packet_store.specs.Meaning.{HasTokens, means, no_token, too_many, no_tree, no_meaning}
+use Rattle.packet_store.specs.Units.{shown_by}
+use Rattle.packet_store.proofs.ReadAs.{kind_read, shown_is}
 use Rattle.source_machine.specs.Monitor.{Reading, Compiles, Refuses}
 use Rattle.source_machine.specs.Readings.{ReadsSo, IsReading}
 

@@ -3,12 +3,12 @@ use Rattle.std.proofs.Common.{◌≡◌, ℕ, Bool, List, Option, sym, ap, ◌�
 use Rattle.elan_scope.specs.declared.env.Env.{Env}
 use Rattle.elan_names.specs.declared.interface.Interface.{Interface}
 use Rattle.elan_types.specs.declared.core_phrase.Core.{Core}
-use Rattle.refusals.specs.Below.packet_store.specs.declared.error.Refusal.{Refusal}
-use Rattle.refusals.specs.Below.packet_store.specs.declared.unit.Source.{Source}
-use Rattle.refusals.specs.Below.packet_store.specs.declared.unit.Source.TheVariants.{Text}
-use Rattle.refusals.specs.Below.packet_store.specs.declared.unit.Compiled.{Compiled}
-use Rattle.refusals.specs.Below.packet_store.specs.Meaning.{Means, IsRefused}
-use Rattle.refusals.specs.Below.packet_store.specs.Units.{IsUnitOf}
+use Rattle.packet_store.specs.declared.error.Refusal.{Refusal}
+use Rattle.packet_store.specs.declared.unit.Source.{Source}
+use Rattle.packet_store.specs.declared.unit.Source.TheVariants.{Text}
+use Rattle.packet_store.specs.declared.unit.Compiled.{Compiled}
+use Rattle.packet_store.specs.Meaning.{Means, IsRefused}
+use Rattle.packet_store.specs.Units.{IsUnitOf}
 use Rattle.source_machine.specs.Monitor.{Reading, Compiles, Refuses}
 use Rattle.source_machine.specs.Readings.{ReadsSo}
 

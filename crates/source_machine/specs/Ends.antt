@@ -10,10 +10,10 @@ use Rattle.message_wait.specs.Rendezvous as waits
 use Rattle.task_tree.specs.Tree as tree
 use Rattle.task_tree.specs.declared.refusal.BeginError.{BeginError}
 use Rattle.task_tree.specs.declared.refusal.BeginError.TheVariants.{NameTaken, TreeFull, NumbersSpent}
-use Rattle.task_walks.specs.Families.{family}
+use Rattle.task_tree.specs.Families.{family}
 use Rattle.slicer.specs.Rotation as rotation
 use Rattle.terminals.specs.Channels as channels
-use Rattle.refusals.specs.Below.packet_store.specs.Library.{Library, released}
+use Rattle.packet_store.specs.Library.{Library, released}
 use Rattle.source_machine.specs.Tasks.{Doing, Own}
 use Rattle.source_machine.specs.Systems.{System, Moment, place, packets, woken, on_waits, on_system, uncouple_at}
 

@@ -9,7 +9,7 @@ use Rattle.terminals.specs.Channels.{is_queue_full}
 use Rattle.terminals.specs.Channels as channels
 use Rattle.session_text.specs.declared.events.Event.{Event}
 use Rattle.session_text.specs.declared.events.Event.TheVariants.{Line, Supervisor, Turns, Fixpoint, Shut}
-use Rattle.output_pieces.specs.Display.{close_all, rendered}
+use Rattle.session_text.specs.Display.{close_all, rendered}
 use Rattle.source_machine.specs.Systems.{System, Moment, runs, requested, woken, on_system, on_channels, on_display, say, at_event}
 use Rattle.source_machine.specs.Serving.{Served, Replies, Rests, input}
 use Rattle.source_machine.specs.Monitor.{Reading, words_of, taken}

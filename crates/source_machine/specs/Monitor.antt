@@ -10,7 +10,7 @@ use Rattle.elan_lexer.specs.declared.error.LexError.{LexError}
 use Rattle.elan_lexer.specs.Tokens.{tokens_of, limited}
 use Rattle.elan_names.specs.declared.interface.Interface.{Interface}
 use Rattle.elan_scope.specs.declared.env.Env.{Env}
-use Rattle.refusals.specs.Below.elan_check.specs.Packets.{after}
+use Rattle.packet_store.specs.Below.elan_check.specs.Packets.{after}
 use Rattle.elan_types.specs.Eval.{World}
 use Rattle.monitor.specs.Words.{words}
 use Rattle.monitor.specs.Forms.{form_of}
@@ -18,11 +18,11 @@ use Rattle.monitor.specs.declared.commands.Form.{Form}
 use Rattle.monitor.specs.declared.commands.Form.TheVariants.{Blank, Enter, Run, Insert, Names, Program}
 use Rattle.terminals.specs.Channels as channels
 use Rattle.terminals.specs.declared.channel.TheConstants.{QUEUED_LINES}
-use Rattle.refusals.specs.Below.packet_store.specs.declared.error.Refusal.{Refusal}
-use Rattle.refusals.specs.Below.packet_store.specs.declared.unit.Compiled.{Compiled}
-use Rattle.refusals.specs.Below.packet_store.specs.declared.library.TheConstants.{PACKETS}
-use Rattle.refusals.specs.Below.packet_store.specs.Library.{Library, env_of}
-use Rattle.refusals.specs.Refusals.{refusal_text}
+use Rattle.packet_store.specs.declared.error.Refusal.{Refusal}
+use Rattle.packet_store.specs.declared.unit.Compiled.{Compiled}
+use Rattle.packet_store.specs.declared.library.TheConstants.{PACKETS}
+use Rattle.packet_store.specs.Library.{Library, env_of}
+use Rattle.packet_store.specs.Refusals.{refusal_text}
 use Rattle.source_texts.specs.Spaces.{Space}
 use Rattle.source_texts.specs.Sources.{most_lines, source_space, source_text}
 use Rattle.source_machine.specs.Stores.{Store, last_number, space_under, with_named, entering_refusal, tidied}

@@ -1,9 +1,9 @@
 -- When a function reads texts as they are meant.
 use Rattle.std.specs.Prelude.{ℕ, Bool, List}
 use Rattle.elan_scope.specs.declared.env.Env.{Env}
-use Rattle.refusals.specs.Below.elan_check.specs.Packets.{AreCompiled}
-use Rattle.refusals.specs.Below.packet_store.specs.Meaning.{IsRefused}
-use Rattle.refusals.specs.Below.packet_store.specs.Units.{IsUnitOf}
+use Rattle.packet_store.specs.Below.elan_check.specs.Packets.{AreCompiled}
+use Rattle.packet_store.specs.Meaning.{IsRefused}
+use Rattle.packet_store.specs.Units.{IsUnitOf}
 use Rattle.source_machine.specs.Monitor.{Reading, Compiles, Refuses}
 
 -- this is so of the text: the unit is the text's own, or the text is refused so

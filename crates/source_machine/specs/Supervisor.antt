@@ -15,8 +15,8 @@ use Rattle.eu_base.specs.Stops.{stop_text}
 use Rattle.elan_tree.specs.declared.token.Word.{Word}
 use Rattle.elan_scope.specs.declared.env.Env.{Env}
 use Rattle.task_tree.specs.Tree as tree
-use Rattle.task_walks.specs.declared.walks.Entry.{Entry}
-use Rattle.task_walks.specs.Families.{listed}
+use Rattle.task_tree.specs.declared.walks.Entry.{Entry}
+use Rattle.task_tree.specs.Families.{listed}
 use Rattle.slicer.specs.Rotation as rotation
 use Rattle.terminals.specs.Channels as channels
 use Rattle.monitor.specs.Commands.{command_of}

@@ -3,7 +3,7 @@ use Rattle.std.specs.Prelude.{ℕ, zero, suc, Bool, List, [], ◌∷◌, Option,
 use Rattle.task_numbers.specs.declared.number.TaskNo.{TaskNo}
 use Rattle.elan_scope.specs.declared.env.Env.{Env}
 use Rattle.elan_types.specs.Command.{Ending, Ended, Stopped, OutOfMarks, Asks}
-use Rattle.output_pieces.specs.Display.{close_all}
+use Rattle.session_text.specs.Display.{close_all}
 use Rattle.source_machine.specs.Tasks.{Command, Running, ending, spent}
 use Rattle.source_machine.specs.Systems.{Moment, command, does, given, on_ready, on_system, on_display, back}
 use Rattle.source_machine.specs.Serving.{Served, Replies, Rests, serve}

@@ -1,14 +1,14 @@
 //! Laws of the source machine.
 ghost use Rattle.std.specs.Prelude.{◌≡◌, ◌++◌, ℕ, Bool, List};
 ghost use Rattle.elan_scope.specs.declared.env.Env.{Env};
-ghost use Rattle.refusals.specs.Below.elan_check.specs.Packets.{AreCompiled};
+ghost use Rattle.packet_store.specs.Below.elan_check.specs.Packets.{AreCompiled};
 ghost use Rattle.session_text.specs.declared.events.Event.{Event};
 ghost use Rattle.source_machine.specs.Systems.{System};
 ghost use Rattle.source_machine.specs.Monitor.{Reading};
 ghost use Rattle.source_machine.specs.Events.{after, run, output};
 ghost use Rattle.source_machine.specs.Readings.{ReadsSo, IsReading};
 
-use refusals::{one_meaning, one_unit};
+use packet_store::{one_meaning, one_unit};
 
 /// A fixpoint leaves the system as it is, and so does the one that ends a session.
 pub fn fixpoints_change_nothing()

@@ -18,8 +18,8 @@ use Rattle.eu_base.specs.Spaces.{Content}
 use Rattle.eu_base.specs.Cells.{Free, Word, Letters, Cells, run_cell, written, cell_blocks, area_blocks, Puts}
 use Rattle.cell_layout.specs.Layout.{cell_in, HoldsIn, IsKeptBut}
 use Rattle.cell_layout.proofs.Numbers.{same_cell}
-use Rattle.text_blocks.specs.Blocks.{total}
-use Rattle.text_blocks.proofs.Totals.{total_none, total_more, total_same}
+use Rattle.text_heap.specs.Blocks.{total}
+use Rattle.text_heap.proofs.Totals.{total_none, total_more, total_same}
 use Rattle.text_heap.specs.Held.{text_of, texts_of, HoldsCells}
 use Rattle.text_heap.specs.Texts.{Texts, Holds, Sets, KeepsCells}
 use Rattle.text_heap.proofs.Kept.{word_held, text_held}

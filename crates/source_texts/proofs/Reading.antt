@@ -20,7 +20,7 @@ use Rattle.eu_base.specs.Values as base
 use Rattle.cell_layout.specs.Layout.{cell_in}
 use Rattle.page_table.specs.Frames.{Over as Pages, content_at}
 use Rattle.data_space.specs.Data.{SpaceData}
-use Rattle.text_blocks.specs.Blocks.{text_in}
+use Rattle.text_heap.specs.Blocks.{text_in}
 use Rattle.text_heap.specs.Held.{text_of, HoldsCells}
 use Rattle.source_texts.specs.Spaces.{Space, HoldsSpace, AreOf, cells_of, held, shape_kinds}
 use Rattle.source_texts.specs.Sources.{most_lines, source_shape, source_space, source_text, joined, first_lines, text_by}

@@ -3,7 +3,7 @@ use Rattle.std.specs.Prelude.{ℕ, zero, suc, nat_le, if◌then◌else◌, List,
 use Rattle.eu_base.specs.Spaces.{Content}
 use Rattle.eu_base.specs.Values.{number_in}
 use Rattle.cell_layout.specs.Layout.{cell_in}
-use Rattle.text_blocks.specs.Blocks.{text_in}
+use Rattle.text_heap.specs.Blocks.{text_in}
 use Rattle.source_texts.specs.Sources.{most_lines, joined}
 
 -- the texts of so many cells, from the second cell on

@@ -1,1 +1,5 @@
+mod Found
 pub mod Plans
+mod Copying
+mod Counts
+mod Binding

@@ -13,8 +13,8 @@ use Rattle.eu_base.specs.SpaceCells.{IsThere}
 use Rattle.eu_base.proofs.Heads.{live_there}
 use Rattle.page_table.specs.Frames.{Over as Pages, content_at, Frames}
 use Rattle.data_space.specs.Data.{SpaceData}
-use Rattle.live_spaces.specs.Kept.{KeepsBytes, IsOfKind}
-use Rattle.live_spaces.specs.Live.{space_at, IsLive, no_space, the_space, without, with_space, space_roots}
+use Rattle.space_memory.specs.Kept.{KeepsBytes, IsOfKind}
+use Rattle.space_memory.specs.Live.{space_at, IsLive, no_space, the_space, without, with_space, space_roots}
 use Rattle.space_memory.specs.Memories.{MemoryData, KeepsSpace, StandsWhole, MemoryFrames, changed, head_of, memory_heads, is_there, space_in, most_roots, roots}
 use Rattle.space_memory.specs.Changes.{OnlyRun, OnlyPackets, OnlySpace, OnlyIn, LeavesOthers, kind_none, frames_before}
 use Rattle.space_memory.proofs.Framed.{roots_long, whole_after}

@@ -24,12 +24,12 @@ use Rattle.cell_layout.proofs.Counts.{kinds_counted}
 use Rattle.text_heap.specs.Held.{HoldsCells}
 use Rattle.text_heap.proofs.Kept.{kept_held, moved_held, IsBlankCell, blank_held}
 use Rattle.data_space.specs.Data.{SpaceData}
-use Rattle.live_spaces.specs.Kept.{KeepsBytes, IsFilled}
-use Rattle.live_spaces.specs.Live.{no_space, space_at, IsLive, the_space, without, with_space, space_roots}
+use Rattle.space_memory.specs.Kept.{KeepsBytes, IsFilled}
+use Rattle.space_memory.specs.Live.{no_space, space_at, IsLive, the_space, without, with_space, space_roots}
 use Rattle.space_memory.specs.Memories.{MemoryData, HoldsAll, KeepsSpace, changed, forgotten, head_of, memory_heads, is_there, space_in, bytes_in, roots, most_roots, source, with_new}
 use Rattle.space_memory.specs.Changes.{LeavesOthers}
-use Rattle.live_spaces.proofs.Numbers.{with_is}
-use Rattle.live_spaces.proofs.Roots.{keeps_none}
+use Rattle.space_memory.proofs.Numbers.{with_is}
+use Rattle.space_memory.proofs.Roots.{keeps_none}
 use Rattle.space_memory.proofs.Areas.{root_among, at_without, same_bytes, same_long, leaves_others}
 use Rattle.space_memory.proofs.Framed.{roots_long}
 use Rattle.space_memory.proofs.Held.{known_still}

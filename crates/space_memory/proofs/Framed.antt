@@ -11,11 +11,11 @@ use Rattle.page_table.proofs.Framing.{Same, same_self, frames_same, frames_more,
 use Rattle.page_table.proofs.Counting.{occ-append}
 use Rattle.std.proofs.lemmas.List.{length-append, append-nil}
 use Rattle.std.proofs.lemmas.Map.{length-set_value}
-use Rattle.live_spaces.specs.Kept.{KeepsBytes, IsOfKind}
-use Rattle.live_spaces.proofs.Roots.{all_named, flip, last_one, apart}
+use Rattle.space_memory.specs.Kept.{KeepsBytes, IsOfKind}
+use Rattle.space_memory.proofs.Roots.{all_named, flip, last_one, apart}
 use Rattle.data_space.specs.Data.{SpaceData}
-use Rattle.live_spaces.specs.Live.{LiveData, no_space, space_roots, IsLive, IsNumbered, the_space, without, with_space}
-use Rattle.live_spaces.proofs.Numbers.{live_is}
+use Rattle.space_memory.specs.Live.{LiveData, no_space, space_roots, IsLive, IsNumbered, the_space, without, with_space}
+use Rattle.space_memory.proofs.Numbers.{live_is}
 use Rattle.space_memory.specs.Memories.{MemoryData, roots, with_new, forgotten, most_roots, StandsWhole}
 use Rattle.space_memory.specs.Changes.{OnlyRun, OnlyPackets, OnlySpace}
 

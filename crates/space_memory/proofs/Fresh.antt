@@ -12,7 +12,7 @@ use Rattle.text_heap.specs.Held.{HoldsCells}
 use Rattle.text_heap.proofs.Kept.{zeros_held}
 use Rattle.space_memory.specs.Memories.{MemoryData, HoldsAll, new_memory, roots, is_there, bytes_in}
 use Rattle.data_space.specs.Data.{SpaceData}
-use Rattle.live_spaces.specs.Live.{no_space, space_at}
+use Rattle.space_memory.specs.Live.{no_space, space_at}
 
 pub new_stands : Stands (record { slots = []; clean = [] }) (roots new_memory) 0
 new_stands = stands_of (record { slots = []; clean = [] }) (None ∷ None ∷ []) [] 0 (omega arith) ∣ nil_agree (None ∷ None ∷ []) (λ p. omega arith) (omega arith) ∣₁

@@ -16,8 +16,8 @@ use Rattle.page_table.specs.Frames.{content_at}
 use Rattle.text_heap.specs.Held.{HoldsCells}
 use Rattle.text_heap.proofs.Kept.{moved_held}
 use Rattle.data_space.specs.Data.{SpaceData}
-use Rattle.live_spaces.specs.Live.{no_space, space_at, without}
-use Rattle.live_spaces.proofs.Roots.{keeps_none}
+use Rattle.space_memory.specs.Live.{no_space, space_at, without}
+use Rattle.space_memory.proofs.Roots.{keeps_none}
 use Rattle.space_memory.specs.Memories.{MemoryData, HoldsAll, forgotten, head_of, memory_heads, is_there, space_in, bytes_in, roots, with_new}
 use Rattle.space_memory.proofs.Changed.{own_there, other_there, at_push, push_at, forgot_held}
 

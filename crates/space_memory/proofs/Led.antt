@@ -6,7 +6,7 @@ use Rattle.std.specs.Option.{is_some, IfSome}
 use Rattle.std.proofs.lemmas.Map.{length-set_value}
 use Rattle.task_numbers.specs.declared.number.SpaceNo.{SpaceNo}
 use Rattle.data_space.specs.Data.{SpaceData}
-use Rattle.live_spaces.specs.Live.{space_at, IsLive, without, with_space}
+use Rattle.space_memory.specs.Live.{space_at, IsLive, without, with_space}
 use Rattle.space_names.specs.Directory as directory
 use Rattle.space_memory.specs.Memories.{LeadToSpaces}
 

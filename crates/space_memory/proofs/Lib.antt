@@ -1,3 +1,5 @@
+pub mod Numbers
+pub mod Roots
 pub mod Fresh
 pub mod Framed
 pub mod Led

@@ -9,8 +9,8 @@ use Rattle.data_space.specs.Data.{SpaceData}
 use Rattle.page_table.specs.Frames.{Over as Pages, Knows, Frames}
 use Rattle.page_table.proofs.Framing.{frames_none}
 use Rattle.page_table.proofs.Moving.{homes_then}
-use Rattle.live_spaces.specs.Kept.{KeepsBytes, IsOfKind}
-use Rattle.live_spaces.specs.Live.{the_space, without, space_roots}
+use Rattle.space_memory.specs.Kept.{KeepsBytes, IsOfKind}
+use Rattle.space_memory.specs.Live.{the_space, without, space_roots}
 use Rattle.space_memory.specs.Memories.{MemoryData, MemoryFrames, KeepsSpace, changed, is_there, most_roots, memory_heads, roots, space_in}
 
 -- only bytes of the space of the command that runs change

@@ -13,7 +13,7 @@ use Rattle.page_table.specs.Frames.{Over, Knows, content_at, Stands, KeepsHomes,
 use Rattle.page_table.specs.Sharing.{most_spaces, Agree}
 use Rattle.text_heap.specs.Held.{HoldsCells}
 use Rattle.data_space.specs.Data.{SpaceData}
-use Rattle.live_spaces.specs.Live.{no_space, space_at, the_space, IsLive, without, with_space, space_roots}
+use Rattle.space_memory.specs.Live.{no_space, space_at, the_space, IsLive, without, with_space, space_roots}
 use Rattle.space_names.specs.Directory as directory
 
 -- its spaces: that of the command that runs, that of the packets' variables, and the live ones by number; the last number that

@@ -1,6 +1,6 @@
 //! The directory of a task.
 ghost use Rattle.std.specs.Prelude.{◌≡◌, None, Some, slice_get, option_map, OnErr, OnOk, IfSome};
-ghost use Rattle.live_spaces.specs.Live.{IsLive};
+ghost use Rattle.space_memory.specs.Live.{IsLive};
 ghost use Rattle.space_names.specs.Directory as directory;
 
 use crate::space_memory::SpaceMemory;

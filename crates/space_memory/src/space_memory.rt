@@ -6,14 +6,14 @@ ghost use Rattle.page_table.specs.Changes.{ChangesOnly, FreesOnly};
 ghost use Rattle.page_table.specs.Frames.{Over, over, Knows, content_at, Frames, Stands};
 ghost use Rattle.page_table.specs.Sharing.{Agree};
 ghost use Rattle.text_heap.specs.Held.{HoldsCells};
-ghost use Rattle.live_spaces.specs.Kept.{KeepsBytes};
-ghost use Rattle.live_spaces.specs.Live.{no_space};
+ghost use Rattle.space_memory.specs.Kept.{KeepsBytes};
+ghost use Rattle.space_memory.specs.Live.{no_space};
 ghost use Rattle.space_memory.specs.Memories.{new_memory, heir, roots, HoldsAll};
 ghost use Rattle.eu_base.specs.declared.address.Area.TheVariants.{Run};
 
+use crate::Spaces;
 use data_space::DataSpace;
 use eu_base::NoMemory;
-use live_spaces::Spaces;
 use page_pool::Pool;
 use space_names::Names;
 use std::alloc::Global;

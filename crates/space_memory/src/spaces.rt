@@ -6,14 +6,14 @@ ghost use Rattle.eu_base.specs.Cells.{HasFaultCause};
 ghost use Rattle.page_pool.specs.Pool.{used_of, Tell, Backed};
 ghost use Rattle.page_table.specs.Changes.{ChangesOnly, FreesOnly};
 ghost use Rattle.page_table.specs.Frames.{Over, over, Frames, Stands};
-ghost use Rattle.live_spaces.specs.Kept.{KeepsBytes, IsFilled, IsNotFilled};
-ghost use Rattle.live_spaces.specs.Live.{space_at, IsLive, IsNumbered, the_space, without, space_roots};
+ghost use Rattle.space_memory.specs.Kept.{KeepsBytes, IsFilled, IsNotFilled};
+ghost use Rattle.space_memory.specs.Live.{space_at, IsLive, IsNumbered, the_space, without, space_roots};
 ghost use Rattle.space_memory.specs.Memories.{roots, with_new, source, changed, forgotten};
 
+use crate::MOST_LIVE;
 use crate::space_memory::SpaceMemory;
 use data_space::DataSpace;
 use eu_base::{CELLS, MemFault, NoMemory, Shape};
-use live_spaces::MOST_LIVE;
 use page_pool::{Backing, Pool};
 use task_numbers::SpaceNo;
 

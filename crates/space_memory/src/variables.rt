@@ -35,7 +35,7 @@ impl SpaceMemory {
         ensures cause { HasFaultCause (B.faults backing.old) (B.faults backing.new) result }
         ensures follows { B.follows backing.old backing.new }
     {
-        live_spaces::number(&mut self.run, pool, cell, backing)
+        crate::number(&mut self.run, pool, cell, backing)
     }
 
     // Puts a number into a cell of the command that runs.
@@ -57,7 +57,7 @@ impl SpaceMemory {
         ensures cause { HasFaultCause (B.faults backing.old) (B.faults backing.new) result }
         ensures follows { B.follows backing.old backing.new }
     {
-        live_spaces::set_number(&mut self.run, pool, cell, number, backing)
+        crate::set_number(&mut self.run, pool, cell, number, backing)
     }
 
     // The text in a cell of the command that runs.
@@ -78,7 +78,7 @@ impl SpaceMemory {
         ensures cause { HasFaultCause (B.faults backing.old) (B.faults backing.new) result }
         ensures follows { B.follows backing.old backing.new }
     {
-        live_spaces::text(self.alloc, &mut self.run, pool, cell, backing)
+        crate::text(self.alloc, &mut self.run, pool, cell, backing)
     }
 
     // Puts a text into a cell of the command that runs, where all its texts then have room.
@@ -100,7 +100,7 @@ impl SpaceMemory {
         ensures cause { HasFaultCause (B.faults backing.old) (B.faults backing.new) result }
         ensures follows { B.follows backing.old backing.new }
     {
-        live_spaces::set_text(&mut self.run, pool, cell, t, backing)
+        crate::set_text(&mut self.run, pool, cell, t, backing)
     }
 
     // How many blocks no text of the command that runs has.
@@ -119,7 +119,7 @@ impl SpaceMemory {
         ensures cause { HasFaultCause (B.faults backing.old) (B.faults backing.new) result }
         ensures follows { B.follows backing.old backing.new }
     {
-        live_spaces::rooms(&mut self.run, pool, backing)
+        crate::rooms(&mut self.run, pool, backing)
     }
 
     /// The number in a cell of the packets. It stands outside the loop of a run, which is quicker so.
@@ -141,7 +141,7 @@ impl SpaceMemory {
         ensures cause { HasFaultCause (B.faults backing.old) (B.faults backing.new) result }
         ensures follows { B.follows backing.old backing.new }
     {
-        live_spaces::number(&mut self.packets, pool, cell, backing)
+        crate::number(&mut self.packets, pool, cell, backing)
     }
 
     /// Puts a number into a cell of the packets. After a refusal some bytes of the cell may be written.
@@ -163,7 +163,7 @@ impl SpaceMemory {
         ensures cause { HasFaultCause (B.faults backing.old) (B.faults backing.new) result }
         ensures follows { B.follows backing.old backing.new }
     {
-        live_spaces::set_number(&mut self.packets, pool, cell, number, backing)
+        crate::set_number(&mut self.packets, pool, cell, number, backing)
     }
 
     /// The text in a cell of the packets.
@@ -184,7 +184,7 @@ impl SpaceMemory {
         ensures cause { HasFaultCause (B.faults backing.old) (B.faults backing.new) result }
         ensures follows { B.follows backing.old backing.new }
     {
-        live_spaces::text(self.alloc, &mut self.packets, pool, cell, backing)
+        crate::text(self.alloc, &mut self.packets, pool, cell, backing)
     }
 
     /// Puts a text into a cell of the packets, where all their texts then have room; else it answers HeapFull and changes
@@ -207,7 +207,7 @@ impl SpaceMemory {
         ensures cause { HasFaultCause (B.faults backing.old) (B.faults backing.new) result }
         ensures follows { B.follows backing.old backing.new }
     {
-        live_spaces::set_text(&mut self.packets, pool, cell, t, backing)
+        crate::set_text(&mut self.packets, pool, cell, t, backing)
     }
 
     /// How many blocks of 28 bytes no text of the packets has: at most 4,096.
@@ -226,6 +226,6 @@ impl SpaceMemory {
         ensures cause { HasFaultCause (B.faults backing.old) (B.faults backing.new) result }
         ensures follows { B.follows backing.old backing.new }
     {
-        live_spaces::rooms(&mut self.packets, pool, backing)
+        crate::rooms(&mut self.packets, pool, backing)
     }
 }

@@ -7,7 +7,7 @@ ghost use Rattle.page_pool.specs.Pool.{Known, Backed};
 ghost use Rattle.page_table.specs.Frames.{over, content_at, Frames, Stands};
 ghost use Rattle.cell_layout.specs.Layout.{cell_in, HoldsIn, IsKeptBut};
 ghost use Rattle.text_heap.specs.Texts.{Texts, Holds, Sets, KeepsCells, blocks_in};
-ghost use Rattle.live_spaces.specs.Live.{IsLive, the_space};
+ghost use Rattle.space_memory.specs.Live.{IsLive, the_space};
 ghost use Rattle.space_memory.specs.Memories.{roots};
 ghost use Rattle.space_memory.specs.Changes.{OnlySpace};
 

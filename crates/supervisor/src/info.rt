@@ -10,7 +10,7 @@ use eu_base::{Bytes, List, NoMemory};
 use itoa::Buffer;
 use std::alloc::Global;
 use task_lines::System;
-use task_walks::Entry;
+use task_tree::Entry;
 
 /// The tasks are told.
 pub(crate) fn tell_tasks(alloc: Global, system: &mut System, channel: u8) -> Result<(), NoMemory>

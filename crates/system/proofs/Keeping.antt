@@ -5,10 +5,10 @@ use Rattle.task_numbers.specs.declared.number.TaskNo.{TaskNo}
 use Rattle.eu_base.specs.declared.request.Request.{Request}
 use Rattle.elan_types.specs.Eval.{World}
 use Rattle.elan_types.specs.Command.{Asks}
-use Rattle.evaluation_law.specs.Steady.{AreSteady}
-use Rattle.isolation.specs.Waits.{AreOrderly, HasTurn, GoesOn}
-use Rattle.isolation.proofs.Orders.{asks_spent}
-use Rattle.isolation.proofs.Beside.{runs_it, does_so}
+use Rattle.turn_laws.specs.Steady.{AreSteady}
+use Rattle.turn_laws.specs.Waits.{AreOrderly, HasTurn, GoesOn}
+use Rattle.turn_laws.proofs.Orders.{asks_spent}
+use Rattle.turn_laws.proofs.Beside.{runs_it, does_so}
 use Rattle.message_wait.specs.Rendezvous.{is_waiting}
 use Rattle.task_requests.specs.Below.source_machine.specs.Tasks.{Command, Own, Running, ending, spent, request_in, request_of, with_doing}
 use Rattle.task_requests.specs.Below.source_machine.specs.Systems.{System, Shared, Moment, place, command, requested, changed_at, does, on_ready}

@@ -2,7 +2,7 @@
 use Rattle.std.proofs.Common.{◌≡◌, ℕ, suc, Bool, true, false, List, sym, ap, ◌∙◌, subst}
 use Rattle.task_numbers.specs.declared.number.TaskNo.{TaskNo}
 use Rattle.elan_scope.specs.declared.env.Env.{Env}
-use Rattle.isolation.specs.Waits.{AreOrderly, HasTurn}
+use Rattle.turn_laws.specs.Waits.{AreOrderly, HasTurn}
 use Rattle.task_requests.specs.Below.source_machine.specs.Systems.{Moment, command}
 use Rattle.task_requests.specs.Below.source_machine.specs.Monitor.{Reading}
 use Rattle.task_requests.specs.Below.source_machine.specs.Turns.{went_on, slice, turn, turns}

@@ -1,3 +1,7 @@
+pub mod Paying
+pub mod Commands
+pub mod Slicing
+pub mod Standing
 mod Kept
 mod Happening
 mod Awaiting

@@ -3,7 +3,7 @@ use Rattle.std.proofs.Common.{◌≡◌, ℕ, Bool, List, [], ◌∷◌, drop, S
 use Rattle.std.specs.Prelude.{slice_get}
 use Rattle.task_numbers.specs.declared.number.TaskNo.{TaskNo}
 use Rattle.elan_scope.specs.declared.env.Env.{Env}
-use Rattle.isolation.specs.Waits.{HasTurn}
+use Rattle.turn_laws.specs.Waits.{HasTurn}
 use Rattle.task_requests.specs.Below.source_machine.specs.Systems.{Moment, on_ready, on_system}
 use Rattle.task_requests.specs.Below.source_machine.specs.Monitor.{Reading}
 use Rattle.task_requests.specs.Below.source_machine.specs.Turns.{turn_marks, most_evaluations, slice, turn_of}

@@ -4,7 +4,7 @@ use Rattle.task_numbers.specs.declared.number.TaskNo.{TaskNo}
 use Rattle.eu_base.specs.declared.request.Request.{Request}
 use Rattle.elan_types.specs.Eval.{World}
 use Rattle.elan_types.specs.Command.{Asks}
-use Rattle.isolation.specs.Waits.{HasTurn}
+use Rattle.turn_laws.specs.Waits.{HasTurn}
 use Rattle.task_requests.specs.Below.source_machine.specs.Tasks.{Command, Running, ending, spent}
 use Rattle.task_requests.specs.Below.source_machine.specs.Systems.{System, Moment, command, does, given, on_ready, on_system}
 use Rattle.task_requests.specs.Below.source_machine.specs.Serving.{Served, Replies, Rests, serve}

@@ -1,7 +1,7 @@
 -- What is still to happen in the course of turns.
 use Rattle.std.specs.Prelude.{◌≡◌, Bool, true, false}
 use Rattle.task_numbers.specs.declared.number.TaskNo.{TaskNo}
-use Rattle.isolation.specs.Waits.{HasTurn}
+use Rattle.turn_laws.specs.Waits.{HasTurn}
 use Rattle.task_requests.specs.Below.source_machine.specs.Systems.{Moment}
 use Rattle.task_requests.specs.Below.live_system.specs.Machines.{Machine, StandsAt}
 

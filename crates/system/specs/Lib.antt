@@ -1,3 +1,4 @@
+pub mod Slices
 pub mod Systems
 pub mod Leading
 pub mod Keeping

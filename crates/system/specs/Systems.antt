@@ -3,8 +3,8 @@ use Rattle.std.specs.Prelude.{◌≤◌, length}
 use Rattle.task_numbers.specs.declared.limits.TheConstants.{LONGEST_LINE}
 use Rattle.session_text.specs.declared.events.Event.{Event}
 use Rattle.session_text.specs.declared.events.Event.TheVariants.{Line, Supervisor, Turns, Fixpoint, Shut}
-use Rattle.isolation.specs.Waits.{AreOrderly}
-use Rattle.output_pieces.specs.Display.{Display}
+use Rattle.turn_laws.specs.Waits.{AreOrderly}
+use Rattle.session_text.specs.Display.{Display}
 use Rattle.task_requests.specs.Below.source_machine.specs.Systems.{System, Moment}
 use Rattle.task_requests.specs.Below.live_system.specs.Machines.{Machine, StandsAt}
 

@@ -1,7 +1,7 @@
 //! Evaluations of the command of a task in its turn.
 ghost use Rattle.std.specs.Prelude.{◌≡◌, ℕ, Bool, List, IfOk};
 ghost use Rattle.elan_scope.specs.declared.env.Env.{Env};
-ghost use Rattle.isolation.specs.Waits.{HasTurn};
+ghost use Rattle.turn_laws.specs.Waits.{HasTurn};
 ghost use Rattle.task_requests.specs.Below.source_machine.specs.Systems.{Moment, command};
 ghost use Rattle.task_requests.specs.Below.source_machine.specs.Monitor.{Reading};
 ghost use Rattle.task_requests.specs.Below.source_machine.specs.Readings.{IsReading};

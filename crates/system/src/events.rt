@@ -17,7 +17,7 @@ use session_text::Event;
 use std::alloc::Global;
 use supervisor::call;
 use task_requests::System;
-use waiting_law::waits;
+use turn_laws::waits;
 
 /// UR and PUBLIC, idle, and no channel coupled.
 pub fn opening(alloc: Global) -> Result<System, NoMemory>

@@ -7,13 +7,13 @@ ghost use Rattle.task_requests.specs.Below.source_machine.specs.Monitor.{Reading
 ghost use Rattle.task_requests.specs.Below.source_machine.specs.Turns.{turn};
 ghost use Rattle.task_requests.specs.Below.source_machine.specs.Whole.{IsSystem};
 ghost use Rattle.task_requests.specs.Below.live_system.specs.Machines.{StandsAt};
-ghost use Rattle.isolation.specs.Others.{OthersStay};
-ghost use Rattle.isolation.specs.Told.{turn_told, turn_asked};
-ghost use Rattle.isolation.specs.Waits.{AreOrderly};
-ghost use Rattle.isolation.specs.Worlds.{SameFor, GoesSame, IsNext};
+ghost use Rattle.turn_laws.specs.Others.{OthersStay};
+ghost use Rattle.turn_laws.specs.Told.{turn_told, turn_asked};
+ghost use Rattle.turn_laws.specs.Waits.{AreOrderly};
+ghost use Rattle.turn_laws.specs.Worlds.{SameFor, GoesSame, IsNext};
 
-use isolation::{others_stay, turns_alike};
 use task_requests::System;
+use turn_laws::{others_stay, turns_alike};
 
 /// The turn that comes next leaves what is the own of each other task that it does not reach.
 pub fn others(system: &System)

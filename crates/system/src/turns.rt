@@ -6,18 +6,18 @@ ghost use Rattle.task_requests.specs.Below.source_machine.specs.Monitor.{Reading
 ghost use Rattle.task_requests.specs.Below.source_machine.specs.Readings.{IsReading};
 ghost use Rattle.task_requests.specs.Below.source_machine.specs.Turns as spec;
 ghost use Rattle.task_requests.specs.Below.live_system.specs.Machines.{StandsAt};
-ghost use Rattle.isolation.specs.Waits.{HasTurn};
+ghost use Rattle.turn_laws.specs.Waits.{HasTurn};
 ghost use Rattle.system.specs.Systems.{Stands};
 
+use crate::enough;
 use crate::evaluations::evaluation;
 use crate::isolated::{others, two_worlds};
 use crate::waiting::turn_begins;
 use eu_base::NoMemory;
-use slice_law::enough;
 use std::alloc::Global;
 use task_numbers::TaskNo;
 use task_requests::System;
-use waiting_law::waits;
+use turn_laws::waits;
 
 /// So many turns.
 pub(crate) fn turns(alloc: Global, system: &mut System, number: u16) -> Result<(), NoMemory>

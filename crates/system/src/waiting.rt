@@ -1,13 +1,12 @@
 //! A task in its turn asks for what it may.
 ghost use Rattle.task_numbers.specs.declared.number.TaskNo.{TaskNo};
-ghost use Rattle.isolation.specs.Waits.{AreOrderly, HasTurn};
+ghost use Rattle.turn_laws.specs.Waits.{AreOrderly, HasTurn};
 ghost use Rattle.task_requests.specs.Below.source_machine.specs.Systems.{Moment};
 ghost use Rattle.task_requests.specs.Below.live_system.specs.Machines.{StandsAt};
 ghost use Rattle.system.specs.Keeping.{KeepsTurn, TurnBegins};
 
-use evaluation_law::steady;
-use isolation::turns_go_on;
 use task_requests::System;
+use turn_laws::{steady, turns_go_on};
 
 /// The first ready task has its turn.
 pub(crate) fn turn_begins(system: &System)

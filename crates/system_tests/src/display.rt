@@ -1,6 +1,6 @@
 //! What is shown at the four channels.
 use containers::Bytes;
-use output_pieces::Display;
+use session_text::Display;
 use std::alloc::Global;
 
 // Does a step. Where memory is refused, the lines are not those that are told.

@@ -4,8 +4,7 @@ use containers::Bytes;
 use eu_base::is_name;
 use std::alloc::Global;
 use task_numbers::TaskNo;
-use task_tree::{BeginError, TaskTree};
-use task_walks::{family, listed};
+use task_tree::{BeginError, TaskTree, family, listed};
 
 const UR: TaskNo = TaskNo(1);
 

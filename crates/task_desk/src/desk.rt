@@ -4,11 +4,11 @@ ghost use Rattle.std.specs.Option.{option_copied, option_map};
 ghost use Rattle.task_numbers.specs.Numbers.{niltask};
 ghost use Rattle.eu_base.specs.SpaceOperations.{is_name};
 ghost use Rattle.task_tree.specs.Tree as trees;
-ghost use Rattle.task_walks.specs.Families as families;
+ghost use Rattle.task_tree.specs.Families as families;
 ghost use Rattle.slicer.specs.Rotation as rotation;
 ghost use Rattle.message_wait.specs.Rendezvous as rendezvous;
 ghost use Rattle.terminals.specs.Channels as terminal;
-ghost use Rattle.output_pieces.specs.Display as shows;
+ghost use Rattle.session_text.specs.Display as shows;
 ghost use Rattle.source_machine.specs.Below.packet_store.specs.Library.{Library};
 ghost use Rattle.source_machine.specs.Tasks.{Own};
 ghost use Rattle.source_machine.specs.Systems as machine;
@@ -21,14 +21,13 @@ ghost use Rattle.task_desk.specs.Desks.{Makes, IsDesk};
 use containers::{Bytes, List, NoMemory};
 use eu_base::Stop;
 use message_wait::{Offer, Waits};
-use output_pieces::Display;
+use session_text::Display;
 use slicer::Slicer;
 use std::alloc::Global;
 use std::marker::Model;
 use std::mem;
 use task_numbers::{LONGEST_LINE, TaskNo};
-use task_tree::{BeginError, TaskTree};
-use task_walks::Entry;
+use task_tree::{BeginError, Entry, TaskTree};
 use terminals::{CHANNELS, Terminals};
 
 /// The tree of the tasks, the ready ones, those that wait for messages, the channels, and what is shown in the course of an event. A call that memory was
@@ -143,14 +142,14 @@ impl TaskDesk {
     pub fn family(&self, alloc: Global, task: TaskNo) -> Result<Vec<TaskNo>, NoMemory>
         ensures { IfOk result (λ family. family.items ≡ families.family task self.now.tree) }
     {
-        task_walks::family(alloc, &self.tree, task)
+        task_tree::family(alloc, &self.tree, task)
     }
 
     /// `UR` and its descendants, each before its own descendants, with their levels, and sons from the oldest.
     pub fn listed(&self, alloc: Global) -> Result<Vec<Entry>, NoMemory>
         ensures { IfOk result (λ entries. entries.items ≡ families.listed (trees.number 1) self.now.tree) }
     {
-        task_walks::listed(alloc, &self.tree, TaskNo(1))
+        task_tree::listed(alloc, &self.tree, TaskNo(1))
     }
 
     /// The number of the next task that begins; `None` exactly where the last number was used.

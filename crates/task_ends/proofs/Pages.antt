@@ -13,7 +13,7 @@ use Rattle.page_table.specs.Sharing.{occ, Agree, most_spaces}
 use Rattle.page_table.proofs.Counting.{occ-append}
 use Rattle.page_table.proofs.Moving.{equal, homes_then}
 use Rattle.page_table.proofs.Framing.{Same, reorder, stands_same, stands_first}
-use Rattle.live_spaces.proofs.Roots.{all_named}
+use Rattle.space_memory.proofs.Roots.{all_named}
 use Rattle.space_memory.specs.Memories.{MemoryData, StandsWhole, most_roots, heir, roots}
 use Rattle.live_task.specs.Below.task_job.specs.Here.{content_at, Frames, KeepsBytes, MemoryFrames}
 use Rattle.live_task.specs.Below.task_job.proofs.Here.{frames_none, stands_after, frames_before, memory_frames_then}

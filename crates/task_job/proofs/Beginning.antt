@@ -25,8 +25,8 @@ use Rattle.elan_types.specs.declared.core_phrase.Core.{Core}
 use Rattle.elan_types.specs.Eval.{Slot, Holds}
 use Rattle.elan_types.specs.Command.{blanks}
 use Rattle.place_gen.specs.Correct.{StandsFor, Image, HasVariables, HasSpaces, HasSlots}
-use Rattle.command_code.specs.Codes.{IsCodeOf}
-use Rattle.command_code.proofs.Coding.{code_behaves}
+use Rattle.code_gen.specs.Codes.{IsCodeOf}
+use Rattle.code_gen.proofs.Coding.{code_behaves}
 use Rattle.code_gen.proofs.Plays.{has_blank}
 use Rattle.task_job.specs.Runs.{Reaches}
 

@@ -10,7 +10,7 @@ use Rattle.page_table.specs.Sharing.{Agree, occ, most_spaces}
 use Rattle.page_table.specs.Frames.{Stands}
 use Rattle.page_table.proofs.Framing as framing
 use Rattle.text_heap.specs.Held.{HoldsCells}
-use Rattle.live_spaces.proofs.Roots as live_roots
+use Rattle.space_memory.proofs.Roots as live_roots
 use Rattle.space_memory.specs.Memories.{MemoryData, most_roots}
 use Rattle.space_memory.specs.Changes as changes
 use Rattle.space_memory.proofs.Fresh as fresh

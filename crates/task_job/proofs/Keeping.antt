@@ -12,7 +12,7 @@ use Rattle.eu_base.specs.SpacePlaces.{kinds_of, values_of}
 use Rattle.page_pool.specs.Pool.{Pages}
 use Rattle.text_heap.specs.Held.{HoldsCells}
 use Rattle.text_heap.proofs.Kept.{kept_held, moved_held}
-use Rattle.live_spaces.specs.Live.{no_space, the_space}
+use Rattle.space_memory.specs.Live.{no_space, the_space}
 use Rattle.space_memory.specs.Memories.{MemoryData, roots, is_there, memory_heads}
 use Rattle.task_job.specs.Here.{content_at, KeepsBytes, HoldsAll, bytes_in}
 use Rattle.space_memory.proofs.Areas.{root_among}

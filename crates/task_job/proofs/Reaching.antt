@@ -26,7 +26,7 @@ use Rattle.code_form.proofs.Spent.{falls, stands_run, stands_reply}
 use Rattle.place_gen.specs.Correct.{Image, HasVariables, RestsAs, Shows}
 use Rattle.code_gen.specs.Correct.{Behaves}
 use Rattle.code_gen.proofs.Plays.{plays}
-use Rattle.command_code.proofs.Coding.{code_behaves}
+use Rattle.code_gen.proofs.Coding.{code_behaves}
 use Rattle.elan_types.specs.declared.core_phrase.Core.{Core}
 use Rattle.elan_types.specs.Typing.{all_packet_kinds}
 use Rattle.elan_types.specs.Eval.{Slot, Holds, World}

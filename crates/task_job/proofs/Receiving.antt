@@ -12,7 +12,7 @@ use Rattle.eu_base.specs.SoundSpaces.{CanCome}
 use Rattle.eu_base.proofs.SoundSpaces.{no_space_comes}
 use Rattle.page_pool.specs.Pool.{Pages}
 use Rattle.data_space.specs.Data.{SpaceData}
-use Rattle.live_spaces.specs.Live.{space_at, without}
+use Rattle.space_memory.specs.Live.{space_at, without}
 use Rattle.space_memory.specs.Memories.{MemoryData, memory_heads, with_new, forgotten}
 use Rattle.space_memory.proofs.Changed.{forgot_heads}
 use Rattle.space_memory.proofs.Given.{given_heads, given_held, taken_held}

@@ -21,8 +21,8 @@ use Rattle.code_form.specs.Runs.{IsPaused, Rests, asked}
 use Rattle.zero_state.specs.Stepping.{mem_of, scene_of}
 use Rattle.zero_machine.specs.Running.{RestsSo}
 use Rattle.place_gen.specs.Correct.{HasVariables, HasSpaces, Shows}
-use Rattle.command_code.specs.Codes.{IsCodeOf}
-use Rattle.command_code.proofs.Coding.{code_behaves}
+use Rattle.code_gen.specs.Codes.{IsCodeOf}
+use Rattle.code_gen.proofs.Coding.{code_behaves}
 use Rattle.elan_types.specs.Eval.{World}
 use Rattle.elan_types.specs.Command.{Ending, Ended, Stopped, OutOfMarks, Asks}
 use Rattle.source_machine.specs.Below.packet_store.specs.declared.unit.Compiled.{Compiled}

@@ -9,7 +9,7 @@ use Rattle.page_table.specs.Entries.{Names}
 use Rattle.page_table.specs.Frames.{Over, over}
 use Rattle.page_table.specs.Frames as frames
 use Rattle.data_space.specs.Data.{SpaceData}
-use Rattle.live_spaces.specs.Kept as kept
+use Rattle.space_memory.specs.Kept as kept
 use Rattle.source_texts.specs.Spaces as source_spaces
 use Rattle.space_memory.specs.Memories.{MemoryData}
 use Rattle.space_memory.specs.Memories as memories

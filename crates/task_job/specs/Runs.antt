@@ -13,7 +13,7 @@ use Rattle.code_form.specs.Program.{Program, kinds_in_packets}
 use Rattle.code_form.specs.Machine.{Control, Mem, Rest, start}
 use Rattle.code_form.specs.Runs.{Rests, Stands, asked}
 use Rattle.place_gen.specs.Correct.{Image, HasSlots}
-use Rattle.command_code.specs.Codes.{IsCodeOf}
+use Rattle.code_gen.specs.Codes.{IsCodeOf}
 use Rattle.elan_types.specs.declared.core_phrase.Core.{Core}
 use Rattle.elan_types.specs.Eval.{Slot}
 use Rattle.elan_types.specs.Command.{blanks, start_kinds}

@@ -6,7 +6,7 @@ ghost use Rattle.eu_base.specs.Requests.{Answer};
 ghost use Rattle.cell_kinds.specs.Kinds.{packet_kinds};
 ghost use Rattle.code_form.specs.declared.waits.Waits.TheVariants as waits;
 ghost use Rattle.code_form.specs.Runs.{asked};
-ghost use Rattle.command_code.specs.Codes.{IsCodeOf};
+ghost use Rattle.code_gen.specs.Codes.{IsCodeOf};
 ghost use Rattle.source_machine.specs.Below.packet_store.specs.Units.{IsUnit};
 ghost use Rattle.page_pool.specs.Pool.{Pages};
 ghost use Rattle.space_memory.specs.Memories.{MemoryData, roots, StandsWhole};
@@ -16,9 +16,9 @@ ghost use Rattle.source_machine.specs.Tasks.{Command, ending, starting, with_rep
 ghost use Rattle.task_job.specs.Standing.{Keeps, ReachesFor, RunsFor, RestsFor, Receives, IsSoundJob};
 
 use crate::lent::{answer_over, go_over, start_over};
+use crate::{Compiled, let_run_go, let_unit_go};
 use code_form::{Code, Halt};
 use eu_base::{NoMemory, Reply};
-use job_parts::{Compiled, let_run_go, let_unit_go};
 use page_pool::Pool;
 use space_memory::SpaceMemory;
 use std::alloc::Global;

@@ -1,8 +1,15 @@
-//! A command that runs over the memory of its task.
+//! A command that runs over the memory of its task, and how the parts of one are let go.
 #![tactic(auto)]
 
 mod job;
 mod lent;
 
 pub use job::Job;
-pub use job_parts::{Compiled, let_run_go};
+pub use packet_store::Compiled;
+use task_run::TaskRun;
+
+/// Lets what is compiled go.
+pub fn let_unit_go(_unit: Compiled) {}
+
+/// Lets a run go.
+pub fn let_run_go(_run: TaskRun) {}

@@ -18,8 +18,8 @@ use Rattle.eu_base.proofs.Heads.{head_same, long_heads}
 use Rattle.eu_base.proofs.SoundSpaces.{space_sound}
 use Rattle.page_pool.specs.Pool.{Pages}
 use Rattle.data_space.specs.Data.{SpaceData}
-use Rattle.live_spaces.specs.Live.{IsLive, space_at}
-use Rattle.live_spaces.specs.Live as live_spaces
+use Rattle.space_memory.specs.Live.{IsLive, space_at}
+use Rattle.space_memory.specs.Live as live_spaces
 use Rattle.space_memory.specs.Memories.{MemoryData, head_of, with_new, forgotten}
 use Rattle.task_texts.specs.Below.task_job.specs.Here.{HoldsSpace}
 use Rattle.place_gen.proofs.Cells.{fit_at}

@@ -8,7 +8,7 @@ ghost use Rattle.eu_base.specs.DataSpaces.{Space, Forgets, heads_of, is_live, th
 ghost use Rattle.eu_base.specs.SpaceOperations.{room_refusal};
 ghost use Rattle.page_pool.specs.Pool.{Pages};
 ghost use Rattle.task_texts.specs.Below.task_job.specs.Here.{Frames};
-ghost use Rattle.live_spaces.specs.Live.{IsLive};
+ghost use Rattle.space_memory.specs.Live.{IsLive};
 ghost use Rattle.space_memory.specs.Memories.{roots, with_new, forgotten};
 ghost use Rattle.task_texts.specs.Below.source_machine.specs.Tasks.{Own, now, request_of};
 ghost use Rattle.task_texts.specs.Below.live_task.specs.Stands.{StandsFor, Due};

@@ -10,9 +10,9 @@ use Rattle.task_tree.specs.declared.task.Task.{Task}
 use Rattle.task_tree.specs.Tree as tree
 use Rattle.task_tree.specs.Tree.{Tree}
 use Rattle.task_tree.specs.Trees.{IsTree}
-use Rattle.task_walks.specs.Families.{family}
-use Rattle.task_walks.specs.Ends.{EndInTurn}
-use Rattle.task_walks.proofs.Ending.{family_ends}
+use Rattle.task_tree.specs.Families.{family}
+use Rattle.task_tree.specs.Ends.{EndInTurn}
+use Rattle.task_tree.proofs.Ending.{family_ends}
 use Rattle.terminals.specs.Channels as channels
 use Rattle.live_system.specs.Below.source_machine.specs.Systems.{System, Moment, on_channels, uncouple_at}
 use Rattle.live_system.specs.Below.source_machine.specs.Ends.{removed, removed_at, freed_by, ended, ended_with_descendants}

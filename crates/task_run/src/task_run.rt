@@ -12,12 +12,12 @@ ghost use Rattle.zero_state.specs.Stepping.{mem_of, scene_of};
 ghost use Rattle.zero_machine.specs.Running.{RestsSo};
 ghost use Rattle.byte_spelling.specs.declared.reading.ReadError.TheVariants as errors;
 ghost use Rattle.state_spelling.specs.Kept.{kept as spelling};
-ghost use Rattle.state_revival.specs.Standing.{kept_of};
+ghost use Rattle.state_spelling.specs.Standing.{kept_of};
 
 use byte_spelling::ReadError;
 use code_form::{Code, Halt, Waits};
 use eu_base::{Bytes, MemFault, Memory, NoMemory, Reply, Request};
-use state_revival::{record_bytes, revive_bytes};
+use state_spelling::{record_bytes, revive_bytes};
 use std::alloc::Global;
 use std::marker::Model;
 use zero_machine::State;

@@ -27,8 +27,8 @@ use Rattle.eu_base.proofs.SoundSpaces.{change_sound}
 use Rattle.page_pool.specs.Pool.{Pages}
 use Rattle.text_heap.specs.Held.{HoldsCells}
 use Rattle.data_space.specs.Data.{SpaceData}
-use Rattle.live_spaces.specs.Live as live_spaces
-use Rattle.live_spaces.specs.Live.{space_at}
+use Rattle.space_memory.specs.Live as live_spaces
+use Rattle.space_memory.specs.Live.{space_at}
 use Rattle.space_names.specs.Directory as directory
 use Rattle.space_memory.specs.Memories.{MemoryData, roots, memory_heads, with_new, forgotten}
 use Rattle.space_memory.specs.Memories as memories

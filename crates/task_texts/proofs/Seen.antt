@@ -26,8 +26,8 @@ use Rattle.text_heap.specs.Held.{HoldsCells}
 use Rattle.text_heap.proofs.Kept.{moved_held}
 use Rattle.data_space.specs.Data.{SpaceData}
 use Rattle.source_texts.specs.Spaces.{held, cells_of}
-use Rattle.live_spaces.specs.Live as live_spaces
-use Rattle.live_spaces.specs.Live.{space_at}
+use Rattle.space_memory.specs.Live as live_spaces
+use Rattle.space_memory.specs.Live.{space_at}
 use Rattle.space_names.specs.Directory as directory
 use Rattle.space_memory.specs.Memories.{MemoryData, memory_heads}
 use Rattle.live_task.specs.Below.task_job.specs.Here.{content_at, HoldsSpace, HoldsAll}

@@ -8,9 +8,8 @@ ghost use Rattle.live_task.specs.Below.source_machine.specs.Tasks.{Own, now};
 ghost use Rattle.live_task.specs.Stands.{StandsFor};
 
 use eu_base::{Stop, is_name};
-use live_spaces::MOST_LIVE;
 use live_task::Task;
-use space_memory::SpaceMemory;
+use space_memory::{MOST_LIVE, SpaceMemory};
 
 /// Why no text can be entered under a name, the first reason that holds: it is no name, there is no room for a space more, or no number
 /// is left for it. A task that is not idle is asked the same of what it keeps.

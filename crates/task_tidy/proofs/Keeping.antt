@@ -11,7 +11,7 @@ use Rattle.page_pool.specs.Pool.{Pages}
 use Rattle.data_space.specs.Data.{SpaceData}
 use Rattle.task_messages.specs.Below.task_job.specs.Here.{Frames, KeepsBytes}
 use Rattle.task_messages.specs.Below.task_job.proofs.Here.{stands_after}
-use Rattle.live_spaces.specs.Live.{without}
+use Rattle.space_memory.specs.Live.{without}
 use Rattle.space_memory.specs.Memories.{MemoryData, memory_heads, roots, most_roots, forgotten, StandsWhole}
 use Rattle.space_memory.specs.Memories as memories
 use Rattle.space_memory.proofs.Framed.{roots_long}

@@ -6,4 +6,3 @@ pub use Rattle.task_messages.specs.Below.live_task as live_task
 pub use Rattle.task_messages.specs.Below.source_machine as source_machine
 pub use Rattle.task_messages.specs.Below.packet_store as packet_store
 pub use Rattle.task_messages.specs.Below.elan_check as elan_check
-pub use Rattle.task_messages.specs.Below.refusals as refusals

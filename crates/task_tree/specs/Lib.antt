@@ -2,3 +2,5 @@ pub mod Tree
 pub mod Trees
 pub mod Whole
 pub mod Rows
+pub mod Families
+pub mod Ends

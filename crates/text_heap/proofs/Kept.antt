@@ -15,12 +15,12 @@ use Rattle.eu_base.specs.Cells.{Cell, Free, Word, Letters, Cells, IsCell, area_c
 use Rattle.eu_base.proofs.Places.{same_area_self}
 use Rattle.cell_layout.specs.Layout.{cell_in, HoldsIn, IsKeptBut}
 use Rattle.cell_layout.proofs.Numbers.{same_cell}
-use Rattle.text_blocks.specs.Blocks.{block_at, blocks_of, text_in, chain_in, chain, gather, length_in, first_in, times}
+use Rattle.text_heap.specs.Blocks.{block_at, blocks_of, text_in, chain_in, chain, gather, length_in, first_in, times}
 use Rattle.text_heap.specs.Texts.{Texts, Holds, Sets, KeepsCells, stored, part, size_of}
 use Rattle.text_heap.specs.Texts as heap
 use Rattle.text_heap.specs.Held.{text_of, texts_of, HoldsCells}
-use Rattle.text_blocks.proofs.Totals.{total_same, times_none}
-use Rattle.text_blocks.proofs.Chained.{chain_none, gather_none, chain_same, gather_same, same_used}
+use Rattle.text_heap.proofs.Totals.{total_same, times_none}
+use Rattle.text_heap.proofs.Chained.{chain_none, gather_none, chain_same, gather_same, same_used}
 use Rattle.text_heap.proofs.Stored.{length_is, room}
 use Rattle.text_heap.proofs.Zeros.{zeros_hold}
 

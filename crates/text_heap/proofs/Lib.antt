@@ -1,3 +1,8 @@
+pub mod Totals
+pub mod Chained
+pub mod Freed
+pub mod Pieces
+pub mod Spreading
 pub mod Stored
 pub mod Setting
 pub mod Zeros

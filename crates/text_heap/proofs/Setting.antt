@@ -6,10 +6,10 @@ use Rattle.eu_base.specs.Spaces.{Content}
 use Rattle.eu_base.specs.declared.set.Set.{Set}
 use Rattle.eu_base.specs.declared.set.Set.TheVariants.{Done, HeapFull}
 use Rattle.cell_layout.specs.Layout.{HoldsIn, IsKeptBut}
-use Rattle.text_blocks.specs.Blocks.{hint_at, next_in, blocks_of, length_in, first_in, chain_in, free_in, KeptBut}
-use Rattle.text_blocks.specs.Chains.{Releases, Filled}
+use Rattle.text_heap.specs.Blocks.{hint_at, next_in, blocks_of, length_in, first_in, chain_in, free_in, KeptBut}
+use Rattle.text_heap.specs.Chains.{Releases, Filled}
 use Rattle.text_heap.specs.Texts.{Texts, stored, blocks_in, Holds, Sets, KeepsCells}
-use Rattle.text_blocks.proofs.Freed.{Freed, freed, cells_kept}
+use Rattle.text_heap.proofs.Freed.{Freed, freed, cells_kept}
 use Rattle.text_heap.proofs.Stored.{once, sizes, stores, room, freed_room, free_and_used}
 
 some_of : (o : Option (List ℕ)) → IsSome o → (u : List ℕ) × (o ≡ Some u)

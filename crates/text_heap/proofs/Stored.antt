@@ -7,12 +7,12 @@ use Rattle.std.proofs.lemmas.Bool.Decides.{eqb_tells}
 use Rattle.eu_base.specs.Spaces.{Content}
 use Rattle.cell_layout.specs.Layout.{cell_in, HoldsIn, IsKeptBut}
 use Rattle.cell_layout.proofs.Numbers.{same_cell}
-use Rattle.text_blocks.specs.Blocks.{block_at, used_in, chain, gather, blocks_of, length_in, first_in, chain_in, text_in, times, total, free_in}
-use Rattle.text_blocks.specs.Chains.{Filled, SameBlock}
+use Rattle.text_heap.specs.Blocks.{block_at, used_in, chain, gather, blocks_of, length_in, first_in, chain_in, text_in, times, total, free_in}
+use Rattle.text_heap.specs.Chains.{Filled, SameBlock}
 use Rattle.text_heap.specs.Texts.{Texts, stored, size_of, blocks_in, part, Holds}
-use Rattle.text_blocks.proofs.Totals.{total_none, total_more, total_same, total_add, total_zero, total_but, total_turned, total_times, one_of, two_of, times_past}
-use Rattle.text_blocks.proofs.Chained.{SameAlong, chain_same, chain_long, chain_below, gather_same, gather_long, same_used}
-use Rattle.text_blocks.proofs.Freed.{Freed}
+use Rattle.text_heap.proofs.Totals.{total_none, total_more, total_same, total_add, total_zero, total_but, total_turned, total_times, one_of, two_of, times_past}
+use Rattle.text_heap.proofs.Chained.{SameAlong, chain_same, chain_long, chain_below, gather_same, gather_long, same_used}
+use Rattle.text_heap.proofs.Freed.{Freed}
 
 some_is : {A : Type 0} (a b : A) → Some a ≡ Some b → a ≡ b
 some_is a b e = cc

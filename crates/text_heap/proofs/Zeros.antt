@@ -3,10 +3,10 @@ use Rattle.std.proofs.Common.{◌≡◌, ℕ, ◌+◌, ◌*◌, List, [], Option
 use Rattle.eu_base.specs.Spaces.{Content}
 use Rattle.cell_layout.specs.Layout.{cell_in}
 use Rattle.cell_layout.proofs.Numbers.{same_cell}
-use Rattle.text_blocks.specs.Blocks.{block_at, used_in, chain, gather, blocks_of, length_in, first_in, text_in, times}
+use Rattle.text_heap.specs.Blocks.{block_at, used_in, chain, gather, blocks_of, length_in, first_in, text_in, times}
 use Rattle.text_heap.specs.Texts.{Texts, part, Holds}
-use Rattle.text_blocks.proofs.Totals.{total_same, total_zero, times_none}
-use Rattle.text_blocks.proofs.Chained.{chain_none, gather_none}
+use Rattle.text_heap.proofs.Totals.{total_same, total_zero, times_none}
+use Rattle.text_heap.proofs.Chained.{chain_none, gather_none}
 
 zero_cell : (c : ℕ) → cell_in (λ n. 0) c ≡ 0
 unfolding cell_in

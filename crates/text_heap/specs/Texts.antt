@@ -3,7 +3,7 @@ use Rattle.std.specs.Prelude.{◌≡◌, ℕ, ◌+◌, ◌*◌, ◌<◌, ◌≤�
 use Rattle.eu_base.specs.Spaces.{Content, IsKept}
 use Rattle.eu_base.specs.declared.set.Set.{Set}
 use Rattle.eu_base.specs.declared.set.Set.TheVariants.{Done, HeapFull}
-use Rattle.text_blocks.specs.Blocks.{used_in, blocks_of, text_in, chain_in, times, total}
+use Rattle.text_heap.specs.Blocks.{used_in, blocks_of, text_in, chain_in, times, total}
 
 -- the text that stands in each cell; none where a number stands
 abbrev pub Texts : Type 0

@@ -1,13 +1,13 @@
 //! A text in the place of another.
 ghost use Rattle.std.specs.Prelude.{◌≡◌, ◌<◌, ◌≤◌, IfOk, OnOk, IsSome};
 ghost use Rattle.eu_base.specs.Cells.{HasFaultCause};
-ghost use Rattle.text_blocks.specs.Blocks.{length_in, first_in};
+ghost use Rattle.text_heap.specs.Blocks.{length_in, first_in};
 ghost use Rattle.text_heap.specs.Texts.{Texts, Holds, Sets, KeepsCells, blocks_in, stored};
 
 use crate::room::Room;
+use crate::{BLOCKS, Entry, blocks, hint_after, move_hint, release, spread};
 use cell_layout::put;
 use eu_base::{CELLS, MemFault, Set, Space};
-use text_blocks::{BLOCKS, Entry, blocks, hint_after, move_hint, release, spread};
 
 /// Frees the blocks of the text that stands in a cell, and puts another there, where all texts have room then.
 pub(crate) fn replace<S: Space>(

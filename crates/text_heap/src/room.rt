@@ -2,10 +2,10 @@
 ghost use Rattle.std.specs.Prelude.{◌≡◌, ◌≢◌, ◌<◌, ◌≤◌, Err, IfOk, OnOk, MatchOption, IfSome};
 ghost use Rattle.eu_base.specs.declared.cells.MemFault.TheVariants.{NoMemory};
 ghost use Rattle.eu_base.specs.Cells.{HasFaultCause};
-ghost use Rattle.text_blocks.specs.Blocks.{free_in};
+ghost use Rattle.text_heap.specs.Blocks.{free_in};
 
+use crate::{BLOCKS, first_free, has_free, read_hint};
 use eu_base::{MemFault, Space};
-use text_blocks::{BLOCKS, first_free, has_free, read_hint};
 
 /// Where a text may go.
 #[derive(Clone, Copy)]

@@ -3,14 +3,14 @@ ghost use Rattle.std.specs.Prelude.{◌≡◌, ◌≢◌, ◌+◌, ◌<◌, Err,
 ghost use Rattle.eu_base.specs.declared.cells.MemFault.TheVariants.{NoMemory};
 ghost use Rattle.eu_base.specs.Cells.{HasFaultCause};
 ghost use Rattle.eu_base.specs.Spaces.{IsKept};
-ghost use Rattle.text_blocks.specs.Blocks.{text_in, free_in};
+ghost use Rattle.text_heap.specs.Blocks.{text_in, free_in};
 ghost use Rattle.text_heap.specs.Texts.{Texts, Holds, Sets, KeepsCells, blocks_in, stored};
 
 use crate::replace::replace;
 use crate::room::{Room, find_room};
+use crate::{BLOCKS, blocks, collect, count_free, read_entry, read_hint};
 use eu_base::{Bytes, CELLS, MemFault, Set, Space};
 use std::alloc::Global;
-use text_blocks::{BLOCKS, blocks, collect, count_free, read_entry, read_hint};
 
 /// The text of a cell. On bytes that hold no text it still answers some text.
 pub fn get<S: Space>(alloc: Global, space: &mut S, cell: u16) -> Result<Bytes, MemFault>

@@ -7,3 +7,8 @@ pub mod Meaning
 pub mod Sound
 pub mod Sized
 pub mod Order
+pub mod Held
+pub mod Named
+pub mod OwnNames
+pub mod Seen
+pub mod Scopes

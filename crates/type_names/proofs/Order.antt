@@ -15,9 +15,9 @@ use Rattle.elan_names.specs.declared.type_name.Named.{Named}
 use Rattle.elan_names.specs.declared.type_name.Named.TheVariants as named
 use Rattle.elan_names.specs.Types.{first_type, is_open_named}
 use Rattle.elan_names.specs.walks.Firsts.{first_at, type_names, denoting}
-use Rattle.type_definitions.specs.declared.definition.Defined.{Defined}
-use Rattle.type_definitions.specs.declared.definition.Defined.TheVariants as defined
-use Rattle.type_definitions.specs.declared.definition.Definition.{Definition}
+use Rattle.elan_walk.specs.declared.definition.Defined.{Defined}
+use Rattle.elan_walk.specs.declared.definition.Defined.TheVariants as defined
+use Rattle.elan_walk.specs.declared.definition.Definition.{Definition}
 use Rattle.type_names.specs.Types.{look, first_from, as_defined, by_definition, denoted, names_of}
 use Rattle.type_names.specs.Faults.{calls, number_named, numbers_named, names_in}
 use Rattle.type_names.specs.walks.Further.{read, unread, all_unread, with_found, with_read, known_over, Follows, Reads, settled_from}

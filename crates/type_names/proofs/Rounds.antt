@@ -8,7 +8,7 @@ use Rattle.std.proofs.Math.Path.{fun_ext}
 use Rattle.elan_names.specs.declared.type_name.TypeName.{TypeName}
 use Rattle.elan_names.specs.declared.type_name.Named.{Named}
 use Rattle.elan_names.specs.Types.{first_type}
-use Rattle.type_definitions.specs.declared.definition.Definition.{Definition}
+use Rattle.elan_walk.specs.declared.definition.Definition.{Definition}
 use Rattle.type_names.specs.Types.{look, first_from, as_defined, by_definition, denoted, type_name, names_from, names_of}
 use Rattle.type_names.specs.walks.Further.{read, read_again}
 use Rattle.type_names.proofs.Looked.{look_append}

@@ -12,7 +12,7 @@ use Rattle.elan_tree.specs.declared.tree.Refinement.{Refinement}
 use Rattle.elan_tree.specs.declared.tree.Body.{Body}
 use Rattle.elan_tree.specs.declared.tree.Level.{Level}
 use Rattle.elan_tree.specs.declared.tree.LevelUnit.{LevelUnit}
-use Rattle.type_definitions.specs.declared.definition.Definition.{Definition}
+use Rattle.elan_walk.specs.declared.definition.Definition.{Definition}
 use Rattle.type_names.specs.declared.scope_types.ScopeTypes.{ScopeTypes}
 use Rattle.type_names.specs.declared.fault.InLevel.{InLevel}
 use Rattle.type_names.specs.declared.search.Search.{Search}

@@ -32,9 +32,9 @@ use Rattle.elan_tree.specs.declared.written_type.Field.{Field}
 use Rattle.elan_names.specs.declared.type_name.TypeName.{TypeName}
 use Rattle.elan_names.specs.declared.type_name.Named.{Named}
 use Rattle.elan_names.specs.declared.type_name.Named.TheVariants as named
-use Rattle.type_definitions.specs.declared.definition.Defined.{Defined}
-use Rattle.type_definitions.specs.declared.definition.Defined.TheVariants as defined
-use Rattle.type_definitions.specs.declared.definition.Definition.{Definition}
+use Rattle.elan_walk.specs.declared.definition.Defined.{Defined}
+use Rattle.elan_walk.specs.declared.definition.Defined.TheVariants as defined
+use Rattle.elan_walk.specs.declared.definition.Definition.{Definition}
 use Rattle.type_names.specs.Types.{size_in, size_named, size_of, or_open, row_of, is_broken, structure_of, type_named, meant, fields_meant, meant_step}
 use Rattle.type_names.specs.Types.{fields_step}
 use Rattle.type_names.specs.Types.{look, first_from, made, as_defined, by_definition, denoted, names_of}

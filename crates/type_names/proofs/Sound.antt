@@ -19,9 +19,9 @@ use Rattle.elan_tree.specs.declared.written_type.TypePhrase.{TypePhrase}
 use Rattle.elan_names.specs.declared.type_name.TypeName.{TypeName}
 use Rattle.elan_names.specs.declared.type_name.Named.{Named}
 use Rattle.elan_names.specs.declared.type_name.Named.TheVariants as named
-use Rattle.type_definitions.specs.declared.definition.Defined.{Defined}
-use Rattle.type_definitions.specs.declared.definition.Defined.TheVariants as defined
-use Rattle.type_definitions.specs.declared.definition.Definition.{Definition}
+use Rattle.elan_walk.specs.declared.definition.Defined.{Defined}
+use Rattle.elan_walk.specs.declared.definition.Defined.TheVariants as defined
+use Rattle.elan_walk.specs.declared.definition.Definition.{Definition}
 use Rattle.type_names.specs.Types.{meant, look, first_from, made, as_defined, by_definition, denoted, names_of}
 use Rattle.type_names.specs.Faults.{Here, here, calls, comes_back, named_in, names_in, number_named, numbers_named, named_faults, written_faults}
 use Rattle.type_names.specs.walks.Further.{known_over}

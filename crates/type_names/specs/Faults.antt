@@ -35,9 +35,9 @@ use Rattle.elan_names.specs.declared.type_name.Named.TheVariants as named
 use Rattle.elan_names.specs.Predefined.{predefined}
 use Rattle.elan_scope.specs.Scope.{first, has_as_many, predefined_callable}
 use Rattle.elan_scope.specs.Ruled.{Fault}
-use Rattle.type_definitions.specs.declared.definition.Defined.{Defined}
-use Rattle.type_definitions.specs.declared.definition.Defined.TheVariants as defined
-use Rattle.type_definitions.specs.declared.definition.Definition.{Definition}
+use Rattle.elan_walk.specs.declared.definition.Defined.{Defined}
+use Rattle.elan_walk.specs.declared.definition.Defined.TheVariants as defined
+use Rattle.elan_walk.specs.declared.definition.Definition.{Definition}
 use Rattle.type_names.specs.Types.{first_from, names_of, level_definitions, body_definitions, look, type_named, size_in, size_of, row_of, structure_of}
 use Rattle.type_names.specs.Types.{is_broken}
 

@@ -1,3 +1,5 @@
 pub mod Types
 pub mod Faults
 pub mod walks
+pub mod Declarations
+pub mod Bodies

@@ -21,11 +21,11 @@ use Rattle.elan_names.specs.declared.type_name.TypeName.{TypeName}
 use Rattle.elan_names.specs.declared.type_name.Named.{Named}
 use Rattle.elan_names.specs.declared.type_name.Named.TheVariants as named
 use Rattle.elan_names.specs.Types.{first_type, type_of}
-use Rattle.type_definitions.specs.declared.definition.Defined.{Defined}
-use Rattle.type_definitions.specs.declared.definition.Defined.TheVariants as defined
-use Rattle.type_definitions.specs.declared.definition.Definition.{Definition}
-pub use Rattle.type_definitions.specs.Definitions.{defined_by, in_units, parameter_definitions, refinement_definitions, in_refinements}
-pub use Rattle.type_definitions.specs.Definitions.{body_definitions, unit_definitions, level_definitions, first_from}
+use Rattle.elan_walk.specs.declared.definition.Defined.{Defined}
+use Rattle.elan_walk.specs.declared.definition.Defined.TheVariants as defined
+use Rattle.elan_walk.specs.declared.definition.Definition.{Definition}
+pub use Rattle.elan_walk.specs.Definitions.{defined_by, in_units, parameter_definitions, refinement_definitions, in_refinements}
+pub use Rattle.elan_walk.specs.Definitions.{body_definitions, unit_definitions, level_definitions, first_from}
 
 -- ---- types as they are written
 

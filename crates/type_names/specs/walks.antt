@@ -1,3 +1,6 @@
 pub mod Seen
 pub mod Judged
 pub mod Further
+pub mod LevelSeen
+pub mod Uses
+pub mod Headings

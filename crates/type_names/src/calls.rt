@@ -6,9 +6,9 @@ ghost use Rattle.type_names.specs.walks.Further as walk;
 
 use elan_names::type_directory::TypeDirectory;
 use elan_tree::{Field, TypePhrase};
+use elan_walk::definition::{Defined, Definition};
 use eu_base::{List, NoMemory};
 use std::alloc::Global;
-use type_definitions::definition::{Defined, Definition};
 
 // Adds the numbers of these names that are written in a type.
 #[cycle(naming)]

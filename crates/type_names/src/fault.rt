@@ -1,7 +1,7 @@
 //! The first type of a text that breaks a rule.
 
 ghost use Rattle.std.specs.Prelude.{◌≡◌, List, [], ◌++◌, flat_map};
-ghost use Rattle.type_definitions.specs.declared.definition.Definition as definitions;
+ghost use Rattle.elan_walk.specs.declared.definition.Definition as definitions;
 ghost use Rattle.elan_walk.specs.Nodes as nodes;
 ghost use Rattle.type_names.specs.Faults as spec;
 ghost use Rattle.type_names.specs.Types as types;
@@ -12,10 +12,10 @@ use crate::scope_types::ScopeTypes;
 use crate::search::{Fault, Search};
 use elan_names::type_directory::TypeDirectory;
 use elan_tree::{Body, Formal, Level, LevelUnit, Refinement, TypePhrase, Unit};
+use elan_walk::definition::{body_definitions, level_definitions};
 use elan_walk::{Node, Visitor, formals, refinements, result_type, visit_unit, visit_units};
 use eu_base::NoMemory;
 use std::alloc::Global;
-use type_definitions::definition::{body_definitions, level_definitions};
 
 /// What is known of types in a level.
 #[derive(Clone, Copy)]

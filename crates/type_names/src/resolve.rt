@@ -12,9 +12,9 @@ use call_graph::CallGraph;
 use elan_names::type_directory::TypeDirectory;
 use elan_names::type_name::{Named, TypeName};
 use elan_types::ElanType;
+use elan_walk::definition::{Defined, Definition};
 use eu_base::{Bytes, List, NoMemory, Shared};
 use std::alloc::Global;
-use type_definitions::definition::{Defined, Definition};
 
 // An own type; it is open where its concrete type is.
 fn made(alloc: Global, number: usize, concrete: ElanType) -> Result<ElanType, NoMemory>

@@ -11,9 +11,9 @@ use crate::resolve::{Around, Resolution, resolve};
 use call_graph::CallGraph;
 use elan_names::type_directory::TypeDirectory;
 use elan_tree::TypePhrase;
+use elan_walk::definition::Definition;
 use eu_base::{List, NoMemory};
 use std::alloc::Global;
-use type_definitions::definition::Definition;
 
 /// What the names of a scope denote where types are written, their definitions, and which of these each names.
 #[derive(Drop)]

@@ -13,10 +13,10 @@ use crate::visible::Visible;
 use elan_names::type_directory::TypeDirectory;
 use elan_tree::{Name, Refinement, TypePhrase};
 use elan_types::Why;
+use elan_walk::definition::Definition;
 use elan_walk::{Held, Node, Visitor};
 use eu_base::NoMemory;
 use std::alloc::Global;
-use type_definitions::definition::Definition;
 
 // The type of what BOUND variables stand for is as if it stood inside another.
 fn is_inside(held: Held) -> bool

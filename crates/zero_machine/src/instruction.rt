@@ -9,22 +9,22 @@ ghost use Rattle.zero_state.specs.Finds.{Finds};
 ghost use Rattle.zero_state.specs.Stepping.{position_of, control_of, scene_of, stage_of, stage_by, halt_of};
 ghost use Rattle.zero_state.specs.Stepping.{IsReady, Steps};
 
+use crate::calls::{back, back_around, call, refer};
 use code_form::{Code, Instr, Operand};
 use eu_base::{MemFault, Memory, NoMemory, Value};
-use zero_calls::calls::{back, back_around, call, refer};
 use zero_requests::ask::{ask, ask_sending};
-use zero_spaces::{bind, content, copy, on_spaces};
+use zero_requests::{bind, content, copy, on_spaces};
 use zero_state::{Next, State};
 use zero_steps::aggregate::{pick, take};
 use zero_steps::change::modify;
 use zero_steps::operate::operate;
 use zero_steps::place::{field, index};
+use zero_steps::push::push_on;
 use zero_steps::step::{
     drop_value, jump_false, limit, load, local, outer, packet, param, push_text, step, store,
     unlimit, when,
 };
 use zero_steps::stop::error_stop;
-use zero_values::push::push_on;
 
 /// What one instruction does.
 pub fn execute<M: Memory>(

@@ -1,11 +1,16 @@
-//! The machine: it runs code over a memory of cells, and can be stopped and resumed at each mark.
+//! The machine: it runs code over a memory of cells, enters and leaves bodies, and can be stopped and resumed at each mark.
 #![tactic(auto)]
 
+pub mod calls;
+mod frames;
 mod instruction;
 mod machine;
+mod release;
 mod starting;
+mod texts;
 
 pub use code_form::Halt;
+pub use frames::write_variables;
 pub use machine::{laws, reply, run};
 pub use starting::start;
 pub use zero_state::{Stack, State};

@@ -14,11 +14,11 @@ ghost use Rattle.code_form.specs.Machine.{start, start_frames, made_in, made, Ca
 ghost use Rattle.code_form.specs.Valid.{Fits, IsStarted};
 ghost use Rattle.zero_state.specs.Stepping.{control_of};
 
+use crate::write_variables;
 use cell_kinds::{CellKinds, Packet};
 use code_form::{Code, Layout, Start, Waits};
 use eu_base::{Area, CELLS, Kind, MemFault, Memory, NoMemory, Shape, Stop};
 use std::alloc::Global;
-use zero_calls::write_variables;
 use zero_state::{Link, Stack, State};
 
 /// Starts a command: the variables of its level are made, or the frame of a start procedure, and behind those of the packets of the task

@@ -1,3 +1,7 @@
+pub mod ReceivedCells
+pub mod Looking
+pub mod Performing
+pub mod Assigning
 pub mod Asking
 pub mod Sending
 pub mod Replying

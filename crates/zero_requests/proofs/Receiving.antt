@@ -33,8 +33,8 @@ use Rattle.zero_state.specs.declared.next.Next.TheVariants.{On as On'}
 use Rattle.zero_state.specs.Stepping.{mem_of, scene_of, Does}
 use Rattle.zero_state.proofs.Making.{done}
 use Rattle.zero_state.proofs.Stacks.{taken_all}
-use Rattle.message_steps.specs.Received.{ReceivesAll}
-use Rattle.message_steps.proofs.Receiving.{variable_there}
+use Rattle.zero_requests.specs.Received.{ReceivesAll}
+use Rattle.zero_requests.proofs.ReceivedCells.{variable_there}
 use Rattle.zero_requests.specs.Replying.{left_waiting, replied_by, Replies}
 
 -- what the reply that is there brings suits the variables

@@ -19,7 +19,7 @@ use Rattle.eu_base.specs.Values.{kind_of}
 use Rattle.eu_base.specs.DataSpaces.{Heads}
 use Rattle.eu_base.specs.SpacePlaces.{lies_in}
 use Rattle.eu_base.specs.SpaceCells.{IsThere}
-use Rattle.zero_values.proofs.Placed.{there_of}
+use Rattle.zero_steps.proofs.Placed.{there_of}
 use Rattle.eu_base.proofs.Results.{kind_is, read_gives}
 use Rattle.eu_base.specs.Requests.{request_kinds, request_result, request_size, is_message, read_as, answer_of}
 use Rattle.eu_base.specs.Cells.{Free, Cells, IsCell, held_of, written}
@@ -35,9 +35,9 @@ use Rattle.zero_state.specs.Stepping.{stage_of, mem_of, scene_of, halt_of, Does}
 use Rattle.zero_state.specs.Emptied.{emptied}
 use Rattle.zero_state.proofs.Making.{done}
 use Rattle.zero_state.proofs.Stacks.{taken_all}
-use Rattle.zero_values.specs.Reading.{PutsTaken}
+use Rattle.zero_steps.specs.Reading.{PutsTaken}
 use Rattle.zero_requests.specs.Replying.{IsAt, PutsIn, replied_by, Replies, Answers}
-use Rattle.zero_values.proofs.Accessing.{Keeps, gone_is, puts_on, put_done, put_full}
+use Rattle.zero_steps.proofs.Accessing.{Keeps, gone_is, puts_on, put_done, put_full}
 use Rattle.eu_base.specs.Room.{bytes_fit}
 
 -- what is taken out of a reply that brings nothing is "", a number or niltask

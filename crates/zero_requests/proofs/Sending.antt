@@ -25,7 +25,7 @@ use Rattle.zero_state.proofs.Making.{done, plain_steps, spent}
 use Rattle.zero_state.proofs.Room.{same_like}
 use Rattle.zero_state.proofs.Stacks.{taken_all}
 use Rattle.zero_requests.specs.Asking.{IsFirst}
-use Rattle.zero_values.proofs.Accessing.{Keeps}
+use Rattle.zero_steps.proofs.Accessing.{Keeps}
 use Rattle.zero_requests.proofs.Asking.{due}
 
 -- its first variable is there

@@ -12,7 +12,7 @@ use Rattle.eu_base.specs.Cells.{Cell, Cells}
 use Rattle.eu_base.specs.DataSpaces.{Heads}
 use Rattle.code_form.specs.declared.operand.Operand.{Operand}
 use Rattle.code_form.specs.declared.operand.Operand.TheVariants.{Place as At}
-use Rattle.zero_values.specs.Reading.{PutsTaken}
+use Rattle.zero_steps.specs.Reading.{PutsTaken}
 use Rattle.code_form.specs.declared.halt.Halt.{Halt}
 use Rattle.code_form.specs.declared.instr.Instr.TheVariants.{Ask}
 use Rattle.code_form.specs.Machine.{Mem, Position, Control, given, Stage, On, takes_reply, move_stage}

@@ -18,7 +18,7 @@ use code_form::{Operand, Waits};
 use eu_base::{
     Addr, Bytes, Kind, MemFault, Memory, NoMemory, Request, RequestName, SpaceNo, decimal, space_in,
 };
-use space_places::are_there;
+use space_calls::are_there;
 use std::alloc::Global;
 use zero_state::{Next, State};
 

@@ -13,15 +13,15 @@ ghost use Rattle.zero_state.specs.Finds.{FindsReply, IsVariable};
 ghost use Rattle.zero_state.specs.Stepping.{position_of, control_of, has_room};
 ghost use Rattle.zero_requests.specs.Replying.{Replies, Answers, IsAt, PutsIn, left_waiting};
 
+use crate::receive_all;
 use code_form::{Operand, Waits};
 use eu_base::{Addr, List, MemFault, Memory, NoMemory, RequestName, Set, SpaceNo, Stop, Value};
-use message_steps::receive_all;
-use space_places::{are_there, kind_of};
+use space_calls::{are_there, kind_of};
 use std::alloc::Global;
 use zero_ops::{OpError, answer_of, message_values, read_as};
 use zero_state::{Next, State};
-use zero_values::push::stopped;
-use zero_values::reading::put;
+use zero_steps::push::stopped;
+use zero_steps::reading::put;
 
 /// Goes on from a request with the reply that is there: it takes its operands, and what it delivers is pushed, or its variables get what it
 /// brings. A stop leaves all as it was, but for the variables of a message before one that is not there.

@@ -39,10 +39,10 @@ use Rattle.zero_state.specs.Stepping.{stage_of, mem_of, scene_of, stage_by, halt
 use Rattle.zero_state.proofs.Room.{same_like, less_fits}
 use Rattle.zero_state.proofs.Emptied.{emptied_operand_like, emptied_kinds, emptied_blocks}
 use Rattle.zero_state.proofs.Making.{done, plain}
-use Rattle.zero_values.specs.Reading.{Reads, AllRead, PutsAll}
-use Rattle.zero_values.proofs.Accessing.{Keeps, standing, with_ops, if_true, if_false, there_is, gone_is}
-use Rattle.zero_values.proofs.Along.{put_cells, put_there}
-use Rattle.zero_values.proofs.Storing.{known_all, seen_of, seen_many, on_seen, without, emptied_taken}
+use Rattle.zero_steps.specs.Reading.{Reads, AllRead, PutsAll}
+use Rattle.zero_steps.proofs.Accessing.{Keeps, standing, with_ops, if_true, if_false, there_is, gone_is}
+use Rattle.zero_steps.proofs.Along.{put_cells, put_there}
+use Rattle.zero_steps.proofs.Storing.{known_all, seen_of, seen_many, on_seen, without, emptied_taken}
 
 -- a value takes the bytes of the values of its cells
 pub operand_size : (vs : List Value) → operand_bytes (operand_of vs) ≡ values_bytes vs

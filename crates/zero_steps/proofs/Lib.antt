@@ -1,2 +1,10 @@
+pub mod Pushing
+pub mod Accessing
+pub mod Contents
+pub mod Taking
+pub mod Putting
+pub mod Along
+pub mod Storing
+pub mod Placed
 pub mod Operating
 pub mod Aggregates

@@ -24,9 +24,9 @@ use Rattle.zero_state.proofs.Room.{less_fits}
 use Rattle.zero_state.specs.Stacked.{Stacked}
 use Rattle.zero_state.specs.Stepping.{stage_of, scene_of, StepsSo}
 use Rattle.zero_ops.specs.Given.{has_texts}
-use Rattle.zero_values.specs.Giving.{GivesSo}
-use Rattle.zero_values.proofs.Accessing.{standing, with_ops}
-use Rattle.zero_values.proofs.Putting.{at_least}
+use Rattle.zero_steps.specs.Giving.{GivesSo}
+use Rattle.zero_steps.proofs.Accessing.{standing, with_ops}
+use Rattle.zero_steps.proofs.Putting.{at_least}
 
 -- an operation on numbers and truth values looks at no more than two operands
 pub looks_at_two : (op : Operation) (vs : List Value) → has_texts op ≡ false → result_of op vs ≡ result_of op (operand vs 0 ∷ operand vs 1 ∷ [])

@@ -8,14 +8,14 @@ ghost use Rattle.code_form.specs.Machine.{Mem, operand_of};
 ghost use Rattle.zero_state.specs.Finds.{all_of, TopPlace, TopAny, TopPicked, TopStored};
 ghost use Rattle.zero_state.specs.Stepping.{position_of, control_of, has_room, IsReady, GoesOn, StepsSo, Accesses};
 
+use crate::cells::{put_operand, values_at};
 use crate::parts::{operand_of, part_of};
 use crate::place::in_row;
+use crate::there::is_operand_there;
 use code_form::Operand;
 use eu_base::{CELL_BYTES, MemFault, Memory, NoMemory, Set, Shape};
-use space_places::shape_is_there;
+use space_calls::shape_is_there;
 use zero_state::{Next, State};
-use zero_values::cells::{put_operand, values_at};
-use zero_values::there::is_operand_there;
 
 /// PICK. A stop leaves the operands pending.
 #[inline(never)]

@@ -8,14 +8,14 @@ ghost use Rattle.eu_base.specs.Operations.{change_kind};
 ghost use Rattle.code_form.specs.declared.instr.Instr.TheVariants as instrs;
 ghost use Rattle.zero_state.specs.Finds.{TopBoth};
 ghost use Rattle.zero_state.specs.Stepping.{position_of, control_of, IsReady, Accesses};
-ghost use Rattle.zero_values.specs.Reading.{Changes};
+ghost use Rattle.zero_steps.specs.Reading.{Changes};
 
+use crate::push::stopped;
+use crate::there::is_there;
 use code_form::Operand;
 use eu_base::{Addr, Change, MemFault, Memory, Set, Value, number_in};
 use zero_ops::{Fault, OpError, append, change_number};
 use zero_state::{Next, State};
-use zero_values::push::stopped;
-use zero_values::there::is_there;
 
 /// DO of INCR, DECR and CAT. A stop leaves the operands pending.
 pub fn modify<M: Memory>(s: &mut State, m: &mut M, by: Change) -> Result<Next, MemFault>

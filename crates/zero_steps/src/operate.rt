@@ -7,12 +7,12 @@ ghost use Rattle.zero_ops.specs.Given.{given_of, has_texts, Gives};
 ghost use Rattle.zero_state.specs.Finds.{TopValue, TopValues};
 ghost use Rattle.zero_state.specs.Stepping.{position_of, control_of, IsReady, StepsSo};
 
+use crate::push::{give, stopped};
+use crate::values::{pop_values, push_values};
 use code_form::Operand;
 use eu_base::{NoMemory, Operation, Value};
 use zero_ops::{Fault, OpError, apply, on_numbers};
 use zero_state::{Next, State};
-use zero_values::push::{give, stopped};
-use zero_values::values::{pop_values, push_values};
 
 /// Takes the operands of an operation, and pushes its result. A stop leaves them pending.
 pub fn operate(s: &mut State, operation: Operation) -> Result<Next, NoMemory>

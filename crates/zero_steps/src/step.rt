@@ -11,15 +11,15 @@ ghost use Rattle.zero_state.specs.Stepping.{position_of, control_of, IsReady, Go
 
 use crate::aggregate::{load_all, store_all};
 use crate::counter::{has_reached, is_past};
+use crate::push::push_on;
+use crate::reading::{put, value_at};
+use crate::there::{is_below_there, is_there, is_top_there};
 use code_form::Operand;
 use eu_base::{
     Area, Bytes, CELLS, Kind, MemFault, Memory, NoMemory, Set, Shape, Value, Way, number_in,
 };
-use space_places::kind_of;
+use space_calls::kind_of;
 use zero_state::{Next, State, area_cell, have_room, place_in, run_cell};
-use zero_values::push::push_on;
-use zero_values::reading::{put, value_at};
-use zero_values::there::{is_below_there, is_there, is_top_there};
 
 /// TEXT. The text is copied. It stands outside the loop of a run, which is quicker so.
 #[inline(never)]

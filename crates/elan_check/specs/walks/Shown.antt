@@ -5,8 +5,8 @@ use Rattle.elan_tree.specs.declared.tree.Level.{Level}
 use Rattle.elan_names.specs.declared.interface.Interface.{Interface}
 use Rattle.elan_names.specs.declared.type_name.TypeName.{TypeName}
 use Rattle.type_names.specs.Types.{names_of, level_types, level_definitions}
-use Rattle.elan_levels.specs.Bodies.{names_in, headings_in}
-use Rattle.elan_bodies.specs.Level.{export_name}
+use Rattle.type_names.specs.Bodies.{names_in, headings_in}
+use Rattle.elan_judge.specs.Level.{export_name}
 
 -- what is shown of a level where these types stand around it, of which so many are own types
 abbrev pub shown_in : ℕ → List TypeName → List Export → Level → Interface

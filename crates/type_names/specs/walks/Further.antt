@@ -7,9 +7,9 @@ use Rattle.elan_names.specs.declared.type_name.Named.{Named}
 use Rattle.elan_names.specs.declared.type_name.Named.TheVariants as named
 use Rattle.elan_names.specs.Types.{is_open_named}
 use Rattle.elan_names.specs.walks.Firsts.{first_at, type_names, denoting}
-use Rattle.type_definitions.specs.declared.definition.Defined.{Defined}
-use Rattle.type_definitions.specs.declared.definition.Defined.TheVariants as defined
-use Rattle.type_definitions.specs.declared.definition.Definition.{Definition}
+use Rattle.elan_walk.specs.declared.definition.Defined.{Defined}
+use Rattle.elan_walk.specs.declared.definition.Defined.TheVariants as defined
+use Rattle.elan_walk.specs.declared.definition.Definition.{Definition}
 use Rattle.type_names.specs.Types.{as_defined, denoted, look}
 use Rattle.type_names.specs.Faults.{names_in}
 

@@ -6,7 +6,7 @@ use Rattle.elan_names.specs.declared.type_name.TypeName.{TypeName}
 use Rattle.elan_walk.specs.Nodes.{Node}
 use Rattle.type_names.specs.Types.{names_of}
 use Rattle.type_names.specs.Faults.{Here, calls, first_fault, node_faults}
-use Rattle.type_definitions.specs.declared.definition.Definition.{Definition}
+use Rattle.elan_walk.specs.declared.definition.Definition.{Definition}
 use Rattle.type_names.specs.declared.scope_types.ScopeTypes.{ScopeTypes}
 use Rattle.type_names.specs.declared.fault.InLevel.{InLevel}
 use Rattle.type_names.specs.declared.search.Search.{Search}

@@ -4,7 +4,7 @@ use Rattle.elan_scope.specs.declared.trouble.Trouble.{Trouble}
 use Rattle.elan_scope.specs.Phrase.{Phrase, all_of}
 use Rattle.elan_scope.specs.Answer.{Fails}
 use Rattle.elan_rules.specs.Meaning.{judged_all}
-use Rattle.elan_bodies.specs.Level.{exports, level_parts}
+use Rattle.elan_judge.specs.Level.{exports, level_parts}
 use Rattle.elan_check.specs.Text.{Answers}
 use Rattle.elan_check.proofs.Cores.{parts_are, core_is, none_hangs}
 use Rattle.elan_check.proofs.text_core.core_meant.Goals as goal

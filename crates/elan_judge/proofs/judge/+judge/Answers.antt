@@ -4,7 +4,7 @@ use Rattle.elan_tree.specs.declared.phrase.Expr.TheViews.{size-Expr, size-Unit, 
 use Rattle.std.proofs.lemmas.List.{append-nil}
 use Rattle.elan_judge.specs.declared.role.Wanted.{Wanted}
 use Rattle.elan_scope.specs.declared.delivery.Delivery.TheVariants.{Open, Nothing}
-use Rattle.unit_rules.specs.Units as units
+use Rattle.elan_rules.specs.Units as units
 use Rattle.elan_scope.specs.Answer.{Is}
 use Rattle.elan_meant.specs.Verdict.{Tells}
 use Rattle.elan_rules.specs.Meaning.{judged, judged_all}

@@ -1,7 +1,7 @@
 use Rattle.elan_names.specs.walks.Seen.{callable}
 use Rattle.elan_meant.specs.Verdict.{gives}
 use Rattle.elan_meant.proofs.Told.{goes_on}
-use Rattle.unit_rules.specs.Units.{alone}
+use Rattle.elan_rules.specs.Units.{alone}
 use Rattle.value_rules.specs.Calls.{called}
 use Rattle.elan_rules.proofs.assignment.called_alone.Goals as goal
 

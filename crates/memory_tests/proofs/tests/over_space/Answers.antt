@@ -1,4 +1,4 @@
-use Rattle.memory_tests.proofs.Spaces.{nil_stands}
+use Rattle.memory_tests.proofs.TwoSpaces.{nil_stands}
 use Rattle.memory_tests.proofs.tests.over_space.Goals as goal
 
 pub over-lent-requires-clause-agree : goal.over-lent-requires-clause-agree

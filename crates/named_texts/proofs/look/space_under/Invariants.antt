@@ -1,5 +1,5 @@
 use Rattle.std.proofs.Common.{◌≡◌, drop}
-use Rattle.live_spaces.specs.Live.{space_at}
+use Rattle.space_memory.specs.Live.{space_at}
 use Rattle.named_texts.proofs.look.space_under.Given as goal
 
 -- the spaces so far have other numbers

@@ -1,6 +1,6 @@
 use Rattle.std.proofs.Common.{sym, subst}
 use Rattle.elan_types.specs.declared.core_phrase.Core.{Core}
-use Rattle.command_code.specs.Codes.{IsCodeOf}
+use Rattle.code_gen.specs.Codes.{IsCodeOf}
 use Rattle.packet_store.proofs.law.text_has_one_code.Goals as goal
 
 pub returns : goal.returns

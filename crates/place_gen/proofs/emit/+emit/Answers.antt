@@ -18,15 +18,15 @@ use Rattle.eu_base.specs.declared.shape.Shape.TheVariants.{Cell}
 use Rattle.code_form.specs.declared.operand.OperandKind.TheVariants as operand
 use Rattle.code_form.specs.Valid.{cell_value, with_answer}
 use Rattle.code_form.specs.declared.instr.Instr.TheVariants.{Mark, Index, Field, Content, Do, OnSpaces, Copy, Bind, Jump, False, Ask, ErrorStop}
-use Rattle.code_draft.specs.Counted.{counted}
-use Rattle.code_draft.specs.Stretch.{Stretch, one, keeps, join, if_code, all_code, select_code, whens_code, while_code, until_code, exit_join, stays}
-use Rattle.code_draft.specs.Stretch.{turns_code, value_parts, action_parts, value_code, action_code, actual_code}
-use Rattle.code_draft.specs.Stretch.{value_arm_code, arm_code_of, place_code, store_code, modify_code, limit_code}
-use Rattle.code_draft.specs.Steps.{step_of, turn_of, loop_code, count_code, transfer_code, spaces_code}
-use Rattle.code_draft.specs.Makes.{Makes, MakesExit, MakesArm, MakesTurn, ComesBack}
-use Rattle.code_draft.proofs.Select.{select_size}
-use Rattle.code_draft.proofs.Makes.{same_makes, join_makes, if_makes, until_makes, turn_exit, turns_makes, arm_makes, more_makes, all_makes}
-use Rattle.code_draft.proofs.Makes.{first_arm_at, next_arm_at, more_arms_make, arms_make}
+use Rattle.place_gen.specs.Counted.{counted}
+use Rattle.place_gen.specs.Stretch.{Stretch, one, keeps, join, if_code, all_code, select_code, whens_code, while_code, until_code, exit_join, stays}
+use Rattle.place_gen.specs.Stretch.{turns_code, value_parts, action_parts, value_code, action_code, actual_code}
+use Rattle.place_gen.specs.Stretch.{value_arm_code, arm_code_of, place_code, store_code, modify_code, limit_code}
+use Rattle.place_gen.specs.Steps.{step_of, turn_of, loop_code, count_code, transfer_code, spaces_code}
+use Rattle.place_gen.specs.Makes.{Makes, MakesExit, MakesArm, MakesTurn, ComesBack}
+use Rattle.place_gen.proofs.Select.{select_size}
+use Rattle.place_gen.proofs.Makes.{same_makes, join_makes, if_makes, until_makes, turn_exit, turns_makes, arm_makes, more_makes, all_makes}
+use Rattle.place_gen.proofs.Makes.{first_arm_at, next_arm_at, more_arms_make, arms_make}
 use Rattle.place_gen.proofs.emit.+emit.Goals as goal
 
 pub add_actions-loop-action-init : goal.add_actions-loop-action-init

@@ -1,8 +1,8 @@
 use Rattle.std.proofs.Common.{map, drop}
-use Rattle.code_draft.specs.declared.draft.Draft.{Draft}
-use Rattle.code_draft.specs.Stretch.{all_code, select_code, value_code, action_code, actual_code, value_arm_code, arm_code_of}
-use Rattle.code_draft.specs.Makes.{Makes}
-use Rattle.code_draft.proofs.Makes.{IsAt}
+use Rattle.place_gen.specs.declared.draft.Draft.{Draft}
+use Rattle.place_gen.specs.Stretch.{all_code, select_code, value_code, action_code, actual_code, value_arm_code, arm_code_of}
+use Rattle.place_gen.specs.Makes.{Makes}
+use Rattle.place_gen.proofs.Makes.{IsAt}
 use Rattle.place_gen.proofs.emit.+emit.Given as goal
 
 -- what makes the code of what is left makes all

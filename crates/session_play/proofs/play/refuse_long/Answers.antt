@@ -1,7 +1,7 @@
 use Rattle.std.proofs.Common.{sym, subst, ◌∙◌, Result}
 use Rattle.std.specs.Prelude.{IfErr}
 use Rattle.eu_base.specs.Faults.{Rose}
-use Rattle.session_events.specs.declared.ending.Ending.{Ending}
+use Rattle.session_lines.specs.declared.ending.Ending.{Ending}
 use Rattle.session_play.specs.declared.error.PlayError.{PlayError}
 use Rattle.session_play.specs.Causes.{HasCause}
 use Rattle.session_play.specs.Midway.{LineEnds}

@@ -1,5 +1,5 @@
 use Rattle.std.proofs.Common.{◌≡◌, ◌-◌, ◌≤◌}
-use Rattle.session_events.specs.declared.ending.TheConstants.{MOST_LINES}
+use Rattle.session_lines.specs.declared.ending.TheConstants.{MOST_LINES}
 use Rattle.session_play.specs.Midway.{Midway}
 use Rattle.session_play.proofs.play.serve_lines.Given as goal
 

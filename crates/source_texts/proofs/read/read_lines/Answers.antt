@@ -1,6 +1,6 @@
 use Rattle.std.proofs.Common.{◌≡◌, ◌+◌, ◌++◌, sym, ap, ◌∙◌, arith}
 use Rattle.eu_base.specs.Spaces.{Content}
-use Rattle.text_blocks.specs.Blocks.{text_in}
+use Rattle.text_heap.specs.Blocks.{text_in}
 use Rattle.source_texts.specs.Sources.{joined}
 use Rattle.source_texts.specs.Lines.{lines_at, line_end}
 use Rattle.source_texts.proofs.Reading.{next_line}

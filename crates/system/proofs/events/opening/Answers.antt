@@ -1,4 +1,4 @@
-use Rattle.output_pieces.specs.Display.{blank}
+use Rattle.session_text.specs.Display.{blank}
 use Rattle.task_requests.specs.Below.source_machine.specs.Systems.{opening, at_event}
 use Rattle.task_requests.specs.Below.live_system.specs.Machines.{StandsAt}
 use Rattle.system.specs.Systems.{StandsFor}

@@ -5,7 +5,7 @@ use Rattle.task_requests.specs.Below.source_machine.specs.Monitor.{Reading}
 use Rattle.task_requests.specs.Below.source_machine.specs.Readings.{IsReading}
 use Rattle.task_requests.specs.Below.source_machine.specs.Turns.{slice}
 use Rattle.task_requests.specs.Below.live_system.specs.Machines.{StandsAt}
-use Rattle.isolation.specs.Waits.{HasTurn}
+use Rattle.turn_laws.specs.Waits.{HasTurn}
 use Rattle.system.specs.Leading.{Leads, TurnGoes}
 use Rattle.system.proofs.turns.slice.Given as goal
 

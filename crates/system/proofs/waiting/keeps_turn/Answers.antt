@@ -1,5 +1,5 @@
 use Rattle.std.proofs.Common.{refl}
-use Rattle.isolation.specs.Waits.{Asking}
+use Rattle.turn_laws.specs.Waits.{Asking}
 use Rattle.system.specs.Keeping.{evaluated}
 use Rattle.system.proofs.Keeping.{rightly}
 use Rattle.system.proofs.waiting.keeps_turn.Goals as goal

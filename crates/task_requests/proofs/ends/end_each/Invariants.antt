@@ -1,5 +1,5 @@
 use Rattle.std.proofs.Common.{drop, fold}
-use Rattle.task_walks.specs.Ends.{EndInTurn}
+use Rattle.task_tree.specs.Ends.{EndInTurn}
 use Rattle.live_system.specs.Below.source_machine.specs.Systems.{Moment}
 use Rattle.live_system.specs.Below.source_machine.specs.Ends.{ended}
 use Rattle.live_system.specs.Machines.{StandsAt}

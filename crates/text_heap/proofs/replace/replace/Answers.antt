@@ -1,8 +1,8 @@
 use Rattle.std.proofs.Common.{◌+◌, ◌*◌, ◌<◌, length, ap, ◌∙◌, subst}
 use Rattle.cell_layout.specs.Layout.{HoldsIn}
-use Rattle.text_blocks.specs.Blocks.{blocks_of, free_in}
-use Rattle.text_blocks.specs.Chains.{Filled}
-use Rattle.text_blocks.proofs.Spreading.{hinted}
+use Rattle.text_heap.specs.Blocks.{blocks_of, free_in}
+use Rattle.text_heap.specs.Chains.{Filled}
+use Rattle.text_heap.proofs.Spreading.{hinted}
 use Rattle.text_heap.proofs.Setting.{Released, has_room, never_full, sets, hint_cells, keeps_cells, keeps_all}
 use Rattle.text_heap.proofs.replace.replace.Goals as goal
 

@@ -1,6 +1,6 @@
 use Rattle.std.proofs.Common.{◌≡◌, [], ap, sym, ◌∙◌, subst}
 use Rattle.eu_base.specs.Spaces.{Content}
-use Rattle.text_blocks.specs.Blocks.{length_in, first_in}
+use Rattle.text_heap.specs.Blocks.{length_in, first_in}
 use Rattle.text_heap.specs.Texts.{Holds, KeepsCells}
 use Rattle.text_heap.proofs.Setting.{empty_fits, was_stored}
 use Rattle.text_heap.proofs.text.clear.Goals as goal

@@ -1,6 +1,6 @@
 use Rattle.std.proofs.Common.{ap, ◌∙◌}
 use Rattle.eu_base.specs.Spaces.{Content}
-use Rattle.text_blocks.specs.Blocks.{first_in, blocks_of, gather}
+use Rattle.text_heap.specs.Blocks.{first_in, blocks_of, gather}
 use Rattle.text_heap.proofs.Stored.{found}
 use Rattle.text_heap.proofs.text.get.Goals as goal
 

@@ -1,5 +1,5 @@
 use Rattle.std.proofs.Common.{arith, ◌≡◌, ◌+◌, ◌<◌, ◌≤◌, length, sym, ap, ◌∙◌, subst}
-use Rattle.text_blocks.specs.Blocks.{blocks_of, length_in, first_in, free_in}
+use Rattle.text_heap.specs.Blocks.{blocks_of, length_in, first_in, free_in}
 use Rattle.eu_base.specs.Spaces.{Content}
 use Rattle.text_heap.specs.Texts.{Holds, Sets, KeepsCells}
 use Rattle.text_heap.proofs.Setting.{full, fits}

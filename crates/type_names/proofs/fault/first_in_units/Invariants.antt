@@ -1,6 +1,6 @@
 use Rattle.std.proofs.Common.{◌≡◌, List, drop}
 use Rattle.std.specs.Prelude.{flat_map}
-use Rattle.type_definitions.specs.declared.definition.Definition.{Definition}
+use Rattle.elan_walk.specs.declared.definition.Definition.{Definition}
 use Rattle.type_names.specs.Faults.{unit_faults, first_fault}
 use Rattle.type_names.specs.walks.Seen.{Knows}
 use Rattle.type_names.proofs.fault.first_in_units.Given as goal

@@ -1,7 +1,7 @@
 use Rattle.std.proofs.Common.{◌≡◌, ◌+◌, ℕ, List, subst, sym}
 use Rattle.std.specs.Prelude.{Result, Ok, Err, OnOk}
 use Rattle.elan_names.specs.declared.type_name.TypeName.{TypeName}
-use Rattle.type_definitions.specs.declared.definition.Definition.{Definition}
+use Rattle.elan_walk.specs.declared.definition.Definition.{Definition}
 use Rattle.type_names.specs.walks.Further.{Reads, with_read}
 use Rattle.type_names.proofs.Order.{not_read, was_read}
 use Rattle.type_names.proofs.resolve.read_next.Goals as goal

@@ -12,7 +12,7 @@ use Rattle.zero_state.specs.Finds.{behind_values}
 use Rattle.zero_state.specs.declared.next.Next.TheVariants.{On, Marked, NoSpace}
 use Rattle.zero_state.specs.Stepping.{position_of, stage_by, Steps}
 use Rattle.zero_requests.specs.Asking.{IsFirst}
-use Rattle.zero_values.proofs.Placed.{there_of}
+use Rattle.zero_steps.proofs.Placed.{there_of}
 use Rattle.zero_requests.proofs.Replying.{behind_is}
 use Rattle.zero_requests.proofs.Sending.{first_there, due_so, gone_so, asked_so}
 use Rattle.zero_requests.proofs.ask.ask_sending.Goals as goal

@@ -7,7 +7,7 @@ use Rattle.zero_state.specs.Finds.{AreVariables}
 use Rattle.zero_state.specs.Stacked.{Stacked}
 use Rattle.zero_state.specs.declared.next.Next.TheVariants.{On}
 use Rattle.zero_state.specs.Stepping.{position_of}
-use Rattle.message_steps.specs.Received.{ReceivesAll}
+use Rattle.zero_requests.specs.Received.{ReceivesAll}
 use Rattle.zero_requests.specs.Replying.{left_waiting, Replies}
 use Rattle.zero_requests.proofs.Replying.{behind_is}
 use Rattle.zero_requests.proofs.Receiving.{received_so}

@@ -9,11 +9,11 @@ use Rattle.code_form.specs.declared.instr.Instr.TheVariants.{Load}
 use Rattle.code_form.specs.Machine.{operand_of, bytes_on, bytes_of}
 use Rattle.zero_state.specs.Stacked.{Stacked}
 use Rattle.zero_state.specs.declared.next.Next.TheVariants.{On, OperandRoom, NoSpace}
-use Rattle.zero_values.specs.Reading.{AllRead}
-use Rattle.zero_values.proofs.Accessing.{accessed, with_ops}
+use Rattle.zero_steps.specs.Reading.{AllRead}
+use Rattle.zero_steps.proofs.Accessing.{accessed, with_ops}
 use Rattle.zero_steps.proofs.Operating.{placed}
 use Rattle.zero_steps.proofs.Aggregates.{load_gone, load_least, load_goes, load_stops, too_many, all_kinds, have_room, value_full, value_fits}
-use Rattle.zero_values.proofs.Placed.{there_of}
+use Rattle.zero_steps.proofs.Placed.{there_of}
 use Rattle.zero_steps.proofs.aggregate.load_all.Goals as goal
 
 pub returns-then-len-most-clause-goes : goal.returns-then-len-most-clause-goes

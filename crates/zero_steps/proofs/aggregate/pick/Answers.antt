@@ -7,7 +7,7 @@ use Rattle.code_form.specs.declared.operand.Operand.{Operand}
 use Rattle.code_form.specs.declared.operand.Operand.TheVariants as operand
 use Rattle.eu_base.specs.Operations.{in_row}
 use Rattle.zero_state.specs.Stepping.{control_of}
-use Rattle.zero_values.proofs.Accessing.{same_number}
+use Rattle.zero_steps.proofs.Accessing.{same_number}
 use Rattle.zero_steps.proofs.Aggregates.{picked, below_number, fewer_fit}
 use Rattle.zero_steps.proofs.aggregate.pick.Goals as goal
 

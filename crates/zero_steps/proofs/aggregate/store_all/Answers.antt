@@ -8,10 +8,10 @@ use Rattle.eu_base.specs.SpacePlaces.{lies_in}
 use Rattle.zero_state.specs.Finds.{all_of}
 use Rattle.zero_state.specs.Stacked.{Stacked}
 use Rattle.zero_state.specs.declared.next.Next.TheVariants.{On, TextRoom, NoSpace}
-use Rattle.zero_values.specs.Reading.{PutsAll}
-use Rattle.zero_values.proofs.Accessing.{accessed, with_ops}
+use Rattle.zero_steps.specs.Reading.{PutsAll}
+use Rattle.zero_steps.proofs.Accessing.{accessed, with_ops}
 use Rattle.zero_steps.proofs.Aggregates.{store_gone, store_goes, store_full, few_cells}
-use Rattle.zero_values.proofs.Placed.{there_of}
+use Rattle.zero_steps.proofs.Placed.{there_of}
 use Rattle.zero_steps.proofs.aggregate.store_all.Goals as goal
 
 pub returns-in-Done-clause-goes : goal.returns-in-Done-clause-goes

@@ -1,5 +1,5 @@
-use Rattle.zero_values.proofs.Contents.{appended, not_appended}
-use Rattle.zero_values.proofs.Placed.{still_there}
+use Rattle.zero_steps.proofs.Contents.{appended, not_appended}
+use Rattle.zero_steps.proofs.Placed.{still_there}
 use Rattle.zero_steps.proofs.change.append_at.Goals as goal
 
 pub returns-in-Ok-clause-changes : goal.returns-in-Ok-clause-changes

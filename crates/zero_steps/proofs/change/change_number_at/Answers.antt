@@ -3,9 +3,9 @@ use Rattle.std.specs.Int.{w16}
 use Rattle.std.specs.Int.RustNames.{FitsSigned}
 use Rattle.eu_base.specs.declared.value.Value.TheVariants.{Int}
 use Rattle.eu_base.specs.Values.{cell_of}
-use Rattle.zero_values.proofs.Accessing.{same_number}
-use Rattle.zero_values.proofs.Contents.{number_changed, number_stops}
-use Rattle.zero_values.proofs.Placed.{still_there}
+use Rattle.zero_steps.proofs.Accessing.{same_number}
+use Rattle.zero_steps.proofs.Contents.{number_changed, number_stops}
+use Rattle.zero_steps.proofs.Placed.{still_there}
 use Rattle.zero_steps.proofs.change.change_number_at.Goals as goal
 
 pub returns-in_ok-set_cell-in-Ok-clause-changes : goal.returns-in_ok-set_cell-in-Ok-clause-changes

@@ -7,9 +7,9 @@ use Rattle.zero_state.specs.Stacked.{Stacked}
 use Rattle.zero_state.specs.declared.next.Next.TheVariants.{On, TextRoom, NoSpace}
 use Rattle.eu_base.specs.Operations.{change_kind}
 use Rattle.eu_base.specs.SpacePlaces.{lies_in}
-use Rattle.zero_values.specs.Reading.{Changes}
-use Rattle.zero_values.proofs.Accessing.{accessed, both, with_ops, modify_gone, modify_goes, modify_full, modify_stops}
-use Rattle.zero_values.proofs.Placed.{there_of}
+use Rattle.zero_steps.specs.Reading.{Changes}
+use Rattle.zero_steps.proofs.Accessing.{accessed, both, with_ops, modify_gone, modify_goes, modify_full, modify_stops}
+use Rattle.zero_steps.proofs.Placed.{there_of}
 use Rattle.zero_steps.proofs.change.modify.Goals as goal
 
 pub returns-in-Ok-Done-clause-goes : goal.returns-in-Ok-Done-clause-goes

@@ -1,7 +1,7 @@
 use Rattle.std.proofs.Common.{[], refl, sym, ◌∙◌, subst}
 use Rattle.zero_state.specs.Stepping.{position_of, control_of}
 use Rattle.zero_ops.specs.Given.{given_of}
-use Rattle.zero_values.specs.Giving.{GivesSo}
+use Rattle.zero_steps.specs.Giving.{GivesSo}
 use Rattle.zero_steps.proofs.Operating.{looks_at_two, values_on, put_back, stops_so}
 use Rattle.zero_steps.proofs.operate.operate_on_none.Goals as goal
 

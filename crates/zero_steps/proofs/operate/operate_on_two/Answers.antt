@@ -6,7 +6,7 @@ use Rattle.code_form.specs.declared.operand.Operand.TheVariants as operand
 use Rattle.zero_ops.specs.Given.{given_of}
 use Rattle.zero_state.specs.Stacked.{Stacked}
 use Rattle.zero_steps.proofs.Operating.{values_on, fits_for, gives_so, popped, placed, place_fits}
-use Rattle.zero_values.proofs.Accessing.{with_ops}
+use Rattle.zero_steps.proofs.Accessing.{with_ops}
 use Rattle.zero_steps.proofs.operate.operate_on_two.Goals as goal
 
 pub replace_top-requires-clause-room : goal.replace_top-requires-clause-room

@@ -4,9 +4,9 @@ use Rattle.code_form.specs.Machine.{on_values}
 use Rattle.zero_ops.specs.Given.{given_of, Gives}
 use Rattle.zero_state.specs.Stacked.{Stacked}
 use Rattle.zero_state.specs.Stepping.{position_of, control_of}
-use Rattle.zero_values.specs.Giving.{put_on, GivesSo}
+use Rattle.zero_steps.specs.Giving.{put_on, GivesSo}
 use Rattle.zero_steps.proofs.Operating.{put_back_by, stops_so}
-use Rattle.zero_values.proofs.Putting.{rest_fits}
+use Rattle.zero_steps.proofs.Putting.{rest_fits}
 use Rattle.zero_steps.proofs.operate.operate_on_values.Goals as goal
 
 pub give-requires-clause-room : goal.give-requires-clause-room

@@ -9,8 +9,8 @@ use Rattle.eu_base.specs.declared.value.Kind.TheVariants as kinds
 use Rattle.zero_state.specs.declared.next.Next.TheVariants.{On, NoSpace}
 use Rattle.zero_state.specs.Stacked.{Stacked}
 use Rattle.zero_state.specs.Stepping.{position_of}
-use Rattle.zero_values.proofs.Accessing.{accessed, both, writes_number, same_number, limit_so, limit_gone, limit_stops, with_ops}
-use Rattle.zero_values.proofs.Placed.{there_of, run_there}
+use Rattle.zero_steps.proofs.Accessing.{accessed, both, writes_number, same_number, limit_so, limit_gone, limit_stops, with_ops}
+use Rattle.zero_steps.proofs.Placed.{there_of, run_there}
 use Rattle.zero_steps.proofs.step.limit.Goals as goal
 
 pub returns-then-not-have_room-clause-goes : goal.returns-then-not-have_room-clause-goes

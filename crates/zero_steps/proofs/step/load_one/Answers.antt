@@ -7,11 +7,11 @@ use Rattle.code_form.specs.declared.instr.Instr.TheVariants.{Load}
 use Rattle.zero_state.specs.Stacked.{Stacked}
 use Rattle.zero_state.specs.declared.next.Next.TheVariants.{On, OperandRoom, NoSpace}
 use Rattle.eu_base.specs.SpacePlaces.{lies_in}
-use Rattle.zero_values.specs.Reading.{Reads}
-use Rattle.zero_values.proofs.Accessing.{accessed, with_ops}
+use Rattle.zero_steps.specs.Reading.{Reads}
+use Rattle.zero_steps.proofs.Accessing.{accessed, with_ops}
 use Rattle.zero_steps.proofs.Aggregates.{one_there, one_gone, load_gone, load_goes, load_stops, one_read, one_fits}
 use Rattle.zero_steps.proofs.Operating.{placed, place_fits}
-use Rattle.zero_values.proofs.Placed.{there_of}
+use Rattle.zero_steps.proofs.Placed.{there_of}
 use Rattle.zero_steps.proofs.step.load_one.Goals as goal
 
 pub returns-then-not-has_room_in_place-clause-goes : goal.returns-then-not-has_room_in_place-clause-goes

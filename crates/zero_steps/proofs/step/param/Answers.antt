@@ -1,8 +1,8 @@
 use Rattle.std.proofs.Common.{◌+◌, ap, ◌∙◌}
 use Rattle.eu_base.specs.Cells.{run_cell}
 use Rattle.zero_state.specs.Stepping.{position_of, control_of, mem_of}
-use Rattle.zero_values.proofs.Accessing.{param_so}
-use Rattle.zero_values.proofs.Placed.{run_there}
+use Rattle.zero_steps.proofs.Accessing.{param_so}
+use Rattle.zero_steps.proofs.Placed.{run_there}
 use Rattle.zero_steps.proofs.step.param.Goals as goal
 
 pub returns-clause-goes : goal.returns-clause-goes

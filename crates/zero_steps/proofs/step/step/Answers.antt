@@ -8,8 +8,8 @@ use Rattle.code_form.specs.declared.instr.Instr.TheVariants.{Step}
 use Rattle.eu_base.specs.declared.value.Kind.TheVariants as kinds
 use Rattle.zero_state.specs.Stacked.{Stacked}
 use Rattle.zero_state.specs.declared.next.Next.TheVariants.{On, NoSpace}
-use Rattle.zero_values.proofs.Accessing.{accessed, limit_answers, same_number, writes_number, step_ends, step_goes, step_gone, with_ops}
-use Rattle.zero_values.proofs.Placed.{there_of, still_there}
+use Rattle.zero_steps.proofs.Accessing.{accessed, limit_answers, same_number, writes_number, step_ends, step_goes, step_gone, with_ops}
+use Rattle.zero_steps.proofs.Placed.{there_of, still_there}
 use Rattle.zero_steps.proofs.step.step.Goals as goal
 
 pub returns-then-has_reached-clause-goes : goal.returns-then-has_reached-clause-goes

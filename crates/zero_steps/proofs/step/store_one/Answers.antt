@@ -9,11 +9,11 @@ use Rattle.code_form.specs.declared.operand.Operand.TheVariants as operand
 use Rattle.code_form.specs.declared.instr.Instr.TheVariants.{Store}
 use Rattle.zero_state.specs.Stacked.{Stacked}
 use Rattle.zero_state.specs.declared.next.Next.TheVariants.{On, TextRoom, NoSpace}
-use Rattle.zero_values.specs.Reading.{PutsTaken}
-use Rattle.zero_values.proofs.Accessing.{accessed, both, with_ops}
-use Rattle.zero_values.proofs.Storing.{one_put}
+use Rattle.zero_steps.specs.Reading.{PutsTaken}
+use Rattle.zero_steps.proofs.Accessing.{accessed, both, with_ops}
+use Rattle.zero_steps.proofs.Storing.{one_put}
 use Rattle.zero_steps.proofs.Aggregates.{store_gone, store_goes, store_full, both_cell}
-use Rattle.zero_values.proofs.Placed.{there_of}
+use Rattle.zero_steps.proofs.Placed.{there_of}
 use Rattle.zero_steps.proofs.step.store_one.Goals as goal
 
 pub returns-in-Done-clause-goes : goal.returns-in-Done-clause-goes

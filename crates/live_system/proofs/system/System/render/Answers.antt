@@ -1,6 +1,6 @@
 use Rattle.std.proofs.Common.{◌++◌}
 use Rattle.std.proofs.lemmas.Result.{on_ok_weaker}
-use Rattle.output_pieces.specs.Display.{rendered}
+use Rattle.session_text.specs.Display.{rendered}
 use Rattle.live_packets.specs.Below.source_machine.specs.Systems.{Moment}
 use Rattle.live_system.proofs.Moments.{looked}
 use Rattle.live_system.proofs.system.System.render.Goals as goal

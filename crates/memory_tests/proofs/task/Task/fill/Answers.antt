@@ -1,5 +1,5 @@
 use Rattle.std.proofs.Common.{arith, ap, length}
-use Rattle.live_spaces.specs.Live.{the_space}
+use Rattle.space_memory.specs.Live.{the_space}
 use Rattle.space_memory.specs.Memories.{MemoryData, roots}
 use Rattle.space_memory.proofs.Framed.{roots_long}
 use Rattle.space_memory.proofs.Led.{with_long}

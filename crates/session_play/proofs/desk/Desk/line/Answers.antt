@@ -3,7 +3,7 @@ use Rattle.std.specs.Prelude.{OnOk, IfOk, IfErr}
 use Rattle.session_text.specs.declared.events.Event.{Event}
 use Rattle.session_text.specs.Lines.{events_of}
 use Rattle.eu_base.specs.Faults.{Rose}
-use Rattle.session_events.specs.Sessions.{shuts}
+use Rattle.session_lines.specs.Sessions.{shuts}
 use Rattle.session_play.specs.declared.desk.Desk.{Desk}
 use Rattle.session_play.specs.Serving.{ServesEvents, RefusesEvents}
 use Rattle.session_play.proofs.Serving.{line_served, line_refused, line_caused, line_wanting, no_form_refused, no_form_caused, settles}

@@ -1,6 +1,6 @@
 use Rattle.std.proofs.Common.{Err}
 use Rattle.eu_base.specs.Faults.{Rose}
-use Rattle.session_events.proofs.Forms.{no_form}
+use Rattle.session_lines.proofs.Forms.{no_form}
 use Rattle.session_play.proofs.Serving.{no_form_refused, settles}
 use Rattle.session_play.proofs.desk.Desk.too_long.Goals as goal
 

@@ -2,7 +2,7 @@ use Rattle.page_table.proofs.Framing.{homes_backed}
 use Rattle.page_table.specs.Frames.{over}
 use Rattle.std.proofs.Common.{refl, sym, ap, ◌∙◌, subst}
 use Rattle.eu_base.specs.DataSpaces.{Head}
-use Rattle.live_spaces.specs.Kept.{IsOfKind}
+use Rattle.space_memory.specs.Kept.{IsOfKind}
 use Rattle.space_memory.specs.Memories.{MemoryData}
 use Rattle.space_memory.specs.Changes.{kind_none, frames_before}
 use Rattle.space_memory.proofs.Framed.{stands_now, whole_after}

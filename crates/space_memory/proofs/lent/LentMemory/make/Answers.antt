@@ -1,9 +1,9 @@
 use Rattle.page_table.proofs.Framing.{homes_backed}
 use Rattle.page_table.specs.Frames.{over}
 use Rattle.std.proofs.Common.{◌+◌, ap, ◌∙◌, refl, sym, subst, arith}
-use Rattle.live_spaces.proofs.Numbers.{past_free}
+use Rattle.space_memory.proofs.Numbers.{past_free}
 use Rattle.space_memory.specs.Memories.{MemoryData, memory_heads}
-use Rattle.live_spaces.specs.Kept.{IsOfKind}
+use Rattle.space_memory.specs.Kept.{IsOfKind}
 use Rattle.space_memory.specs.Changes.{kind_none, frames_before}
 use Rattle.space_memory.proofs.Framed.{stands_one, whole_after}
 use Rattle.space_memory.proofs.Changed.{few_here, few_made, live_from, made_heads, made_so, room_left}

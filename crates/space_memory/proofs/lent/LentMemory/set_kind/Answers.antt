@@ -2,8 +2,8 @@ use Rattle.page_table.specs.Frames.{over}
 use Rattle.std.proofs.Common.{◌≡◌, refl, sym, ap, ◌∙◌, subst}
 use Rattle.std.proofs.lemmas.Int.{to_z-of_z}
 use mir.Syntax.{w16}
-use Rattle.live_spaces.specs.Live.{the_space}
-use Rattle.live_spaces.specs.Kept.{IsOfKind}
+use Rattle.space_memory.specs.Live.{the_space}
+use Rattle.space_memory.specs.Kept.{IsOfKind}
 use Rattle.page_table.specs.Entries.{Names}
 use Rattle.space_memory.specs.Memories.{MemoryData, changed, StandsWhole, MemoryFrames, memory_heads, roots}
 use Rattle.space_memory.specs.Changes.{kind_none, memory_frames_none}

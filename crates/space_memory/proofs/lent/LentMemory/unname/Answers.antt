@@ -1,6 +1,6 @@
 use Rattle.page_table.specs.Frames.{over}
 use Rattle.std.proofs.Common.{refl, sym, ap, subst}
-use Rattle.live_spaces.specs.Kept.{IsOfKind}
+use Rattle.space_memory.specs.Kept.{IsOfKind}
 use Rattle.space_memory.specs.Memories.{MemoryData, HoldsAll, StandsWhole, MemoryFrames, memory_heads, roots}
 use Rattle.space_memory.specs.Changes.{kind_none, memory_frames_none}
 use Rattle.space_memory.proofs.Changed.{named_still}

@@ -1,6 +1,6 @@
 use Rattle.page_table.specs.Frames.{over}
 use Rattle.std.proofs.Common.{◌∙◌, length, ap, sym, subst, arith}
-use Rattle.live_spaces.specs.Live.{LiveData, space_roots, without, the_space}
+use Rattle.space_memory.specs.Live.{LiveData, space_roots, without, the_space}
 use Rattle.space_memory.specs.Memories.{LeadToSpaces}
 use Rattle.space_memory.proofs.Framed.{live_stand, live_frames, live_keep}
 use Rattle.space_memory.proofs.Led.{led_with, with_long}

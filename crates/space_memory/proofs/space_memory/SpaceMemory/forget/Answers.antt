@@ -1,6 +1,6 @@
 use Rattle.page_table.specs.Frames.{over}
 use Rattle.std.proofs.Common.{length, ap, sym, subst, arith}
-use Rattle.live_spaces.specs.Live.{LiveData, space_roots}
+use Rattle.space_memory.specs.Live.{LiveData, space_roots}
 use Rattle.space_names.specs.Directory as directory
 use Rattle.space_memory.specs.Memories.{LeadToSpaces}
 use Rattle.space_memory.proofs.Framed.{live_stand, live_frames, left_keep}

@@ -1,5 +1,5 @@
 use Rattle.std.proofs.Common.{◌∷◌, sym, subst}
-use Rattle.live_spaces.specs.Live.{LiveData, space_roots}
+use Rattle.space_memory.specs.Live.{LiveData, space_roots}
 use Rattle.space_memory.specs.Memories.{LeadToSpaces, roots}
 use Rattle.page_table.specs.Frames.{Frames}
 use Rattle.space_memory.proofs.Framed.{given_frames}

@@ -1,6 +1,6 @@
 use Rattle.page_table.specs.Frames.{over}
 use Rattle.std.proofs.Common.{ap}
-use Rattle.live_spaces.proofs.Roots.{keeps_none}
+use Rattle.space_memory.proofs.Roots.{keeps_none}
 use Rattle.space_memory.specs.Memories.{MemoryData}
 use Rattle.space_memory.proofs.Framed.{parcel_stands, fewer_stand, son_frames, son_keeps}
 use Rattle.space_memory.proofs.space_memory.SpaceMemory.inherit.Goals as goal

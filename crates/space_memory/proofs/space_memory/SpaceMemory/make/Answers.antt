@@ -1,6 +1,6 @@
 use Rattle.page_table.specs.Frames.{over}
 use Rattle.page_table.proofs.Framing.{frames_none}
-use Rattle.live_spaces.proofs.Roots.{keeps_none}
+use Rattle.space_memory.proofs.Roots.{keeps_none}
 use Rattle.space_memory.specs.Memories.{roots}
 use Rattle.space_memory.proofs.Framed.{nil_frames}
 use Rattle.space_memory.proofs.space_memory.SpaceMemory.make.Goals as goal

@@ -1,7 +1,7 @@
 use Rattle.page_table.specs.Frames.{over}
 use Rattle.std.proofs.Common.{◌+◌, [], ◌∷◌, length, ap, sym, subst, arith}
 use Rattle.std.proofs.lemmas.List.{length-append}
-use Rattle.live_spaces.specs.Live.{LiveData, the_space, space_roots}
+use Rattle.space_memory.specs.Live.{LiveData, the_space, space_roots}
 use Rattle.space_memory.specs.Memories.{LeadToSpaces}
 use Rattle.space_memory.proofs.Framed.{live_stand, live_frames, live_keep}
 use Rattle.space_memory.proofs.Led.{led_new}

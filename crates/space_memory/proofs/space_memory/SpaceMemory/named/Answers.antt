@@ -1,6 +1,6 @@
 use Rattle.std.proofs.Common.{subst}
 use Rattle.std.specs.Option.{IfSome}
-use Rattle.live_spaces.specs.Live.{IsLive}
+use Rattle.space_memory.specs.Live.{IsLive}
 use Rattle.space_memory.specs.Memories.{MemoryData}
 use Rattle.space_memory.proofs.Led.{led_found}
 use Rattle.space_memory.proofs.space_memory.SpaceMemory.named.Goals as goal

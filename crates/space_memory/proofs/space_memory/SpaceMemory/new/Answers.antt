@@ -1,5 +1,5 @@
 use Rattle.std.proofs.Common.{ap}
-use Rattle.live_spaces.specs.Live.{LiveData}
+use Rattle.space_memory.specs.Live.{LiveData}
 use Rattle.space_memory.proofs.Fresh.{new_held}
 use Rattle.space_memory.proofs.space_memory.SpaceMemory.new.Goals as goal
 

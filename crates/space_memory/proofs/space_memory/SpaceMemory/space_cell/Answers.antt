@@ -4,7 +4,7 @@ use Rattle.std.specs.Prelude.{IfOk, OnOk}
 use Rattle.eu_base.specs.Spaces.{IsKept}
 use Rattle.page_table.specs.Frames.{over, content_at}
 use Rattle.cell_layout.specs.Layout.{cell_in}
-use Rattle.live_spaces.specs.Live.{LiveData, the_space}
+use Rattle.space_memory.specs.Live.{LiveData, the_space}
 use Rattle.space_memory.specs.Memories.{MemoryData, LeadToSpaces}
 use Rattle.space_memory.proofs.Framed.{live_stand, live_frames, only_space}
 use Rattle.space_memory.proofs.Led.{led_with}

@@ -1,5 +1,5 @@
 use Rattle.std.proofs.Common.{sym, subst}
-use Rattle.live_spaces.specs.Live.{LiveData}
+use Rattle.space_memory.specs.Live.{LiveData}
 use Rattle.space_names.specs.Directory as directory
 use Rattle.space_memory.specs.Memories.{LeadToSpaces}
 use Rattle.space_memory.proofs.Framed.{taken_frames}

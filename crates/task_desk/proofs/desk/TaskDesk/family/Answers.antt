@@ -1,5 +1,5 @@
 use Rattle.std.proofs.Common.{◌≡◌, IfOk, subst}
-use Rattle.task_walks.specs.Families.{family}
+use Rattle.task_tree.specs.Families.{family}
 use Rattle.task_desk.specs.Desks.{Desk}
 use Rattle.task_desk.proofs.desk.TaskDesk.family.Goals as goal
 

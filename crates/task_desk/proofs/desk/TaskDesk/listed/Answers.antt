@@ -1,6 +1,6 @@
 use Rattle.std.proofs.Common.{◌≡◌, IfOk, subst}
 use Rattle.task_tree.specs.Tree.{number}
-use Rattle.task_walks.specs.Families.{listed}
+use Rattle.task_tree.specs.Families.{listed}
 use Rattle.task_desk.specs.Desks.{Desk}
 use Rattle.task_desk.proofs.desk.TaskDesk.listed.Goals as goal
 

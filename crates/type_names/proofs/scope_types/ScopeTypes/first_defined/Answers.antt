@@ -1,6 +1,6 @@
 use Rattle.std.proofs.Common.{Option, sym, ap, ◌∙◌}
 use Rattle.std.specs.Prelude.{option_map}
-use Rattle.type_definitions.specs.declared.definition.Definition.{Definition}
+use Rattle.elan_walk.specs.declared.definition.Definition.{Definition}
 use Rattle.type_names.specs.walks.Further.{defined_at}
 use Rattle.type_names.proofs.Order.{defined_is}
 use Rattle.type_names.proofs.scope_types.ScopeTypes.first_defined.Goals as goal

@@ -1,6 +1,0 @@
-use Rattle.std.proofs.Common.{◌≡◌, drop, Some}
-use Rattle.choice_rules.specs.Choices.{agreed, delivery_in}
-use Rattle.choice_rules.proofs.selection.agreed.Given as goal
-
-abbrev pub invariant-loop-arm : goal.invariant-loop-arm
-invariant-loop-arm l = agreed l.agreed (drop l.arm-index l.arms) ≡ agreed (Some (delivery_in l.otherwise)) l.arms

@@ -1,6 +1,0 @@
-use Rattle.std.proofs.Common.{◌≡◌, drop}
-use Rattle.choice_rules.specs.walks.Steps.{is_in}
-use Rattle.choice_rules.proofs.selection.is_in.Given as goal
-
-abbrev pub invariant-loop-label : goal.invariant-loop-label
-invariant-loop-label l = is_in (drop l.label-index l.labels) l.number ≡ is_in l.labels l.number

@@ -1,3 +1,0 @@
-pub mod Adds
-pub mod Makes
-pub mod Select

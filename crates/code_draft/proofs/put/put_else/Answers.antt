@@ -1,5 +1,0 @@
-use Rattle.code_draft.proofs.Makes.{turn_makes}
-use Rattle.code_draft.proofs.put.put_else.Goals as goal
-
-pub returns : goal.returns
-returns c n e = turn_makes (c.put_jump.ensures n e) c.restore.ensures

@@ -1,5 +1,0 @@
-use Rattle.code_draft.proofs.Makes.{never_makes}
-use Rattle.code_draft.proofs.put.put_never.Goals as goal
-
-pub returns : goal.returns
-returns c = never_makes c.add.ensures c.put_value.ensures c.len-top.ensures

@@ -1,5 +1,0 @@
-pub mod Counted
-pub mod Stretch
-pub mod Adds
-pub mod Makes
-pub mod Steps

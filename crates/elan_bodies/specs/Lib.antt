@@ -1,3 +1,0 @@
-pub mod Level
-pub mod Refinements
-pub mod walks

@@ -1,4 +1,0 @@
-pub mod Seen
-pub mod Rounds
-pub mod OnTheWay
-pub mod Units

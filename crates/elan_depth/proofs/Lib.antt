@@ -1,5 +1,0 @@
-pub mod Limits
-pub mod TypeLimits
-pub mod ExpressionLimits
-pub mod UnitLimits
-pub mod TextLimits

@@ -1,8 +1,0 @@
-use Rattle.elan_depth.proofs.TextLimits.{limited, unlimited}
-use Rattle.elan_depth.proofs.depth_alone.Goals as goal
-
-pub returns-clause-reads : goal.returns-clause-reads
-returns-clause-reads c = λ p tokens t h. limited p tokens t h
-
-pub returns-clause-all : goal.returns-clause-all
-returns-clause-all c = λ p tokens t h le. unlimited p tokens t h le

@@ -1,3 +1,0 @@
-pub mod Declarations
-pub mod Bodies
-pub mod walks

@@ -1,0 +1,2 @@
+pub mod UnitSteps
+pub mod ChoiceSteps

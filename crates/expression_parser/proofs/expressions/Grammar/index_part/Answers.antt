@@ -1,7 +1,0 @@
-use Rattle.std.proofs.Common.{arith}
-use Rattle.elan_grammar.specs.Expressions as expressions
-use Rattle.expression_parser.proofs.expressions.Grammar.index_part.Goals as goal
-
-pub returns-clause-parses : goal.returns-clause-parses
-unfolding expressions.index_part
-returns-clause-parses g c = grind arith

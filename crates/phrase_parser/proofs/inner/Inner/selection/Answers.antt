@@ -1,0 +1,16 @@
+use Rattle.std.proofs.Common.{arith}
+use Rattle.elan_tree.specs.declared.phrase.Expr.TheFolds.{the_lemmas}
+use Rattle.elan_grammar.specs.Expressions as expressions
+use Rattle.phrase_parser.proofs.inner.Inner.selection.Goals as goal
+
+pub returns-in_err-at : goal.returns-in_err-at
+unfolding expressions.selection
+returns-in_err-at g c = grind arith
+
+pub returns-in_err-of : goal.returns-in_err-of
+unfolding expressions.selection
+returns-in_err-of g c = grind arith
+
+pub returns : goal.returns
+unfolding expressions.selection
+returns g c = grind (arith, the_lemmas)

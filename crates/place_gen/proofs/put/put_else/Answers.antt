@@ -1,0 +1,5 @@
+use Rattle.place_gen.proofs.Makes.{turn_makes}
+use Rattle.place_gen.proofs.put.put_else.Goals as goal
+
+pub returns : goal.returns
+returns c n e = turn_makes (c.put_jump.ensures n e) c.restore.ensures

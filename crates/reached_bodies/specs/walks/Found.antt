@@ -1,8 +1,0 @@
--- Names that were added on a walk. Steps of the code: no definition of meaning needs them.
-use Rattle.std.specs.Prelude.{◌≡◌, false, ◌++◌}
-use Rattle.reached_bodies.specs.Names.{Names}
-use Rattle.reached_bodies.specs.declared.names.Found.{Found}
-
--- These names were added. Want of memory is noted, and nothing is known then.
-abbrev pub Adds : Names → Found → Found → Type 0
-Adds ns old new = new.wanted ≡ false → (old.wanted ≡ false) × (new.numbers ≡ old.numbers ++ ns)

@@ -1,3 +1,0 @@
-pub mod Forms
-pub mod Serving
-pub mod Sessions

@@ -1,4 +1,0 @@
-pub mod Paying
-pub mod Commands
-pub mod Slicing
-pub mod Standing

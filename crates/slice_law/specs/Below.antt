@@ -1,9 +1,0 @@
--- The libraries below whose words are read here, so that the crate's line in crates.txt stays short.
-pub use Rattle.live_system.specs.Below.source_machine as source_machine
-pub use Rattle.live_system.specs.Below.packet_store as packet_store
-pub use Rattle.live_system.specs.Below.refusals as refusals
-pub use Rattle.live_system.specs.Below.live_packets as live_packets
-pub use Rattle.live_system.specs.Below.live_packets.specs.Below.task_desk as task_desk
-pub use Rattle.live_system.specs.Below.live_packets.specs.Below.live_tasks as live_tasks
-pub use Rattle.live_system.specs.Below.live_packets.specs.Below.live_task as live_task
-pub use Rattle.live_system.specs.Below.live_packets.specs.Below.live_task.specs.Below.task_job as task_job

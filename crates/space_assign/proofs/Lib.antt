@@ -1,3 +1,0 @@
-mod Copying
-mod Counts
-mod Binding

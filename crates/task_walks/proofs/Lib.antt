@@ -1,5 +1,0 @@
-mod Added
-mod Members
-mod Sons
-mod Descents
-pub mod Ending

@@ -1,0 +1,12 @@
+use Rattle.std.proofs.Common.{◌≡◌, ◌≤◌, ◌+◌}
+use Rattle.text_heap.proofs.Pieces.{free_met}
+use Rattle.text_heap.proofs.search.has_free.Given as goal
+
+-- the free blocks that were met are no longer wanted
+abbrev pub invariant-loop-k : goal.invariant-loop-k
+invariant-loop-k g l = record {
+  passed : g.S.Space.known l.fn.space → free_met (g.S.Space.content l.fn.space) l.from l.k + l.left ≡ l.wanted;
+  same : g.S.Space.content l.space ≡ g.S.Space.content l.fn.space;
+  later : g.S.Space.faults l.fn.space ≤ g.S.Space.faults l.space;
+  follows : g.S.Space.follows l.fn.space l.space;
+}

@@ -1,7 +1,0 @@
-use Rattle.std.proofs.Common.{arith}
-use Rattle.elan_grammar.specs.Grammar as grammar
-use Rattle.text_parser.proofs.texts.packet.Goals as goal
-
-pub returns-in_err-at : goal.returns-in_err-at
-unfolding grammar.packet
-returns-in_err-at c = grind arith
