@@ -1,49 +1,38 @@
 """Four terminals for EUMEL in one window. It types for who sits in front, lets time pass, and keeps apart what the
 terminals show. Without a terminal, or with --plain, lines of standard input are typed, and what is shown is put out."""
-import argparse, contextlib, curses, os, signal, subprocess, sys
+import argparse, curses, os, pathlib, signal, subprocess, sys
 
 from link import Link, play
-from plain import Plain
+from plain import Plain, say
 from screen import Screen
-from session import PATIENCE, Session
+from session import PATIENCE
 from terminals import read_messages
 
-HERE = os.path.dirname(os.path.abspath(__file__))
 
-
-def options_of(help_text):
+def main():
+    top = pathlib.Path(__file__).resolve().parent.parent
+    help_text = (top / "desk/help.txt").read_text("utf-8")
     parser = argparse.ArgumentParser(prog="./eumel desk", description=__doc__, epilog=help_text,
                                      formatter_class=argparse.RawDescriptionHelpFormatter)
     parser.add_argument("--plain", action="store_true", help="no screen")
     parser.add_argument("--patience", type=float, default=5, metavar="SECONDS", help="for a line, with --plain (5)")
     parser.add_argument("--every", type=float, default=300, metavar="SECONDS", help="between fixpoints (300)")
     parser.add_argument("--record", metavar="FILE", help="a new file for the session's lines, which play replays")
-    parser.add_argument("--program", default=HERE + "/../crates/eumel/out/eumel", help="in place of the built one")
-    return parser.parse_args()
-
-
-def say(text):
-    with contextlib.suppress(OSError):  # the terminal may be gone
-        print("desk: %s" % text, file=sys.stderr, flush=True)
-
-
-def main():
-    with open(HERE + "/help.txt", encoding="utf-8") as file:
-        help_text = file.read()
-    options = options_of(help_text)
+    parser.add_argument("--program", default=top / "crates/eumel/out/eumel", help="in place of the built one")
+    options = parser.parse_args()
     choice, plain = play(options.program), options.plain or not (os.isatty(0) and os.isatty(1))
     try:
         record = open(options.record, "xb", 0) if options.record else None
         link = Link(choice.words, record, None if plain else subprocess.DEVNULL)
     except OSError as fault:
         return say(fault) or 1
-    messages = read_messages(HERE + "/../docs/messages.md")
-    desk = (Plain if plain else Session)(choice, link, options.every, messages, help_text.encode().splitlines())
+    messages, help_rows = read_messages(top / "docs/messages.md"), help_text.encode().splitlines()
+    desk = (Plain if plain else Screen)(choice, link, options.every, messages, help_rows)
     for number in (signal.SIGTERM, signal.SIGHUP, signal.SIGINT):
         signal.signal(number, lambda *_: desk.end())
     os.environ.setdefault("ESCDELAY", "25")
     try:
-        desk.loop(options.patience) if plain else curses.wrapper(lambda window: Screen(window, desk).loop())
+        desk.loop(options.patience) if plain else curses.wrapper(desk.loop)
     except curses.error as fault:  # there is no such terminal, or it is gone
         say("%s; --plain needs no screen" % fault)
     if not desk.ending:
@@ -54,5 +43,4 @@ def main():
     return status if status >= 0 else 128 - status
 
 
-if __name__ == "__main__":
-    sys.exit(main())
+sys.exit(main())

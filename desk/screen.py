@@ -1,110 +1,63 @@
 """The window: four terminals or the one in front, the line that is typed, and two lines of state."""
-import curses, os, time, unicodedata
+import contextlib, curses, itertools, os, re, time, unicodedata
 
-from session import Refused
+from session import Session
 
-KEYS = {curses.KEY_F1: "/1", curses.KEY_F2: "/2", curses.KEY_F3: "/3", curses.KEY_F4: "/4", "alt1": "/1", "alt2": "/2",
-        "alt3": "/3", "alt4": "/4", curses.KEY_F5: "/sv", "\x07": "/sv", "\x03": "/halt", curses.KEY_F9: "/fix",
-        "\x06": "/fix", curses.KEY_F10: "/end", "\x11": "/end"}
+ALT = "\x1b"
+KEYS = {curses.KEY_F1: "/1", curses.KEY_F2: "/2", curses.KEY_F3: "/3", curses.KEY_F4: "/4", ALT + "1": "/1",
+        ALT + "2": "/2", ALT + "3": "/3", ALT + "4": "/4", curses.KEY_F5: "/sv", "\x07": "/sv", "\x03": "/halt",
+        curses.KEY_F9: "/fix", "\x06": "/fix", curses.KEY_F10: "/end", "\x11": "/end"}
+SCROLLS, STEPS = {curses.KEY_PPAGE: 8, curses.KEY_NPAGE: -8}, {curses.KEY_UP: -1, curses.KEY_DOWN: 1}
 HINT = "F1-F4 terminal  F5 SV  F6 one/four  F9 fixpoint  F10 end  PgUp/PgDn  ^C halt  /help"
 SMALLEST, FOUR = (8, 30), (15, 60)  # lines and columns: of a window, and of one with four terminals
 REDRAWN, MOST_KEYS, HISTORY = 0.05, 500, 200
 
 
-class Entry:
-    """The line that is typed at a terminal, and those typed before."""
-
-    def __init__(self):
-        self.text, self.cursor, self.history, self.at = "", 0, [], 0
-
-    def key(self, key):
-        """Changes the line by a key."""
-        before, behind = self.text[: self.cursor], self.text[self.cursor :]
-        moves = {curses.KEY_LEFT: len(before) - 1, curses.KEY_RIGHT: len(before) + 1, curses.KEY_HOME: 0,
-                 curses.KEY_END: len(self.text)}
-        if key in moves:
-            self.cursor = max(0, min(len(self.text), moves[key]))
-        elif key in (curses.KEY_UP, curses.KEY_DOWN):
-            self.at = max(0, min(len(self.history), self.at + (-1 if key == curses.KEY_UP else 1)))
-            self.set((self.history + [""])[self.at], "")
-        elif key in (curses.KEY_BACKSPACE, "\x7f", "\b"):
-            self.set(before[:-1], behind)
-        elif key == curses.KEY_DC:
-            self.set(before, behind[1:])
-        elif isinstance(key, str) and len(key) == 1 and key >= " ":
-            self.set(before + key, behind)
-
-    def set(self, before, behind):
-        self.text, self.cursor = before + behind, len(before)
-
-    def done(self):
-        """The line was taken."""
-        self.history = [it for it in self.history[-HISTORY:] if it != self.text] + [self.text] * (self.text != "")
-        self.at = len(self.history)
-        self.set("", "")
-
-
-def drawn(text):
-    """Text as it can be drawn, one column for each character."""
-    wide = lambda char: unicodedata.combining(char) or unicodedata.east_asian_width(char) in "WF"
-    return "".join("?" if wide(char) or not char.isprintable() else char for char in text)
-
-
-class Screen:
-    def __init__(self, window, desk):
-        self.window, self.desk, self.four = window, desk, True
-        self.entries = {terminal: Entry() for terminal in desk.terminals}
+class Screen(Session):
+    def loop(self, window):
+        """Goes on until the program has ended, or the terminal went away."""
         curses.raw()
         window.nodelay(True)
-        window.keypad(True)
-
-    def loop(self):
-        """Goes on until the program has ended, or the terminal went away."""
-        when, seen = 0.0, None
-        while self.desk.goes_on():
-            ready, pressed = self.desk.link.step(0.02, [0]), self.keys()
+        self.window, self.four, when, seen = window, True, 0.0, None
+        while self.goes_on():
+            ready, pressed = self.link.step(0.02, [0]), []
+            with contextlib.suppress(curses.error):  # there are no more keys
+                while len(pressed) < MOST_KEYS:
+                    pressed.append(window.get_wch())
+            for key, last in zip(pressed, ["", *pressed]):
+                if key != ALT:
+                    self.key(ALT + key if last == ALT and isinstance(key, str) else key)
             if 0 in ready and not pressed and not os.isatty(0):
                 break
-            now, state = time.monotonic(), (self.desk.shows, self.desk.note, int(time.monotonic()))
+            now, state = time.monotonic(), (self.link.alive, int(time.monotonic()))
             if pressed or state != seen and now - when >= REDRAWN:
                 self.draw()
                 when, seen = now, state
 
-    def keys(self):
-        """Takes the keys that were pressed. Answers whether there were any."""
-        pressed, before = False, ""
-        for _ in range(MOST_KEYS):
-            try:
-                key = self.window.get_wch()
-            except curses.error:
-                break
-            if key != "\x1b":
-                self.key(before + key if isinstance(key, str) else key)
-            pressed, before = True, "alt" if key == "\x1b" else ""
-        return pressed
-
     def key(self, key):
-        terminal, entry = self.desk.front, self.entries[self.desk.front]
+        front, before, behind = self.front, self.front.before, self.front.behind
+        rubbed = before[:-1], behind
+        edits = {curses.KEY_LEFT: (before[:-1], before[-1:] + behind), curses.KEY_HOME: ("", before + behind),
+                 curses.KEY_RIGHT: (before + behind[:1], behind[1:]), curses.KEY_END: (before + behind, ""),
+                 curses.KEY_BACKSPACE: rubbed, "\x7f": rubbed, "\b": rubbed,
+                 curses.KEY_DC: (before, behind[1:]), "\x15": ("", "")}
         if key in KEYS:
-            self.enter(KEYS[key])
+            self.enter(KEYS[key].encode())
         elif key in (curses.KEY_F6, "\x0f"):
             self.four = not self.four
-        elif key in (curses.KEY_PPAGE, curses.KEY_NPAGE):
-            terminal.scroll(8 if key == curses.KEY_PPAGE else -8)
+        elif key in SCROLLS:
+            front.scroll(SCROLLS[key])
+        elif key in edits:
+            front.before, front.behind = edits[key]
+        elif key in STEPS:
+            front.past = max(0, min(len(front.history), front.past + STEPS[key]))
+            front.before, front.behind = [*front.history, ""][front.past], ""
         elif key not in ("\n", "\r", curses.KEY_ENTER):
-            entry.key(key)
-        elif self.enter(entry.text):
-            terminal.back = 0
-            entry.done()
-
-    def enter(self, text):
-        """Gives a line to the desk. Answers whether it was taken."""
-        self.desk.note = ""
-        try:
-            self.desk.enter(text.encode("utf-8", "surrogateescape"))
-        except Refused as why:
-            self.desk.note = str(why)
-        return not self.desk.note
+            front.before += key if isinstance(key, str) and len(key) == 1 and key >= " " else ""
+        elif self.enter((before + behind).encode("utf-8", "surrogateescape")):
+            typed = before + behind
+            front.history = [it for it in front.history[-HISTORY:] if it != typed] + [typed] * (typed != "")
+            front.before, front.behind, front.past, front.back = "", "", len(front.history), 0
 
     def draw(self):
         high, wide = self.window.getmaxyx()
@@ -112,39 +65,49 @@ class Screen:
         if high < SMALLEST[0] or wide < SMALLEST[1]:
             self.put(0, 0, "too small: %d lines of %d, please" % SMALLEST, wide)
         else:
-            self.draw_panes(high - 3, wide)
-            self.put(high - 2, 0, self.desk.status(), wide, curses.A_REVERSE)
-            self.put(high - 1, 0, self.desk.note or HINT, wide - 1, curses.A_DIM)
-            entry, head = self.entries[self.desk.front], "%d> " % self.desk.front.number
-            left = max(0, entry.cursor - (wide - len(head) - 1))
-            self.put(high - 3, 0, head + entry.text[left:], wide, curses.A_BOLD)
-            self.window.move(high - 3, len(head) + entry.cursor - left)
+            shown, rows, columns = [self.front], [(0, high - 3)], [(0, wide)]  # where they begin, and how many
+            if self.four and high >= FOUR[0] and wide >= FOUR[1]:
+                up, left, shown = (high - 3) // 2, wide // 2, self.terminals
+                rows, columns = [(0, up), (up, high - 3 - up)], [(0, left - 1), (left, wide - left)]
+            for terminal, (down, across) in zip(shown, itertools.product(rows, columns)):
+                self.draw_pane(terminal, *down, *across)
+            head = "%d> " % self.front.number
+            left = max(0, len(head + self.front.before) + 1 - wide)
+            self.put(high - 3, 0, head + (self.front.before + self.front.behind)[left:], wide, curses.A_BOLD)
+            self.put(high - 2, 0, self.status(), wide, curses.A_REVERSE)
+            self.put(high - 1, 0, (self.notes or [HINT])[-1], wide - 1, curses.A_DIM)
+            self.window.move(high - 3, len(head + self.front.before) - left)
         self.window.refresh()
 
-    def draw_panes(self, high, wide):
-        up, left = high // 2, wide // 2
-        if not self.four or high + 3 < FOUR[0] or wide < FOUR[1]:
-            return self.pane(self.desk.front, 0, 0, high, wide)
-        for number, terminal in enumerate(self.desk.terminals):
-            low, right = divmod(number, 2)
-            self.pane(terminal, low * up, right * left, high - up if low else up, wide - left if right else left - 1)
-
-    def pane(self, terminal, y, x, high, wide):
+    def draw_pane(self, terminal, y, high, x, wide):
         """Draws what a terminal has shown, the last at the bottom."""
-        is_front, rows = terminal is self.desk.front, []
+        style, rule, rows = (curses.A_BOLD, "=", []) if terminal is self.front else (curses.A_DIM, "-", [])
         back = "(%d lines back) " % terminal.back if terminal.back else ""
-        title = "[%d] %s %s" % (terminal.number, self.desk.at(terminal.number), back)
-        self.put(y, x, title.ljust(wide, "-="[is_front]), wide, curses.A_BOLD if is_front else curses.A_DIM)
-        for number in range(len(terminal.lines) - terminal.back - 1, -1, -1):
-            text = drawn(terminal.lines[number].decode("utf-8", "replace"))
+        title = "[%d] %s %s" % (terminal.number, self.at(terminal.number), back)
+        self.put(y, x, title.ljust(wide, rule), wide, style)
+        for line in itertools.islice(reversed(terminal.lines), terminal.back, terminal.back + high):
+            text = line.decode("utf-8", "replace")
             rows[:0] = [text[at : at + wide] for at in range(0, len(text) or 1, wide)]
-            if len(rows) >= high:
-                break
-        for number, row in enumerate(rows[1 - high :]):
-            self.put(y + 1 + number, x, row, wide)
+        for number, row in enumerate(rows[1 - high :], 1):
+            self.put(y + number, x, row, wide)
 
     def put(self, y, x, text, wide, style=0):
-        try:
-            self.window.addstr(y, x, drawn(text)[:wide].ljust(wide), style)
-        except curses.error:  # the last place of a window can't be written
-            pass
+        """Draws text, one column for each character: a question mark where it needs another, or can't be drawn."""
+        is_wide = lambda char: unicodedata.combining(char) or unicodedata.east_asian_width(char) in "WF"
+        columns = ("?" if is_wide(char) or not char.isprintable() else char for char in text[:wide])
+        with contextlib.suppress(curses.error):  # the last place of a window can't be written
+            self.window.addstr(y, x, "".join(columns).ljust(wide), style)
+
+    def at(self, number):
+        """The task at a channel, and what it does, as was told last."""
+        rows = (re.fullmatch(rb" *(.*) Kanal %d" % number, row) for row in self.tasks)
+        names = [row[1].decode("utf-8", "replace") + "?" * (not self.free()) for row in rows if row]
+        return "SV" if self.terminals[number - 1].free else (names + ["SV" if self.free() else "?"])[0]
+
+    def status(self):
+        now = time.monotonic()
+        ago = "fixpoint %d:%02d ago" % divmod(int(now - self.fixed), 60)
+        kept = "nothing is kept" if not self.keeps else ago if self.changed else "all is kept"
+        does = "  ends" if self.ending else "  busy" if self.link.current and now - self.link.start > 0.3 else ""
+        tasks = "  ".join("%d %s" % (number, self.at(number)) for number in (1, 2, 3, 4))
+        return " %s | %d tasks | %s%s" % (tasks, len(self.tasks), kept, does)
