@@ -1,21 +1,20 @@
 -- Items that were written, one list after another.
-use Rattle.std.proofs.Common.{◌≡◌, ℕ, ◌+◌, ◌<◌, ◌≤◌, ◌&&◌, Bool, true, List, [], ◌∷◌, ◌++◌, length, take, get_or, map, refl, sym, ap, ◌∙◌, append_assoc, arith}
+use Rattle.std.proofs.Common.{◌≡◌, ℕ, ◌+◌, ◌<◌, ◌≤◌, true, List, [], ◌∷◌, ◌++◌, length, take, get_or, map, refl, sym, ap, ◌∙◌, append_assoc, arith}
 use Rattle.std.specs.Prelude.{reverse, nat_lt}
 use Rattle.std.specs.List.{flat_map}
-use Rattle.std.specs.Int.{Width, w16, w32, to_le_bytes}
+use Rattle.std.specs.Int.{w32}
 use Rattle.std.proofs.lemmas.Bool.{lt-ltb}
-use Rattle.std.proofs.lemmas.List.{append-nil, take_more, take_all, reverse-append, reverse-reverse, map-append, length-append}
+use Rattle.std.proofs.lemmas.List.{append-nil, take_more, take_all, reverse-reverse, map-append, length-append}
 use Rattle.std.proofs.lemmas.List.Concat.{flat_map-cons}
 use Rattle.std.proofs.lemmas.Grind.{flat_map-append}
 use Rattle.code_form.specs.declared.operand.Operand.{Operand}
-use Rattle.code_form.specs.Machine.{Control}
 use Rattle.zero_state.specs.declared.stack.Frame.{Frame}
 use Rattle.zero_state.specs.Stacked.{frame_of, frames_of}
-use Rattle.byte_spelling.specs.Spelling.{Spelling, limit, all_fine, counted_list}
+use Rattle.byte_spelling.specs.Spelling.{Spelling, all_fine, counted_list}
 use Rattle.byte_spelling.proofs.Laws.{both_true, true_both}
 use Rattle.state_spelling.specs.declared.kept.KeptFrame.{KeptFrame}
 use Rattle.state_spelling.specs.Held.{kept_link, held}
-use Rattle.state_spelling.specs.Standing.{kept_frame, kept_frames, pending_below}
+use Rattle.state_spelling.specs.Standing.{kept_frames, pending_below}
 use Rattle.state_spelling.proofs.Taken.{reverse-cons}
 
 pub record HasItems {A : Type 0} (s : Spelling A) (old : List ℕ) (items : List A) (out : List ℕ) : Type 0 where
@@ -25,10 +24,6 @@ pub record HasItems {A : Type 0} (s : Spelling A) (old : List ℕ) (items : List
 pub no_items : {A : Type 0} (s : Spelling A) (out : List ℕ) → HasItems s out [] out
 unfolding all_fine
 no_items s out = record { spelled = sym (append-nil out); fine = refl }
-
-pub one_item : {A : Type 0} (s : Spelling A) (out : List ℕ) (a : A) (new : List ℕ) → new ≡ out ++ s.spell a → s.fine a ≡ true → HasItems s out (a ∷ []) new
-unfolding all_fine
-one_item s out a new e f = record { spelled = e ∙ ap (λ (x : List ℕ). out ++ x) (sym (flat_map-cons s.spell a [] ∙ append-nil (s.spell a))); fine = rw f refl }
 
 fine_all : {A : Type 0} (s : Spelling A) (as' bs : List A) → all_fine s as' ≡ true → all_fine s bs ≡ true → all_fine s (as' ++ bs) ≡ true
 unfolding all_fine
@@ -42,11 +37,6 @@ more_items s old items out more new a b = record {
   fine = fine_all s items more a.fine b.fine;
 }
 
--- so many items of a list, and one more
-pub next_item : {A : Type 0} (s : Spelling A) (old : List ℕ) (all : List A) (n : ℕ) (out : List ℕ) (d : A) (new : List ℕ) → HasItems s old (take n all) out → n < length all
-    → new ≡ out ++ s.spell (get_or all n d) → s.fine (get_or all n d) ≡ true → HasItems s old (take (n + 1) all) new
-next_item s old all n out d new has lt e f = rw (take_more all n d lt) (more_items s old (take n all) out (get_or all n d ∷ []) new has (one_item s out (get_or all n d) new e f))
-
 -- those of so many lists, and of one more
 pub next_items : {A B : Type 0} (s : Spelling A) (of : B → List A) (old : List ℕ) (all : List B) (n : ℕ) (out : List ℕ) (d : B) (new : List ℕ) → HasItems s old (flat_map of (take n all)) out → n < length all
     → HasItems s out (of (get_or all n d)) new → HasItems s old (flat_map of (take (n + 1) all)) new
@@ -54,18 +44,9 @@ next_items s of old all n out d new has lt more =
     rw (take_more all n d lt, flat_map-append of (take n all) (get_or all n d ∷ []), flat_map-cons of (get_or all n d) [], append-nil (of (get_or all n d)))
     (more_items s old (flat_map of (take n all)) out (of (get_or all n d)) new has more)
 
-pub all_items : {A : Type 0} (s : Spelling A) (old : List ℕ) (all : List A) (n : ℕ) (out : List ℕ) → HasItems s old (take n all) out → length all ≤ n → HasItems s old all out
-all_items s old all n out has le = rw (take_all n all le) at has
-
 pub all_lists : {A B : Type 0} (s : Spelling A) (of : B → List A) (old : List ℕ) (all : List B) (n : ℕ) (out : List ℕ) → HasItems s old (flat_map of (take n all)) out → length all ≤ n
     → HasItems s old (flat_map of all) out
 all_lists s of old all n out has le = rw (take_all n all le) at has
-
--- a list behind its count
-pub counted : {A : Type 0} (w : Width) (s : Spelling A) (old : List ℕ) (items : List A) (out new : List ℕ) → out ≡ old ++ to_le_bytes w (length items) → length items < limit w → HasItems s out items new
-    → (new ≡ old ++ (counted_list w s).spell items) × ((counted_list w s).fine items ≡ true)
-counted w s old items out new e lt has =
-    (has.spelled ∙ ap (λ (x : List ℕ). x ++ flat_map s.spell items) e ∙ append_assoc old (to_le_bytes w (length items)) (flat_map s.spell items), true_both _ _ (lt-ltb _ _ lt) has.fine)
 
 -- ---- the frames of a stack
 

@@ -9,8 +9,8 @@ ghost use Rattle.state_spelling.specs.Standing.{kept_of};
 ghost use Rattle.state_spelling.specs.Held.{kept_link, held};
 
 use crate::frames::held_used;
-use crate::{KeptFrame, put_frames, put_operand, put_waits, small};
-use byte_spelling::{put_u16, put_u32};
+use crate::{KeptFrame, OperandBytes, put_waits, small};
+use byte_spelling::{put_items, put_list, put_u16, put_u32};
 use code_form::Operand;
 use eu_base::{Bytes, List, NoMemory};
 use std::alloc::Global;
@@ -57,22 +57,12 @@ fn count_below(frames: &[Frame]) -> Result<usize, NoMemory>
     Ok(count)
 }
 
-fn put_items(out: &mut Bytes, operands: &[Operand]) -> Result<(), NoMemory>
-    ensures spelled { OnOk result (out.new ≡ out.old ++ flat_map operand.spell operands.now) }
-    ensures fine { OnOk result (all_fine operand operands.now ≡ true) }
-{
-    for operand in operands {
-        put_operand(out, operand)?;
-    }
-    Ok(())
-}
-
 fn put_below(out: &mut Bytes, frames: &[Frame]) -> Result<(), NoMemory>
     ensures spelled { OnOk result (out.new ≡ out.old ++ flat_map operand.spell (flat_map held frames.now)) }
     ensures fine { OnOk result (all_fine operand (flat_map held frames.now) ≡ true) }
 {
     for frame in frames {
-        put_items(out, frame.operands.as_slice())?;
+        put_items::<OperandBytes>(out, frame.operands.as_slice())?;
     }
     Ok(())
 }
@@ -91,7 +81,7 @@ fn put_pending(out: &mut Bytes, frames: &[Frame], own: &[Operand]) -> Result<(),
     let count = sum_of(count_below(frames)?, own.len())?;
     put_u32(out, small(count)?)?;
     put_below(out, frames)?;
-    put_items(out, own)?;
+    put_items::<OperandBytes>(out, own)?;
     Ok(())
 }
 
@@ -105,7 +95,7 @@ pub fn record_bytes(alloc: Global, state: &State) -> Result<Bytes, NoMemory>
     put_u32(&mut out, small(state.pc)?)?;
     put_u16(&mut out, held_used(state.used))?;
     let frames = state.stack.frames();
-    put_frames(&mut out, kept_links(alloc, frames)?.as_slice())?;
+    put_list::<KeptFrame>(&mut out, kept_links(alloc, frames)?.as_slice())?;
     put_pending(&mut out, frames, state.stack.operands())?;
     Ok(out)
 }

@@ -1,31 +1,15 @@
 //! What a command waits for, from bytes and to bytes.
 ghost use Rattle.std.specs.Prelude.{◌≡◌, ◌++◌, ◌<◌, ◌^◌, true, OnOk, IfOk};
-ghost use Rattle.std.specs.Int.{w32};
-ghost use Rattle.byte_spelling.specs.Spelling.{number, option_of};
 ghost use Rattle.byte_spelling.specs.Gives.{Gives};
 ghost use Rattle.state_spelling.specs.Waiting as spec;
 
 use byte_spelling::{
-    ReadError, byte_at, bytes_at, i16_at, put_byte, put_bytes, put_i16, put_truth, put_u32,
-    truth_at, u32_at,
+    ReadError, byte_at, bytes_at, i16_at, option_at, put_byte, put_bytes, put_i16, put_option,
+    put_truth, put_u32, truth_at, u32_at,
 };
 use code_form::Waits;
 use eu_base::{Bytes, NoMemory, Reply, Request, Stop};
 use std::alloc::Global;
-
-fn optional_number_at(from: &[u8]) -> Result<(Option<u32>, &[u8]), ReadError>
-    ensures { Gives (λ x. (x.0, x.1.now)) result ((option_of (number w32)).read from.now) }
-{
-    let (case, rest) = byte_at(from)?;
-    match case {
-        0 => Ok((None, rest)),
-        1 => {
-            let (number, rest) = u32_at(rest)?;
-            Ok((Some(number), rest))
-        }
-        _ => Err(ReadError::NotSpelled),
-    }
-}
 
 fn stop_at(alloc: Global, from: &[u8]) -> Result<(Stop, &[u8]), ReadError>
     ensures { Gives (λ x. (x.0, x.1.now)) result (spec.stop.read from.now) }
@@ -90,12 +74,12 @@ fn request_at(alloc: Global, from: &[u8]) -> Result<(Request, &[u8]), ReadError>
             ))
         }
         3 => {
-            let (number, rest) = optional_number_at(rest)?;
+            let (number, rest) = option_at::<u32>(alloc, rest)?;
             Ok((Request::End(number), rest))
         }
         4 => Ok((Request::Myself, rest)),
         5 => {
-            let (number, rest) = optional_number_at(rest)?;
+            let (number, rest) = option_at::<u32>(alloc, rest)?;
             Ok((Request::Father(number), rest))
         }
         6 => {
@@ -199,20 +183,6 @@ pub(crate) fn waits_at(alloc: Global, from: &[u8]) -> Result<(Waits, &[u8]), Rea
     }
 }
 
-fn put_optional(out: &mut Bytes, optional: Option<u32>) -> Result<(), NoMemory>
-    ensures spelled { OnOk result (out.new ≡ out.old ++ (option_of (number w32)).spell optional) }
-    ensures fine { OnOk result ((option_of (number w32)).fine optional ≡ true) }
-{
-    match optional {
-        None => put_byte(out, 0)?,
-        Some(inner) => {
-            put_byte(out, 1)?;
-            put_u32(out, inner)?;
-        }
-    }
-    Ok(())
-}
-
 /// A number that four bytes can spell. No greater one is met.
 pub fn small(number: usize) -> Result<u32, NoMemory>
     ensures same { IfOk result (λ small. small ≡ number) }
@@ -279,12 +249,12 @@ fn put_request(out: &mut Bytes, request: &Request) -> Result<(), NoMemory>
         }
         Request::End(inner) => {
             put_byte(out, 3)?;
-            put_optional(out, *inner)?;
+            put_option::<u32>(out, inner)?;
         }
         Request::Myself => put_byte(out, 4)?,
         Request::Father(inner) => {
             put_byte(out, 5)?;
-            put_optional(out, *inner)?;
+            put_option::<u32>(out, inner)?;
         }
         Request::Son(inner) => {
             put_byte(out, 6)?;

@@ -31,14 +31,14 @@ pub returns-clause-spelled : goal.returns-clause-spelled
 returns-clause-spelled c =
     five (waits.spell c.args.state.now.waits) ((number w32).spell c.args.state.now.pc) ((number w16).spell (held_used c.args.state.now.used))
     ((list_of frame).spell (kept_frames c.args.state.now.stack.frames)) ((list_of operand).spell (pending_below c.args.state.now.stack.frames ++ reverse c.args.state.now.stack.ops))
-    c.put_waits.new.out c.put_u32.new.out c.put_u16.new.out c.put_frames.new.out c.put_pending.new.out
+    c.put_waits.new.out c.put_u32.new.out c.put_u16.new.out c.put_list.new.out c.put_pending.new.out
     (c.in_ok-put_waits.ensures.spelled ∙ ap (λ x. x ++ waits.spell c.args.state.now.waits) c.new-out.ensures)
     (rw c.in_ok-small.ensures.same at c.in_ok-put_u32.ensures) (rw c.held_used.ensures at c.in_ok-put_u16.ensures)
-    (c.in_ok-put_frames.ensures.spelled ∙ ap (λ (fs : List KeptFrame). c.put_u16.new.out ++ (list_of frame).spell fs) (links_are c))
-    (c.in_ok-put_pending.ensures.spelled ∙ ap (λ (os : List Operand). c.put_frames.new.out ++ (list_of operand).spell os) (pending_are c))
+    (c.in_ok-put_list.ensures.spelled ∙ ap (λ (fs : List KeptFrame). c.put_u16.new.out ++ (list_of frame).spell fs) (links_are c))
+    (c.in_ok-put_pending.ensures.spelled ∙ ap (λ (os : List Operand). c.put_list.new.out ++ (list_of operand).spell os) (pending_are c))
 
 pub returns-clause-fine : goal.returns-clause-fine
 returns-clause-fine c =
     true_both _ _ c.in_ok-put_waits.ensures.fine (true_both _ _ (lt-ltb _ _ c.in_ok-small.ensures.few) (true_both _ _ (lt-ltb _ _ (short_held c.args.state.now.used))
-    (true_both _ _ (sym (ap (λ (fs : List KeptFrame). (list_of frame).fine fs) (links_are c)) ∙ c.in_ok-put_frames.ensures.fine)
+    (true_both _ _ (sym (ap (λ (fs : List KeptFrame). (list_of frame).fine fs) (links_are c)) ∙ c.in_ok-put_list.ensures.fine)
     (sym (ap (λ (os : List Operand). (list_of operand).fine os) (pending_are c)) ∙ c.in_ok-put_pending.ensures.fine))))
