@@ -97,7 +97,7 @@ class ScriptTest(Test):
         os.remove(self.path("crates/eumel/out/eumel"))
         status, out, errors = self.eumel("line")
         self.assertEqual((status, out), (0, "built: line\n"))
-        self.assertIn("proves 2 crates, which takes some 140 processor minutes", errors)
+        self.assertIn("proves 2 crates, which takes some 125 processor minutes", errors)
         self.assertIn("checked low, 1 of 2, after 0 minutes", errors)
         self.assertEqual(self.eumel("line"), (0, "built: line\n", ""))
 
