@@ -11,7 +11,7 @@ use Rattle.elan_types.specs.declared.core_phrase.Body.{Body}
 use Rattle.elan_types.specs.Typing.{Outside, is_content_typed, IsStart, IsWellTyped}
 use Rattle.elan_scope.specs.declared.env.Env.{Env}
 use Rattle.elan_check.specs.Packets.{AreCompiled}
-use Rattle.elan_check.specs.Starts.{starts_by, is_start, start_core}
+use Rattle.units.specs.Starts.{starts_by, is_start, start_core}
 use Rattle.elan_check.proofs.Sound.{IsSound}
 use Rattle.elan_check.proofs.Inserted.{is_sound}
 

@@ -1,4 +1,3 @@
 pub mod walks
 pub mod Text
 pub mod Packets
-pub mod Starts

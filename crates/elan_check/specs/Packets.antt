@@ -1,5 +1,5 @@
 -- The packets of a task: each is a text that has a meaning after those before it.
-use Rattle.std.specs.Prelude.{◌≡◌, ℕ, ◌+◌, ◌-◌, List, [], ◌∷◌, ◌++◌, length, map}
+use Rattle.std.specs.Prelude.{◌≡◌, ℕ, List, map}
 use Rattle.elan_types.specs.declared.core_phrase.Core.{Core}
 use Rattle.elan_tree.specs.declared.written_type.Name.{Name}
 use Rattle.elan_tree.specs.declared.tree.Export.{Export}
@@ -9,13 +9,11 @@ use Rattle.elan_tree.specs.declared.tree.Tree.TheVariants.{Packet as packet}
 use Rattle.elan_names.specs.declared.interface.Interface.{Interface}
 use Rattle.elan_scope.specs.declared.env.Env.{Env}
 use Rattle.elan_scope.specs.Shown.{shown_types}
+pub use Rattle.units.specs.Packets.{nothing, after}
 use Rattle.type_names.specs.Types.{names_of, level_definitions}
 use Rattle.type_names.specs.Bodies.{level_names, headings}
-use Rattle.elan_judge.specs.Level.{level_in, exports_in, export_name, packet_cells}
+use Rattle.elan_judge.specs.Level.{level_in, exports_in, export_name}
 use Rattle.elan_check.specs.Text.{Means}
-
-abbrev pub nothing : Env
-nothing = record { inserted = []; packets = []; bodies = []; types = 0 }
 
 -- what later texts see of a packet that is compiled after these
 abbrev pub interface : Env → Tree → Interface
@@ -24,15 +22,6 @@ interface env t = record {
   names = level_names env (level_in t);
   headings = headings env (level_in t);
   types = names_of env.types (shown_types env) (level_definitions (level_in t));
-}
-
--- the packets, and behind them one that shows this and has this core, under this number
-abbrev pub after : Env → Interface → Core → ℕ → Env
-after env i c n = record {
-  inserted = record { interface = i; bodies_before = length env.bodies; cells_before = length (packet_cells env) } ∷ env.inserted;
-  packets = env.packets ++ record { number = n; variables = c.inserted; bodies = length c.bodies - length env.bodies } ∷ [];
-  bodies = c.bodies;
-  types = env.types + length i.types;
 }
 
 -- a packet with a meaning after these: its core, and what it shows

@@ -17,5 +17,6 @@ pub use laws::{
     each_text_has_one_answer, meant_is_not_refused, one_core, one_refusal,
     what_a_text_means_is_well_typed,
 };
-pub use packets::{Packets, interface_of};
+pub use packets::{interface_of, no_packets, packets_after};
+pub use start::started;
 pub use text::check;

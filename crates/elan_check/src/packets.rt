@@ -6,7 +6,6 @@ ghost use Rattle.type_names.specs.Types.{names_of, level_types as types_in, leve
 ghost use Rattle.type_names.specs.Bodies.{names_in, headings_in};
 ghost use Rattle.elan_check.specs.Packets as spec;
 ghost use Rattle.elan_check.specs.walks.Shown as walks;
-ghost use Rattle.elan_check.specs.Packets.{AreCompiled, IsPacket};
 
 use crate::shown::export_names;
 use crate::text_scope::{cells_of, exports_in, level_in};
@@ -22,29 +21,15 @@ use elan_types::{Body, Core};
 use elan_walk::definition::level_definitions;
 use eu_base::{List, NoMemory, Shared};
 use std::alloc::Global;
-use std::marker::Model;
 use type_names::bodies::{level_names, level_types};
 use type_names::heading::headings;
 use type_names::resolve::{Around, names_of};
 
-/// The packets of a task, as a text sees them that is compiled after them. Each is a text that has a meaning after those before it.
-#[derive(Drop)]
-pub struct Packets {
-    env: Env,
-}
-
-impl Model for Packets {
-    ghost use Rattle.elan_scope.specs.declared.env.Env.{Env};
-    ghost use Rattle.elan_scope.specs.contracts.env.Env as envs;
-    ghost use Rattle.elan_check.specs.Packets.{AreCompiled};
-
-    ghost Value = { Env };
-
-    ghost coded = { envs.the_row.coded };
-
-    ghost view = { λ packets. packets.env };
-
-    ghost invariant = { λ packets. AreCompiled packets.env };
+/// No packets.
+pub fn no_packets(alloc: Global) -> Env
+    ensures { result ≡ spec.nothing }
+{
+    Env::new(alloc)
 }
 
 /// The same bodies once more.
@@ -106,7 +91,8 @@ fn variables_after(
     Ok(packets)
 }
 
-fn env_after(
+/// These packets, and behind them one with this core that shows this, under a number.
+pub fn packets_after(
     alloc: Global,
     env: &Env,
     interface: &Shared<Interface>,
@@ -182,51 +168,13 @@ fn shown_in(
 }
 
 /// What later texts see of a packet that is compiled after these.
-pub fn interface_of(alloc: Global, packets: &Packets, tree: &Tree) -> Result<Interface, NoMemory>
-    ensures { IfOk result (λ interface. interface ≡ spec.interface packets.now tree.now) }
+pub fn interface_of(alloc: Global, env: &Env, tree: &Tree) -> Result<Interface, NoMemory>
+    ensures { IfOk result (λ interface. interface ≡ spec.interface env.now tree.now) }
 {
-    let env = packets.env();
     let shown = env.shown_types(alloc)?;
     let around = Around {
         names: &shown,
         first: env.types,
     };
     shown_in(alloc, around, exports_in(tree), level_in(tree))
-}
-
-impl Packets {
-    /// No packets.
-    pub fn new(alloc: Global) -> Packets
-        ensures { result ≡ spec.nothing }
-    {
-        Packets {
-            env: Env::new(alloc),
-        }
-    }
-
-    /// Lets them go, with all that they show.
-    pub fn let_go(self) {}
-
-    /// What a text may use of them, lent.
-    pub fn env(&self) -> &Env
-        ensures env { result.now ≡ self.now }
-        ensures compiled { AreCompiled result.now }
-    {
-        &self.env
-    }
-
-    /// These packets, and behind them one with this core that shows this, under a number.
-    pub fn after(
-        &self,
-        alloc: Global,
-        interface: &Shared<Interface>,
-        core: &Core,
-        number: u32,
-    ) -> Result<Packets, NoMemory>
-        requires { IsPacket self.now interface.now core.now }
-        ensures { IfOk result (λ made. made ≡ spec.after self.now interface.now core.now number) }
-    {
-        let env = env_after(alloc, &self.env, interface, core, number)?;
-        Ok(Packets { env })
-    }
 }

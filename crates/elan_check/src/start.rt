@@ -1,43 +1,44 @@
 //! PROCs in which a task can start.
 ghost use Rattle.std.specs.Prelude.{◌≡◌, slice_get, Some, IfOk, IfSome};
 ghost use Rattle.elan_types.specs.Typing.{IsWellTyped};
-ghost use Rattle.elan_check.specs.Starts as spec;
+ghost use Rattle.elan_check.specs.Packets.{AreCompiled};
+ghost use Rattle.units.specs.Starts as spec;
 
-use crate::packets::{Packets, shared};
+use crate::packets::shared;
 use cell_kinds::{CellKinds, Packet};
 use elan_scope::env::Env;
 use elan_types::{Body, Content, Core, Scope};
 use eu_base::{List, NoMemory};
 use std::alloc::Global;
 
-impl Packets {
-    /// The PROC with this number as a command in which a task starts; `None` exactly where the packets have no PROC of that number
-    /// without parameters that delivers nothing.
-    pub fn start(&self, alloc: Global, number: usize) -> Result<Option<Core>, NoMemory>
-        ensures core { IfOk result (λ made. made ≡ spec.start_at self.now number) }
-        ensures typed { IfOk result (λ made. IfSome made IsWellTyped) }
-    {
-        match self.env().bodies.as_slice().get(number) {
-            None => Ok(None),
-            Some(body) => self.started_in(alloc, number, body.get()),
-        }
+/// The PROC with this number as a command in which a task starts; `None` exactly where the packets have no PROC of that number
+/// without parameters that delivers nothing.
+pub fn started(alloc: Global, env: &Env, number: usize) -> Result<Option<Core>, NoMemory>
+    requires { AreCompiled env.now }
+    ensures core { IfOk result (λ made. made ≡ spec.start_at env.now number) }
+    ensures typed { IfOk result (λ made. IfSome made IsWellTyped) }
+{
+    match env.bodies.as_slice().get(number) {
+        None => Ok(None),
+        Some(body) => started_in(alloc, env, number, body.get()),
     }
+}
 
-    fn started_in(
-        &self,
-        alloc: Global,
-        number: usize,
-        body: &Body,
-    ) -> Result<Option<Core>, NoMemory>
-        requires { slice_get self.now.bodies number ≡ Some body.now }
-        ensures core { IfOk result (λ made. made ≡ spec.start_at self.now number) }
-        ensures typed { IfOk result (λ made. IfSome made IsWellTyped) }
-    {
-        if is_start(body) {
-            Ok(Some(start_core(alloc, self.env(), number)?))
-        } else {
-            Ok(None)
-        }
+fn started_in(
+    alloc: Global,
+    env: &Env,
+    number: usize,
+    body: &Body,
+) -> Result<Option<Core>, NoMemory>
+    requires compiled { AreCompiled env.now }
+    requires here { slice_get env.now.bodies number ≡ Some body.now }
+    ensures core { IfOk result (λ made. made ≡ spec.start_at env.now number) }
+    ensures typed { IfOk result (λ made. IfSome made IsWellTyped) }
+{
+    if is_start(body) {
+        Ok(Some(start_core(alloc, env, number)?))
+    } else {
+        Ok(None)
     }
 }
 

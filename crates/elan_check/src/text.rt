@@ -5,18 +5,20 @@ ghost use Rattle.elan_types.specs.Typing.{IsWellTyped};
 ghost use Rattle.elan_types.specs.declared.core_phrase.Core.{Core};
 ghost use Rattle.elan_tree.specs.declared.tree.Tree.{Tree};
 ghost use Rattle.elan_scope.specs.Ruled.{Fault};
+ghost use Rattle.elan_check.specs.Packets.{AreCompiled};
 ghost use Rattle.elan_check.specs.Text as text;
 
 use crate::error::CheckError;
-use crate::packets::Packets;
 use crate::text_core::core_of;
+use elan_scope::env::Env;
 use elan_tree::Tree;
 use elan_types::Core;
 use std::alloc::Global;
 
 /// The one core of a text that stands behind packets, or the first phrase in text order that breaks a rule though all its parts
 /// have meaning, and the rule.
-pub fn check(alloc: Global, tree: &Tree, packets: &Packets) -> Result<Core, CheckError>
+pub fn check(alloc: Global, tree: &Tree, packets: &Env) -> Result<Core, CheckError>
+    requires { AreCompiled packets.now }
     // What it gives is the meaning.
     ensures meaning { IfOk result (λ core. text.Means packets.now tree.now core) }
     // A text that has a meaning is not refused.
@@ -26,5 +28,5 @@ pub fn check(alloc: Global, tree: &Tree, packets: &Packets) -> Result<Core, Chec
     // A core is well typed, so code can be made of it.
     ensures typed { IfOk result (λ core. IsWellTyped core) }
 {
-    core_of(alloc, packets.env(), tree)
+    core_of(alloc, packets, tree)
 }

@@ -26,7 +26,8 @@ use Rattle.code_gen.specs.Program.{program_of}
 use Rattle.code_gen.proofs.Whole.{behaves}
 use Rattle.elan_tree.specs.declared.tree.Tree.{Tree}
 use Rattle.elan_scope.specs.declared.env.Env.{Env}
-use Rattle.elan_check.specs.Packets.{AreCompiled, nothing, none}
+use Rattle.units.specs.Packets.{nothing}
+use Rattle.elan_check.specs.Packets.{AreCompiled, none}
 use Rattle.elan_types.specs.declared.core_phrase.Core.{Core}
 use Rattle.elan_types.specs.Typing.{IsWellTyped}
 use Rattle.elan_types.specs.Command.{Ending, Ended, Stopped, OutOfMarks, Asks, evaluate, at_start}

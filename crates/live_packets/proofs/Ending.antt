@@ -4,7 +4,7 @@ use Rattle.std.specs.Prelude.{slice_get}
 use Rattle.eu_base.specs.declared.value.Kind.{Kind}
 use Rattle.cell_kinds.specs.Kinds.{packet_kinds}
 use Rattle.elan_types.specs.Eval.{World}
-use Rattle.live_tasks.specs.Below.packet_store.specs.declared.unit.Compiled.{Compiled}
+use Rattle.live_tasks.specs.Below.units.specs.declared.unit.Compiled.{Compiled}
 use Rattle.live_tasks.specs.Below.source_machine.specs.Stores.{Store, tidied}
 use Rattle.live_tasks.specs.Below.source_machine.specs.Tasks.{Command, Idle, Own, store_in, with_doing}
 use Rattle.live_tasks.specs.Below.source_machine.specs.Systems.{with_own}

@@ -7,9 +7,9 @@ use Rattle.cell_kinds.specs.declared.packet.Packet.{Packet}
 use Rattle.cell_kinds.specs.Kinds.{packet_kinds}
 use Rattle.elan_names.specs.declared.interface.Interface.{Interface}
 use Rattle.elan_types.specs.Eval.{World}
-use Rattle.live_tasks.specs.Below.packet_store.specs.declared.unit.Compiled.{Compiled}
-use Rattle.live_tasks.specs.Below.packet_store.specs.Library.{Library, IsInstalled}
-use Rattle.live_tasks.specs.Below.packet_store.specs.Units.{IsUnit}
+use Rattle.live_tasks.specs.Below.units.specs.declared.unit.Compiled.{Compiled}
+use Rattle.live_tasks.specs.Below.units.specs.Library.{Library, IsInstalled}
+use Rattle.live_tasks.specs.Below.units.specs.Sound.{IsSoundUnit}
 use Rattle.live_tasks.specs.Below.source_machine.specs.Stores.{tidied}
 use Rattle.live_tasks.specs.Below.source_machine.specs.Tasks.{Command, Idle, Own, store_in, with_doing}
 use Rattle.live_tasks.specs.Below.source_machine.specs.Systems.{with_own}
@@ -19,7 +19,7 @@ use Rattle.live_tasks.proofs.Zips.{found_other}
 use Rattle.live_tasks.specs.Below.source_machine.specs.Whole.{AreAllGiven, AreNumbered}
 use Rattle.live_packets.specs.Packets.{kinds_in}
 use Rattle.live_packets.proofs.Owns.{given_at}
-use Rattle.live_packets.proofs.PacketKinds.{kinds_before, kinds_new, packets_are}
+use Rattle.live_packets.proofs.PacketKinds.{kinds_before, kinds_new}
 
 -- the unit of a command that is over has the packets of its task
 pub over_kinds : (kinds_of : List ℕ → List Kind) (live : Live) (owns : List Own) (k : ℕ) (c : Command) (w : World) → StandOver kinds_of live owns k c w
@@ -28,11 +28,11 @@ over_kinds kinds_of live owns k c w h o has =
     let task = found_other live.tasks owns k o h.but.as_many has in (h.over task.0 o task.1 has).kinds_are
 
 pub installed_kinds : (unit : Compiled) (i : Interface) (lib : Library) (live : Live) (owns : List Own) (k : ℕ) (c : Command) (w : World)
-    → StandOver (kinds_in lib) live owns k c w → (o : Own) → slice_get owns k ≡ Some o → c.unit ≡ unit → IsUnit unit → AreNumbered lib
+    → StandOver (kinds_in lib) live owns k c w → (o : Own) → slice_get owns k ≡ Some o → c.unit ≡ unit → IsSoundUnit unit → AreNumbered lib
     → kinds_in (installed unit i lib) (o.packets ++ (lib.last + 1) ∷ []) ≡ kinds_in lib o.packets ++ c.unit.core.inserted
 installed_kinds unit i lib live owns k c w h o has is whole numbered =
     kinds_new unit i lib numbered o.packets
-    ∙ ap (λ (ps : List Packet). packet_kinds ps ++ unit.core.inserted) (sym (packets_are unit whole))
+    ∙ ap (λ (ps : List Packet). packet_kinds ps ++ unit.core.inserted) (sym whole.packets)
     ∙ ap (λ (u : Compiled). packet_kinds u.core.packets ++ u.core.inserted) (sym is)
     ∙ ap (λ (ks : List Kind). ks ++ c.unit.core.inserted) (over_kinds (kinds_in lib) live owns k c w h o has)
 
@@ -40,7 +40,7 @@ pub installed_agrees : (unit : Compiled) (i : Interface) (lib : Library) (owns :
     → AgreeBut (kinds_in lib) (kinds_in (installed unit i lib)) owns k
 installed_agrees unit i lib owns k given j o other has = kinds_before unit i lib o.packets (given_at lib.last owns j o has given)
 
-pub installs_so : (unit : Compiled) (lib grown : Library) (i : Interface) (owns : List Own) (k : ℕ) (own : Own) (c : Command) (w : World) → IsUnit unit
+pub installs_so : (unit : Compiled) (lib grown : Library) (i : Interface) (owns : List Own) (k : ℕ) (own : Own) (c : Command) (w : World) → IsSoundUnit unit
     → unit.shown ≡ Some i → c.unit ≡ unit → AreNumbered lib → AreAllGiven lib.last owns → (live : Live) → StandOver (kinds_in lib) live owns k c w
     → slice_get owns k ≡ Some own → IsInstalled lib unit grown → (number : ℕ) → number ≡ lib.last + 1 → (new : Live)
     → ((later : List ℕ → List Kind) → AgreeBut (kinds_in lib) later owns k → later (own.packets ++ number ∷ []) ≡ kinds_in lib own.packets ++ c.unit.core.inserted

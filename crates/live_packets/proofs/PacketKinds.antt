@@ -13,13 +13,12 @@ use Rattle.cell_kinds.specs.Kinds.{packet_kinds}
 use Rattle.elan_names.specs.declared.interface.Interface.{Interface}
 use Rattle.elan_scope.specs.declared.env.Env.{Env}
 use Rattle.elan_types.specs.declared.core_phrase.Core.{Core}
-use Rattle.live_tasks.specs.Below.elan_check.specs.Packets.{nothing, after}
-use Rattle.live_tasks.specs.Below.elan_check.specs.Starts.{is_start, start_core}
-use Rattle.live_tasks.specs.Below.packet_store.specs.declared.library.Live.{Live as Packet}
-use Rattle.live_tasks.specs.Below.packet_store.specs.declared.unit.Compiled.{Compiled}
-use Rattle.live_tasks.specs.Below.packet_store.specs.Library.{Library, has_number, live_as, behind, env_behind, env_of, released, started_at}
+use Rattle.live_tasks.specs.Below.units.specs.Packets.{nothing, after}
+use Rattle.live_tasks.specs.Below.units.specs.Starts.{is_start, start_core, start_unit_of}
+use Rattle.live_tasks.specs.Below.units.specs.Library.{Live as Packet}
+use Rattle.live_tasks.specs.Below.units.specs.declared.unit.Compiled.{Compiled}
+use Rattle.live_tasks.specs.Below.units.specs.Library.{Library, has_number, live_as, behind, env_behind, env_of, released, started_at}
 use Rattle.live_tasks.specs.Below.packet_store.specs.Meaning.{Means, means}
-use Rattle.live_tasks.specs.Below.packet_store.specs.Units.{IsUnit, of_text, of_start, start_unit_of}
 use Rattle.live_tasks.specs.Below.source_machine.specs.Tasks.{Own}
 use Rattle.live_tasks.specs.Below.source_machine.specs.Ends.{has_packet, released_unless, without_packets}
 use Rattle.live_tasks.specs.Below.source_machine.specs.Monitor.{installed}
@@ -109,11 +108,6 @@ start_packets lib ns n u h = from_start (env_of lib ns) _ _ n (is_start (slice_g
 
 pub core_packets : (env : Env) (packet : Bool) (text : List ℕ) (core : Core) → Means env packet text core → core.packets ≡ env.packets
 core_packets env packet text core (means t h r m) = m.packets
-
--- a unit has the packets behind which it was compiled
-pub packets_are : (unit : Compiled) → IsUnit unit → unit.core.packets ≡ unit.packets.packets
-packets_are unit (of_text packet text h) = core_packets unit.packets packet text unit.core h.means
-packets_are unit (of_start packet number n h) = from_start unit.packets packet number n (is_start (slice_get unit.packets.bodies n)) unit h
 
 -- ---- a packet goes
 

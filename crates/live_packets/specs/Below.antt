@@ -5,4 +5,5 @@ pub use Rattle.live_tasks.specs.Below.task_texts as task_texts
 pub use Rattle.live_tasks.specs.Below.live_task as live_task
 pub use Rattle.live_tasks.specs.Below.source_machine as source_machine
 pub use Rattle.live_tasks.specs.Below.packet_store as packet_store
+pub use Rattle.live_tasks.specs.Below.units as units
 pub use Rattle.live_tasks.specs.Below.elan_check as elan_check

@@ -2,7 +2,7 @@
 ghost use Rattle.std.specs.Prelude.{◌≡◌, ◌+◌, ◌<◌, ◌≤◌, ◌^◌, List, true, is_some, length, IfOk, IfErr, IfSome, IfNone, OnOk};
 ghost use Rattle.std.specs.List.{list_any};
 ghost use Rattle.live_tasks.specs.Below.elan_check.specs.Packets.{AreCompiled};
-ghost use Rattle.live_tasks.specs.Below.packet_store.specs.Library as libraries;
+ghost use Rattle.live_tasks.specs.Below.units.specs.Library as libraries;
 ghost use Rattle.live_tasks.specs.Below.packet_store.specs.Meaning.{IsCause};
 ghost use Rattle.live_tasks.specs.Below.packet_store.specs.Units.{IsUnitOf};
 ghost use Rattle.live_tasks.specs.Below.source_machine.specs.Tasks.{Own};
@@ -28,7 +28,7 @@ pub struct Packets {
 impl Model for Packets {
     ghost use Rattle.std.specs.Coded.{codes};
     ghost use Rattle.live_tasks.specs.Below.packet_store.specs.contracts.library.Library as a_library;
-    ghost use Rattle.live_tasks.specs.Below.packet_store.specs.Library as libraries;
+    ghost use Rattle.live_tasks.specs.Below.units.specs.Library as libraries;
     ghost use Rattle.std.specs.Prelude.{◌≡◌};
 
     ghost Value = { libraries.Library };

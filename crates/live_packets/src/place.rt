@@ -1,7 +1,7 @@
 //! Where a task stands among all.
 ghost use Rattle.std.specs.Prelude.{◌≡◌, ◌<◌, ◌++◌, ◌∷◌, [], ℕ, List, length, Some, IfSome};
 ghost use Rattle.eu_base.specs.declared.value.Kind.{Kind};
-ghost use Rattle.live_tasks.specs.Below.packet_store.specs.Library.{Library};
+ghost use Rattle.live_tasks.specs.Below.units.specs.Library.{Library};
 ghost use Rattle.task_desk.specs.Desks.{system};
 ghost use Rattle.live_tasks.specs.Below.source_machine.specs.Tasks.{Own};
 ghost use Rattle.live_tasks.specs.Below.source_machine.specs.Systems.{place};

@@ -10,8 +10,8 @@ use Rattle.cell_kinds.specs.Kinds.{packet_kinds}
 use Rattle.task_numbers.specs.declared.number.TaskNo.{TaskNo}
 use Rattle.task_tree.specs.Tree as trees
 use Rattle.task_tree.specs.declared.task.Task.{Task}
-use Rattle.live_packets.specs.Below.packet_store.specs.declared.unit.Compiled.{Compiled}
-use Rattle.live_packets.specs.Below.packet_store.specs.Library.{Library, started_at}
+use Rattle.live_packets.specs.Below.units.specs.declared.unit.Compiled.{Compiled}
+use Rattle.live_packets.specs.Below.units.specs.Library.{Library, started_at}
 use Rattle.live_packets.specs.Below.task_desk.specs.Desks.{Desk, Makes, moment}
 use Rattle.live_packets.specs.Below.task_desk.specs.Desks as desks
 use Rattle.live_packets.specs.Below.source_machine.specs.Stores.{Store, heir}

@@ -12,7 +12,7 @@ use Rattle.task_tree.specs.Tree.{has_number, lives}
 use Rattle.task_tree.specs.Tree as trees
 use Rattle.task_tree.specs.Trees.{IsTree, IsYounger}
 use Rattle.terminals.specs.Channels.{channel_of}
-use Rattle.live_packets.specs.Below.packet_store.specs.Library.{Library, none_live}
+use Rattle.live_packets.specs.Below.units.specs.Library.{Library, none_live}
 use Rattle.live_packets.specs.Below.task_desk.specs.Desks.{Desk, Makes, moment, system}
 use Rattle.live_packets.specs.Below.task_desk.specs.Desks as desks
 use Rattle.live_packets.specs.Below.source_machine.specs.Tasks.{Own}

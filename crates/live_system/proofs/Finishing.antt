@@ -12,8 +12,8 @@ use Rattle.elan_names.specs.declared.interface.Interface.{Interface}
 use Rattle.eu_base.specs.Room.{cells_fit}
 use Rattle.elan_types.specs.Eval.{World}
 use Rattle.elan_types.specs.Typing.{all_packet_kinds}
-use Rattle.live_packets.specs.Below.packet_store.specs.declared.unit.Compiled.{Compiled}
-use Rattle.live_packets.specs.Below.packet_store.specs.Library.{Library}
+use Rattle.live_packets.specs.Below.units.specs.declared.unit.Compiled.{Compiled}
+use Rattle.live_packets.specs.Below.units.specs.Library.{Library}
 use Rattle.live_packets.specs.Below.task_desk.specs.Desks.{Desk, moment, system}
 use Rattle.live_packets.specs.Below.source_machine.specs.Stores.{Store, tidied}
 use Rattle.live_packets.specs.Below.source_machine.specs.Tasks.{Command, Idle, Own, now, store_in, own_variables, settled, with_doing}

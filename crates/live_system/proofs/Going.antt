@@ -7,7 +7,7 @@ use Rattle.eu_base.specs.declared.stop.Stop.{Stop}
 use Rattle.eu_base.specs.declared.stop.Stop.TheVariants.{Halted}
 use Rattle.elan_types.specs.Eval.{World}
 use Rattle.elan_types.specs.Command.{Ending, Ended, Stopped, OutOfMarks, Asks}
-use Rattle.live_packets.specs.Below.packet_store.specs.Library.{Library}
+use Rattle.live_packets.specs.Below.units.specs.Library.{Library}
 use Rattle.live_packets.specs.Below.task_desk.specs.Desks.{Desk}
 use Rattle.live_packets.specs.Below.source_machine.specs.Tasks.{Command, Doing, Idle, Entering, Running, Own, ending, world_of, spent, command_of, with_doing}
 use Rattle.live_packets.specs.Below.source_machine.specs.Systems.{Moment, command, with_own, changed, on_system}

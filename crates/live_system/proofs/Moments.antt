@@ -5,7 +5,7 @@ use Rattle.std.specs.Option.{option_map, option_and_then}
 use Rattle.std.proofs.lemmas.Option.{none-some, same_Some}
 use Rattle.eu_base.specs.declared.value.Kind.{Kind}
 use Rattle.task_numbers.specs.declared.number.TaskNo.{TaskNo}
-use Rattle.live_packets.specs.Below.packet_store.specs.Library.{Library}
+use Rattle.live_packets.specs.Below.units.specs.Library.{Library}
 use Rattle.task_tree.specs.Tree.{Tree}
 use Rattle.task_tree.specs.Trees.{IsTree}
 use Rattle.live_packets.specs.Below.task_desk.specs.Desks.{Desk, IsDesk, Makes, moment, system}

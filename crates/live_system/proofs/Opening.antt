@@ -1,6 +1,6 @@
 -- The system begins.
 use Rattle.std.proofs.Common.{◌≡◌, [], ◌∷◌, refl, sym, subst}
-use Rattle.live_packets.specs.Below.packet_store.specs.Library.{Library, none_live}
+use Rattle.live_packets.specs.Below.units.specs.Library.{Library, none_live}
 use Rattle.live_packets.specs.Below.task_desk.specs.Desks.{Desk}
 use Rattle.live_packets.specs.Below.task_desk.specs.Desks as desks
 use Rattle.live_packets.specs.Below.source_machine.specs.Systems.{new_own, opening, at_event}

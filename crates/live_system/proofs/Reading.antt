@@ -9,8 +9,8 @@ use Rattle.elan_scope.specs.declared.env.Env.{Env}
 use Rattle.live_packets.specs.Below.elan_check.specs.Packets.{AreCompiled}
 use Rattle.live_packets.specs.Below.packet_store.specs.declared.error.CompileError.{CompileError}
 use Rattle.live_packets.specs.Below.packet_store.specs.declared.error.CompileError.TheVariants.{NoMemory, Refused}
-use Rattle.live_packets.specs.Below.packet_store.specs.declared.unit.Compiled.{Compiled}
-use Rattle.live_packets.specs.Below.packet_store.specs.Library.{Library, env_of}
+use Rattle.live_packets.specs.Below.units.specs.declared.unit.Compiled.{Compiled}
+use Rattle.live_packets.specs.Below.units.specs.Library.{Library, env_of}
 use Rattle.live_packets.specs.Below.packet_store.specs.Meaning.{IsCause}
 use Rattle.live_packets.specs.Below.packet_store.specs.Units.{IsUnitOf}
 use Rattle.live_packets.specs.Below.task_desk.specs.Desks.{Desk, Makes}
@@ -18,7 +18,7 @@ use Rattle.live_packets.specs.Below.source_machine.specs.Stores.{Store}
 use Rattle.live_packets.specs.Below.source_machine.specs.Tasks.{Doing, Idle, Running, Own, starting, with_doing}
 use Rattle.live_packets.specs.Below.source_machine.specs.Systems.{Moment, doing, kept, kept_by, packets, packets_of, with_own, does, back, on_system}
 use Rattle.live_packets.specs.Below.source_machine.specs.Monitor.{Reading, Compiles, Refuses}
-use Rattle.live_packets.specs.Below.source_machine.specs.Readings.{ReadsSo, IsReading}
+use Rattle.live_packets.specs.Below.packet_store.specs.Readings.{ReadsSo, IsReading}
 use Rattle.live_packets.specs.Below.live_tasks.specs.Tasks.{Live, Stand}
 use Rattle.live_system.specs.Machines.{Machine, StandsAt}
 use Rattle.live_packets.specs.Packets.{kinds_in}

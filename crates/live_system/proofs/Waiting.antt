@@ -10,7 +10,7 @@ use Rattle.eu_base.specs.Requests.{Answer}
 use Rattle.eu_base.specs.DataSpaces.{the_space, next_number}
 use Rattle.message_wait.specs.Rendezvous.{is_waiting, waiting_for, released}
 use Rattle.task_tree.specs.Tree.{lives, has_number, task}
-use Rattle.live_packets.specs.Below.packet_store.specs.Library.{Library}
+use Rattle.live_packets.specs.Below.units.specs.Library.{Library}
 use Rattle.live_packets.specs.Below.task_desk.specs.Desks.{Desk, system}
 use Rattle.live_packets.specs.Below.source_machine.specs.Stores.{Store}
 use Rattle.live_packets.specs.Below.source_machine.specs.Tasks.{Own, now, request_of, replied, with_doing}

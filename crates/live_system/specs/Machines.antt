@@ -2,7 +2,7 @@
 use Rattle.std.specs.Prelude.{◌≡◌, ℕ, List, length, Some}
 use Rattle.task_numbers.specs.declared.number.TaskNo.{TaskNo}
 use Rattle.elan_types.specs.Eval.{World}
-use Rattle.live_packets.specs.Below.packet_store.specs.Library.{Library}
+use Rattle.live_packets.specs.Below.units.specs.Library.{Library}
 use Rattle.live_packets.specs.Below.task_desk.specs.Desks.{Desk, moment, system}
 use Rattle.live_packets.specs.Below.live_tasks.specs.Tasks.{Live, Stand, StandOver}
 use Rattle.live_packets.specs.Below.source_machine.specs.Tasks.{Command, Own}

@@ -5,7 +5,7 @@ use Rattle.eu_base.specs.declared.stop.Stop.{Stop}
 use Rattle.eu_base.specs.declared.stop.Stop.TheVariants.{Halted}
 use Rattle.elan_types.specs.Eval.{World}
 use Rattle.elan_types.specs.Command.{Ending, Ended, Stopped, OutOfMarks, Asks}
-use Rattle.live_packets.specs.Below.packet_store.specs.declared.unit.Compiled.{Compiled}
+use Rattle.live_packets.specs.Below.units.specs.declared.unit.Compiled.{Compiled}
 use Rattle.live_packets.specs.Below.source_machine.specs.Tasks.{Command, Running, ending, world_of, spent}
 use Rattle.live_packets.specs.Below.source_machine.specs.Systems.{Moment, does, on_system, woken}
 use Rattle.live_packets.specs.Below.source_machine.specs.Ends.{next, no_task}

@@ -1,7 +1,7 @@
 -- A text that is run or inserted, by its reading.
 use Rattle.std.specs.Prelude.{◌≡◌, ℕ, List, Option, Some, None}
 use Rattle.task_numbers.specs.declared.number.TaskNo.{TaskNo}
-use Rattle.live_packets.specs.Below.packet_store.specs.Refusals.{refusal_text}
+use Rattle.live_packets.specs.Below.units.specs.Refusals.{refusal_text}
 use Rattle.named_texts.specs.declared.look.Source.{Source}
 use Rattle.named_texts.specs.declared.look.Source.TheVariants as found
 use Rattle.source_texts.specs.Spaces.{Space}

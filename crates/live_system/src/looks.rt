@@ -10,7 +10,7 @@ ghost use Rattle.live_packets.specs.Below.source_machine.specs.Ends.{number_refu
 ghost use Rattle.live_packets.specs.Below.source_machine.specs.Stores.{entering_refusal, new_store};
 ghost use Rattle.live_packets.specs.Below.source_machine.specs.Tasks.{Own};
 ghost use Rattle.eu_base.specs.declared.value.Kind.{Kind};
-ghost use Rattle.live_packets.specs.Below.packet_store.specs.Library.{Library};
+ghost use Rattle.live_packets.specs.Below.units.specs.Library.{Library};
 ghost use Rattle.live_packets.specs.Below.task_desk.specs.Desks.{system};
 ghost use Rattle.live_packets.specs.Below.live_tasks.specs.Tasks.{Stand};
 ghost use Rattle.live_packets.specs.Below.source_machine.specs.Monitor.{directory_of};

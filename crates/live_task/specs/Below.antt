@@ -2,3 +2,4 @@
 pub use Rattle.task_job as task_job
 pub use Rattle.task_job.specs.Below.source_machine as source_machine
 pub use Rattle.task_job.specs.Below.packet_store as packet_store
+pub use Rattle.task_job.specs.Below.units as units

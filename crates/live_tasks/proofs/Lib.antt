@@ -6,7 +6,6 @@ pub mod Handing
 pub mod Opening
 pub mod Over
 pub mod Owning
-pub mod Programs
 pub mod Rooms
 pub mod Standing
 pub mod Zips

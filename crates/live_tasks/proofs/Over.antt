@@ -17,11 +17,10 @@ use Rattle.task_tidy.specs.Below.source_machine.specs.Monitor.{with_packet}
 use Rattle.task_tidy.specs.Below.live_task.specs.declared.task.Task.{Task}
 use Rattle.task_tidy.specs.Below.live_task.specs.Stands.{StandsFor, StandsOver}
 use Rattle.task_tidy.specs.Below.live_task.proofs.Installing.{program_over}
-use Rattle.task_tidy.specs.Below.packet_store.specs.declared.unit.Compiled.{Compiled}
-use Rattle.task_tidy.specs.Below.packet_store.specs.Units.{IsUnit}
+use Rattle.task_tidy.specs.Below.units.specs.declared.unit.Compiled.{Compiled}
+use Rattle.task_tidy.specs.Below.units.specs.Sound.{IsSoundUnit}
 use Rattle.live_tasks.specs.Tasks.{Live, IsFit, Stand, StandIn, StandBut, StandOver, AgreeBut, task_roots}
 use Rattle.live_tasks.proofs.Standing.{For, call_puts, with_own_is}
-use Rattle.live_tasks.proofs.Programs.{inserts_none}
 use Rattle.live_tasks.proofs.Zips.{found_other, set_same, zip_set, zip_change}
 
 pub overs : (kinds_of : List ℕ → List Kind) (pages : Pages) (tasks : List Task) (was : Live) (owns : List Own) (k : ℕ)
@@ -41,12 +40,12 @@ over_puts old new tasks k task at fit later frames kinds_of owns c w h own has f
 
 -- a program inserts nothing, and keeps all that it left
 pub finishes : (kinds_of : List ℕ → List Kind) (live : Live) (owns : List Own) (k : ℕ) (c : Command) (w : World) → StandOver kinds_of live owns k c w
-    → (own : Own) → slice_get owns k ≡ Some own → (unit : Compiled) → c.unit ≡ unit → IsUnit unit → unit.shown ≡ None
+    → (own : Own) → slice_get owns k ≡ Some own → (unit : Compiled) → c.unit ≡ unit → IsSoundUnit unit → unit.shown ≡ None
     → Stand kinds_of live (with_own k (with_doing (Idle (store_in w))) owns)
 finishes kinds_of live owns k c w h own has unit is whole none =
     let f : Own → Own = with_doing (Idle (store_in w)) in
     let task = found_other live.tasks owns k own h.but.as_many has in
-    let nothing : c.unit.core.inserted ≡ [] = ap (λ (u : Compiled). u.core.inserted) is ∙ inserts_none unit whole none in
+    let nothing : c.unit.core.inserted ≡ [] = ap (λ (u : Compiled). u.core.inserted) is ∙ whole.inserts none in
     let stands = program_over (kinds_of own.packets) live.pages task.0 own c w (h.over task.0 own task.1 has) nothing in
     subst (λ (ts : List Task). StandIn kinds_of live.pages ts (with_own k f owns)) (set_same live.tasks k task.0 task.1)
     (subst (λ (os : List Own). StandIn kinds_of live.pages (set live.tasks k task.0) os) (sym (with_own_is owns k f own has))

@@ -4,4 +4,5 @@ pub use Rattle.task_tidy.specs.Below.task_texts as task_texts
 pub use Rattle.task_tidy.specs.Below.live_task as live_task
 pub use Rattle.task_tidy.specs.Below.source_machine as source_machine
 pub use Rattle.task_tidy.specs.Below.packet_store as packet_store
+pub use Rattle.task_tidy.specs.Below.units as units
 pub use Rattle.task_tidy.specs.Below.elan_check as elan_check

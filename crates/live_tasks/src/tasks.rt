@@ -8,6 +8,7 @@ ghost use Rattle.cell_kinds.specs.Kinds.{packet_kinds};
 ghost use Rattle.code_gen.specs.Codes.{IsCodeOf};
 ghost use Rattle.elan_types.specs.Eval.{World};
 ghost use Rattle.task_tidy.specs.Below.packet_store.specs.Units.{IsUnit};
+ghost use Rattle.task_tidy.specs.Below.units.specs.Sound.{IsSoundUnit};
 ghost use Rattle.task_tidy.specs.Below.source_machine.specs.Stores.{Store, heir, tidied};
 ghost use Rattle.task_tidy.specs.Below.source_machine.specs.Tasks.{Command, Own, Idle as Idles, Running as Runs, now, starting, request_of, replied, own_variables, settled, store_in, with_doing};
 ghost use Rattle.task_tidy.specs.Below.source_machine.specs.Systems.{with_own, new_own};
@@ -154,7 +155,7 @@ impl Tasks {
 
     /// A program of a task is over: the task is idle, and keeps what the program left.
     pub fn finish(&self, k: usize, unit: &Compiled)
-        requires unit { IsUnit unit.now }
+        requires unit { IsSoundUnit unit.now }
         requires program { unit.now.shown ≡ None }
         ensures { (kinds_of : List ℕ → List Kind) (owns : List Own) (own : Own) (c : Command) (w : World) →
             StandOver kinds_of self.now owns k c w → slice_get owns k ≡ Some own → c.unit ≡ unit.now →

@@ -2,9 +2,9 @@
 use Rattle.std.proofs.Common.{◌≡◌, ◌≤◌, ◌<◌, ◌+◌, ℕ, suc, Bool, true, false, not, List, [], ◌∷◌, ◌++◌, length, Option, Some, None, if◌then◌else◌, refl, arith}
 use Rattle.std.specs.Prelude.{filter, is_some}
 use Rattle.std.proofs.lemmas.List.{length-append}
-use Rattle.packet_store.specs.declared.library.Live.{Live}
-use Rattle.packet_store.specs.declared.library.TheConstants.{PACKETS}
-use Rattle.packet_store.specs.Library.{Library, IsLive, AllLive, IsLibrary, has_number, released}
+use Rattle.units.specs.Library.{Live}
+use Rattle.units.specs.declared.library.TheConstants.{PACKETS}
+use Rattle.units.specs.Library.{Library, IsLive, AllLive, IsLibrary, has_number, released}
 
 pub some_of : {A : Type 0} (o : Option A) → is_some o ≡ true → (x : A) × (o ≡ Some x)
 some_of None e = absurd cc

@@ -5,3 +5,7 @@ pub mod ReadAs
 pub mod Growing
 pub mod Standing
 pub mod OneUnit
+pub mod Behind
+pub mod Found
+pub mod OneReading
+pub mod Sound

@@ -16,7 +16,7 @@ use Rattle.elan_check.specs.declared.error.CheckError.{CheckError}
 use Rattle.elan_check.specs.declared.error.CheckError.TheVariants as semantic
 use Rattle.elan_check.specs.Text as tree
 use Rattle.packet_store.specs.declared.error.CompileError.{CompileError}
-use Rattle.packet_store.specs.declared.error.Refusal.TheVariants.{NotElan}
+use Rattle.units.specs.declared.error.Refusal.TheVariants.{NotElan}
 use Rattle.packet_store.specs.Meaning.{HasTokens, no_token, too_many, no_tree, no_meaning, of_lexer, of_parser, of_check, IsCause, IsRefused}
 
 module _ (env : Env) (packet : Bool) (text : List ℕ) where

@@ -7,7 +7,7 @@ use Rattle.elan_names.specs.declared.interface.Interface.{Interface}
 use Rattle.elan_types.specs.declared.core_phrase.Core.{Core}
 use Rattle.elan_types.specs.declared.core_phrase.Body.{Body}
 use Rattle.elan_scope.specs.declared.env.Env.{Env}
-use Rattle.elan_check.specs.Packets.{after}
+use Rattle.units.specs.Packets.{after}
 use Rattle.packet_store.specs.Meaning.{Means, means}
 use Rattle.packet_store.specs.Units.{HasPacket, Grows, none, more, Keeps, BodiesKeepTheirNumbers}
 

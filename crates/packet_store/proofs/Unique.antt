@@ -9,8 +9,8 @@ use Rattle.elan_types.specs.declared.core_phrase.Core.{Core}
 use Rattle.elan_types.specs.declared.why.Why.{Why}
 use Rattle.elan_check.specs.Text as tree
 use Rattle.elan_scope.specs.Ruled.{Fault}
-use Rattle.packet_store.specs.declared.error.Refusal.{Refusal}
-use Rattle.packet_store.specs.declared.error.Refusal.TheVariants.{NoMeaning}
+use Rattle.units.specs.declared.error.Refusal.{Refusal}
+use Rattle.units.specs.declared.error.Refusal.TheVariants.{NoMeaning}
 use Rattle.packet_store.specs.Meaning.{HasTokens, Means, means, IsRefused, no_token, too_many, no_tree, no_meaning}
 
 same_fault : (p q : ℕ) (w v : Why) → ◌≡◌ {A = Fault} (p, w) (q, v) → NoMeaning p w ≡ NoMeaning q v

@@ -1,2 +1,3 @@
 -- The libraries below whose words a crate above reads here, so that its line in crates.txt stays short.
 pub use Rattle.elan_check as elan_check
+pub use Rattle.units as units

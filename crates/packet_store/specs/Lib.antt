@@ -1,5 +1,6 @@
 pub mod Meaning
 pub mod Units
-pub mod Library
+pub mod Readings
 pub mod Below
-pub mod Refusals
+pub use Rattle.units.specs.Library as Library
+pub use Rattle.units.specs.Refusals as Refusals

@@ -15,8 +15,8 @@ use Rattle.elan_types.specs.declared.why.Why.{Why}
 use Rattle.elan_check.specs.declared.error.CheckError.{CheckError}
 use Rattle.elan_check.specs.declared.error.CheckError.TheVariants as semantic
 use Rattle.elan_check.specs.Text as tree
-use Rattle.packet_store.specs.declared.error.Refusal.{Refusal}
-use Rattle.packet_store.specs.declared.error.Refusal.TheVariants.{NoToken, TooMany, NotElan, NoMeaning}
+use Rattle.units.specs.declared.error.Refusal.{Refusal}
+use Rattle.units.specs.declared.error.Refusal.TheVariants.{NoToken, TooMany, NotElan, NoMeaning}
 use Rattle.packet_store.specs.declared.error.CompileError.{CompileError}
 use Rattle.packet_store.specs.declared.error.CompileError.TheVariants.{NoMemory, Refused}
 

@@ -1,5 +1,5 @@
 -- What a text, or a start procedure, is compiled to.
-use Rattle.std.specs.Prelude.{◌≡◌, ℕ, ◌-◌, Bool, length, List, [], ◌∷◌, ◌++◌, Option, Some, None, is_some, option_map, slice_get}
+use Rattle.std.specs.Prelude.{◌≡◌, ℕ, ◌-◌, Bool, length, List, [], ◌∷◌, ◌++◌, Option, Some, None, is_some, slice_get}
 use Rattle.cell_kinds.specs.declared.packet.Packet.{Packet}
 use Rattle.elan_types.specs.Typing.{IsWellTyped}
 use Rattle.elan_names.specs.declared.interface.Interface.{Interface}
@@ -9,11 +9,11 @@ use Rattle.elan_scope.specs.declared.env.Env.{Env}
 use Rattle.elan_tree.specs.declared.token.Token.{Token}
 use Rattle.elan_tree.specs.declared.tree.Tree.{Tree}
 use Rattle.elan_tree.specs.declared.tree.Tree.TheVariants as tree
-use Rattle.elan_check.specs.Packets.{IsPacket, interface, after}
-use Rattle.elan_check.specs.Starts.{start_at, start_core}
-use Rattle.packet_store.specs.declared.unit.Source.{Source}
-use Rattle.packet_store.specs.declared.unit.Source.TheVariants.{Text, Start}
-use Rattle.packet_store.specs.declared.unit.Compiled.{Compiled}
+use Rattle.units.specs.Packets.{after}
+use Rattle.elan_check.specs.Packets.{AreCompiled, IsPacket, interface}
+pub use Rattle.units.specs.Starts.{start_unit_of, start_unit}
+use Rattle.units.specs.declared.unit.Source.TheVariants.{Text}
+use Rattle.units.specs.declared.unit.Compiled.{Compiled}
 use Rattle.elan_grammar.specs.Reads.{Reads}
 use Rattle.packet_store.specs.Meaning.{HasTokens, Means}
 
@@ -40,18 +40,10 @@ pub record IsUnitOf (env : Env) (packet : Bool) (text : List ℕ) (u : Compiled)
   pub is_shown : IsShown env packet text u.shown
   pub typed : IsWellTyped u.core
 
--- the unit of a start procedure behind these packets, which has this number among their bodies; none where it is no PROC that takes and
--- delivers nothing
-abbrev pub start_unit_of : Env → ℕ → ℕ → Core → Compiled
-start_unit_of env packet number core = record { source = Start packet number; packets = env; core = core; shown = None }
-
-abbrev pub start_unit : Env → ℕ → ℕ → ℕ → Option Compiled
-start_unit env packet number n = option_map (start_unit_of env packet number) (start_at env n)
-
--- Each unit is that of a text, or that of a start procedure.
+-- Each unit is that of a text, or that of a start procedure, behind packets each of which was compiled behind those before it.
 pub data IsUnit (u : Compiled) : Type 0 where
-  of_text : (packet : Bool) (text : List ℕ) → IsUnitOf u.packets packet text u → IsUnit u
-  of_start : (packet number n : ℕ) → start_unit u.packets packet number n ≡ Some u → IsUnit u
+  of_text : (packet : Bool) (text : List ℕ) → AreCompiled u.packets → IsUnitOf u.packets packet text u → IsUnit u
+  of_start : (packet number n : ℕ) → AreCompiled u.packets → start_unit u.packets packet number n ≡ Some u → IsUnit u
 
 -- A text behind a packet with this core has the packet's bodies as they were compiled, before its own, and the packet's variables under its
 -- number, behind those of the packets before it.

@@ -7,21 +7,8 @@ ghost use Rattle.packet_store.specs.declared.error.InstallError.TheVariants as i
 use elan_check::CheckError;
 use elan_lexer::LexError;
 use elan_parser::ParseError;
-use elan_types::Why;
 use eu_base::NoMemory;
-
-/// Why a text is refused. Places count bytes from 1.
-#[derive(Clone, Copy, PartialEq, Eq)]
-pub enum Refusal {
-    /// No token can be read at this place.
-    NoToken(u32),
-    /// It has too many tokens.
-    TooMany,
-    /// It is no text of ELAN from this place on.
-    NotElan(u32),
-    /// The place of the first phrase that breaks a rule, and the rule.
-    NoMeaning(u32, Why),
-}
+use units::Refusal;
 
 /// Why there is no unit.
 #[derive(Clone, Copy, PartialEq, Eq)]

@@ -6,12 +6,16 @@ ghost use Rattle.elan_types.specs.declared.core_phrase.Core.{Core};
 ghost use Rattle.code_form.specs.Program.{Program};
 ghost use Rattle.elan_scope.specs.declared.env.Env.{Env};
 ghost use Rattle.elan_names.specs.declared.interface.Interface.{Interface};
-ghost use Rattle.elan_check.specs.Packets.{AreCompiled, after};
-ghost use Rattle.packet_store.specs.declared.error.Refusal.{Refusal};
+ghost use Rattle.units.specs.Packets.{after};
+ghost use Rattle.elan_check.specs.Packets.{AreCompiled};
+ghost use Rattle.units.specs.declared.error.Refusal.{Refusal};
 ghost use Rattle.code_gen.specs.Codes.{IsCodeOf};
 ghost use Rattle.packet_store.specs.Meaning.{Means, IsRefused, HasOutcome};
-ghost use Rattle.packet_store.specs.declared.unit.Compiled.{Compiled};
-ghost use Rattle.packet_store.specs.Units.{BodiesKeepTheirNumbers, HasPacket, IsUnitOf};
+ghost use Rattle.units.specs.declared.unit.Compiled.{Compiled};
+ghost use Rattle.packet_store.specs.Readings.{ReadsSo, IsReading};
+ghost use Rattle.packet_store.specs.Units.{BodiesKeepTheirNumbers, HasPacket, IsUnit, IsUnitOf};
+ghost use Rattle.units.specs.Reading.{Reading};
+ghost use Rattle.units.specs.Sound.{IsSoundUnit};
 
 use code_gen::one_code;
 use elan_check::{each_text_has_one_answer, meant_is_not_refused, one_core, one_refusal};
@@ -64,4 +68,25 @@ pub fn packets_stand_as_compiled()
 /// So a start procedure that is named by its packet is the same PROC in each task that has further packets.
 pub fn bodies_keep_their_numbers()
     ensures { BodiesKeepTheirNumbers }
+{}
+
+/// There is a reading: a function that says of each text behind packets what unit it is, or why it is refused.
+pub fn a_reading_exists()
+    ensures { (read : Env → Bool → List ℕ → Reading) × IsReading read }
+{}
+
+/// Behind packets a text is one unit, or is refused for one reason, and never both; so readings agree there.
+pub fn one_reading()
+    ensures one { (env : Env) → AreCompiled env → (packet : Bool) → (text : List ℕ) → (a : Reading) → (b : Reading)
+        → ReadsSo env packet text a → ReadsSo env packet text b → a ≡ b }
+    ensures agree { (read : Env → Bool → List ℕ → Reading) → (other : Env → Bool → List ℕ → Reading) → IsReading read → IsReading other
+        → (env : Env) → AreCompiled env → (packet : Bool) → (text : List ℕ) → read env packet text ≡ other env packet text }
+{
+    one_meaning();
+    one_unit();
+}
+
+/// A unit is well typed, one that shows nothing inserts nothing, and its core has the packets behind which it stands.
+pub fn units_are_sound()
+    ensures { (u : Compiled) → IsUnit u → IsSoundUnit u }
 {}

@@ -1,17 +1,17 @@
-//! Packets by their numbers, what texts mean behind them, and what is said of a text that is refused.
+//! Packets by their numbers, and what texts mean behind them.
 #![tactic(auto)]
 
 mod compile;
 mod error;
 mod law;
 mod library;
-mod refusal;
 mod unit;
 
-pub use error::{CompileError, InstallError, Refusal};
+pub use error::{CompileError, InstallError};
 pub use law::{
-    bodies_keep_their_numbers, one_meaning, one_unit, packets_stand_as_compiled, text_has_one_code,
+    a_reading_exists, bodies_keep_their_numbers, one_meaning, one_reading, one_unit,
+    packets_stand_as_compiled, text_has_one_code, units_are_sound,
 };
-pub use library::{Library, Live, PACKETS};
-pub use refusal::refusal_text;
-pub use unit::{Compiled, Loaded, Source, Unit};
+pub use library::{Library, Live};
+pub use unit::{Loaded, Unit};
+pub use units::{Compiled, PACKETS, Refusal, Source, refusal_text};

@@ -3,36 +3,31 @@
 ghost use Rattle.std.specs.List.{list_any};
 ghost use Rattle.std.specs.Prelude.{◌≡◌, ◌==◌, ◌+◌, ◌<◌, ◌^◌, ◌↔◌, ◌++◌, ◌∷◌, [], true, Err, Some, length, option_map, is_some, IfErr, IfOk, OnErr, OnOk};
 ghost use Rattle.elan_names.specs.declared.interface.Interface as interfaces;
-ghost use Rattle.elan_check.specs.Packets.{after, AreCompiled};
+ghost use Rattle.units.specs.Packets.{after};
+ghost use Rattle.elan_check.specs.Packets.{AreCompiled};
 ghost use Rattle.packet_store.specs.declared.error.InstallError.TheVariants as install_errors;
 ghost use Rattle.packet_store.specs.Meaning.{IsCause};
 ghost use Rattle.packet_store.specs.Units.{IsUnitOf};
-ghost use Rattle.packet_store.specs.Library as spec;
+ghost use Rattle.units.specs.Library as spec;
 
 use crate::compile::{compile_behind, start_behind};
 use crate::error::{CompileError, InstallError};
 use crate::unit::{Loaded, Unit};
 use cell_kinds::Packet;
-use elan_check::Packets;
+use elan_check::{no_packets, packets_after};
+use elan_scope::env::Env;
 use eu_base::{NoMemory, Shared};
 use std::alloc::Global;
 use std::marker::Model;
 use std::mem;
-
-/// So many packets can live.
-pub const PACKETS: usize = 64;
-
-/// The last number that a packet can have.
-const LAST_NUMBER: u32 = u32::MAX;
+use units::{LAST_NUMBER, PACKETS};
 
 /// A live packet.
 #[derive(Drop)]
 pub struct Live {
-    /// Its number, from 1.
-    pub number: u32,
-    pub unit: Loaded,
-    /// The packets behind which it was compiled, and it under its number.
-    pub after: Shared<Packets>,
+    number: u32,
+    unit: Loaded,
+    after: Shared<Env>,
 }
 
 /// The live packets, and the last number that was given.
@@ -42,8 +37,25 @@ pub struct Library {
     last: u32,
 }
 
+impl Model for Live {
+    ghost use Rattle.units.specs.Library as spec;
+    ghost use Rattle.elan_check.specs.Packets.{AreCompiled};
+    ghost use Rattle.std.specs.Coded.{codes};
+    ghost use Rattle.elan_names.specs.contracts.interface.Interface as interfaces;
+    ghost use Rattle.elan_scope.specs.contracts.env.Env as envs;
+    ghost use Rattle.elan_types.specs.contracts.core_phrase.Core as cores;
+
+    ghost Value = { spec.Live };
+
+    ghost coded = { Prim.hlevel (codes, envs.the_row.coded, cores.the_row.coded, interfaces.the_row.coded) };
+
+    ghost view = { λ live. record { number = live.number; unit = live.unit; after = live.after } };
+
+    ghost invariant = { λ live. AreCompiled live.after };
+}
+
 impl Model for Library {
-    ghost use Rattle.packet_store.specs.Library as spec;
+    ghost use Rattle.units.specs.Library as spec;
     ghost use Rattle.std.specs.Coded.{codes};
     ghost use Rattle.elan_names.specs.contracts.interface.Interface as interfaces;
     ghost use Rattle.elan_scope.specs.contracts.env.Env as envs;
@@ -59,16 +71,17 @@ impl Model for Library {
 }
 
 // What stands behind a packet that gets this number.
-fn after_it(alloc: Global, unit: &Loaded, number: u32) -> Result<Shared<Packets>, NoMemory>
+fn after_it(alloc: Global, unit: &Loaded, number: u32) -> Result<Shared<Env>, NoMemory>
     requires { is_some unit.now.shown ≡ true }
-    ensures { (i : interfaces.Interface) → unit.now.shown ≡ Some i → IfOk result (λ made. made ≡ after unit.now.packets i unit.now.core number) }
+    ensures after { (i : interfaces.Interface) → unit.now.shown ≡ Some i → IfOk result (λ made. made ≡ after unit.now.packets i unit.now.core number) }
+    ensures compiled { IfOk result AreCompiled }
 {
     let compiled = unit.compiled();
     match &compiled.shown {
         None => unreachable!(),
         Some(interface) => {
             let packets = compiled.packets.get();
-            let after = packets.after(alloc, interface, &compiled.core, number)?;
+            let after = packets_after(alloc, packets, interface, &compiled.core, number)?;
             Shared::new(alloc, after)
         }
     }
@@ -115,6 +128,23 @@ fn add<T: Drop>(list: &mut Vec<T>, item: T) -> Result<(), NoMemory>
     }
 }
 
+impl Live {
+    /// Its unit, lent.
+    pub fn unit(&self) -> &Loaded
+        ensures { result.now ≡ self.now.unit }
+    {
+        &self.unit
+    }
+
+    // The packets behind which it was compiled, and it under its number: each was compiled behind those before it.
+    fn after(&self) -> &Shared<Env>
+        ensures after { result.now ≡ self.now.after }
+        ensures compiled { AreCompiled result.now }
+    {
+        &self.after
+    }
+}
+
 impl Library {
     /// No packets.
     pub fn new(alloc: Global) -> Library
@@ -139,7 +169,7 @@ impl Library {
     }
 
     // The packets of a task as texts see them, by their numbers in order.
-    fn packets_of(&self, alloc: Global, of: &[u32]) -> Result<Shared<Packets>, NoMemory>
+    fn packets_of(&self, alloc: Global, of: &[u32]) -> Result<Shared<Env>, NoMemory>
         ensures packets { IfOk result (λ packets. packets ≡ spec.env_of self.now of.now) }
         ensures compiled { AreCompiled (spec.env_of self.now of.now) }
     {
@@ -151,12 +181,8 @@ impl Library {
             }
         }
         match last {
-            None => Shared::new(alloc, Packets::new(alloc)),
-            Some(live) => {
-                // What packets share is compiled, whether they are shared once more or not.
-                live.after.get().env();
-                live.after.share()
-            }
+            None => Shared::new(alloc, no_packets(alloc)),
+            Some(live) => live.after().share(),
         }
     }
 
@@ -186,7 +212,7 @@ impl Library {
             return None;
         }
         let compiled = self.get(packet)?.unit.compiled();
-        let before = compiled.packets.get().env().bodies.len();
+        let before = compiled.packets.get().bodies.len();
         let body = before.saturating_add(number);
         if body < compiled.core.bodies.len() {
             Some(body)
@@ -225,7 +251,7 @@ impl Library {
         ensures { IfOk result (λ unit. unit ≡ spec.started_at self.now of.now body) }
     {
         let packets = self.packets_of(alloc, of)?;
-        let (packet, number) = Packet::of_body(packets.get().env().packets.as_slice(), body);
+        let (packet, number) = Packet::of_body(packets.get().packets.as_slice(), body);
         start_behind(alloc, packets, packet, number, body)
     }
 

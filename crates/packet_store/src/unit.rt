@@ -3,34 +3,12 @@
 ghost use Rattle.std.specs.Prelude.{◌≡◌};
 ghost use Rattle.code_gen.specs.Codes.{IsCodeOf};
 ghost use Rattle.packet_store.specs.Units as spec;
+ghost use Rattle.units.specs.Sound.{IsSoundUnit};
 
 use code_form::Code;
-use elan_check::Packets;
-use elan_names::interface::Interface;
-use elan_types::Core;
-use eu_base::{Bytes, Shared};
 use std::marker::Model;
 use std::mem;
-
-/// What is compiled.
-#[derive(Drop)]
-pub enum Source {
-    /// A text.
-    Text(Bytes),
-    /// A PROC of a packet, in which a task starts: the packet's number, and the number of the PROC among the packet's bodies, from 0.
-    Start { packet: u32, number: usize },
-}
-
-/// A text or a start procedure, and what it means.
-#[derive(Drop)]
-pub struct Compiled {
-    pub source: Source,
-    /// The packets behind which it stands.
-    pub packets: Shared<Packets>,
-    pub core: Core,
-    /// What later texts see of it, where it is a packet.
-    pub shown: Option<Shared<Interface>>,
-}
+use units::Compiled;
 
 /// What has a meaning, with a code of which nothing but validity is known.
 #[derive(Drop)]
@@ -47,7 +25,7 @@ pub struct Unit {
 }
 
 impl Model for Loaded {
-    ghost use Rattle.packet_store.specs.declared.unit.Compiled.{Compiled};
+    ghost use Rattle.units.specs.declared.unit.Compiled.{Compiled};
     ghost use Rattle.std.specs.Coded.{codes};
     ghost use Rattle.elan_names.specs.contracts.interface.Interface as interfaces;
     ghost use Rattle.elan_scope.specs.contracts.env.Env as envs;
@@ -65,7 +43,7 @@ impl Model for Loaded {
 
 impl Model for Unit {
     ghost use Rattle.code_gen.specs.Codes.{IsCodeOf};
-    ghost use Rattle.packet_store.specs.declared.unit.Compiled.{Compiled};
+    ghost use Rattle.units.specs.declared.unit.Compiled.{Compiled};
     ghost use Rattle.std.specs.Coded.{codes};
     ghost use Rattle.elan_names.specs.contracts.interface.Interface as interfaces;
     ghost use Rattle.elan_scope.specs.contracts.env.Env as envs;
@@ -108,6 +86,7 @@ impl Loaded {
     pub fn compiled(&self) -> &Compiled
         ensures compiled { result.now ≡ self.now }
         ensures unit { spec.IsUnit result.now }
+        ensures sound { IsSoundUnit result.now }
     {
         &self.compiled
     }

@@ -370,7 +370,7 @@ impl Task {
                     put_number(alloc, out, number);
                     put(out, b"\n");
                     if let Some(live) = self.library.get(number) {
-                        typed::run_over(alloc, out, live.unit.code(), "", self.rests, memory);
+                        typed::run_over(alloc, out, live.unit().code(), "", self.rests, memory);
                     }
                 }
                 Err(InstallError::Full) => put(out, b"Full\n"),

@@ -10,7 +10,7 @@ use Rattle.session_lines.specs.declared.ending.Ending.TheVariants as ended
 use Rattle.session_lines.specs.Sessions.{Session, with_events, session}
 use Rattle.session_lines.specs.Serving.{HaveEvents, BeginsWith}
 use Rattle.system.specs.Below.source_machine.specs.Monitor.{Reading}
-use Rattle.system.specs.Below.source_machine.specs.Readings.{IsReading}
+use Rattle.system.specs.Below.packet_store.specs.Readings.{IsReading}
 use Rattle.system.specs.Below.source_machine.specs.Systems.{System, opening}
 use Rattle.system.specs.Below.source_machine.specs.Events.{run, output}
 use Rattle.system.specs.Systems.{StandsFor}

@@ -9,7 +9,7 @@ use Rattle.session_lines.specs.declared.ending.Ending.{Ending}
 use Rattle.session_lines.specs.declared.ending.Ending.TheVariants.{ByShut, AtEnd, BadLine, Full}
 use Rattle.session_lines.specs.Sessions.{Session}
 use Rattle.system.specs.Below.source_machine.specs.Monitor.{Reading}
-use Rattle.system.specs.Below.source_machine.specs.Readings.{IsReading}
+use Rattle.system.specs.Below.packet_store.specs.Readings.{IsReading}
 use Rattle.system.specs.Below.source_machine.specs.Systems.{opening}
 use Rattle.system.specs.Below.source_machine.specs.Events.{output}
 use Rattle.session_play.specs.declared.fault.LineFault.{LineFault}

@@ -9,7 +9,7 @@ use Rattle.session_lines.specs.declared.ending.TheConstants.{MOST_LINES}
 use Rattle.session_lines.specs.Sessions.{shuts}
 use Rattle.session_lines.specs.Serving.{BeginsWith}
 use Rattle.system.specs.Below.source_machine.specs.Monitor.{Reading}
-use Rattle.system.specs.Below.source_machine.specs.Readings.{IsReading}
+use Rattle.system.specs.Below.packet_store.specs.Readings.{IsReading}
 use Rattle.system.specs.Below.source_machine.specs.Systems.{System}
 use Rattle.system.specs.Below.source_machine.specs.Events.{after, shown, run, output}
 use Rattle.system.specs.Systems.{StandsFor, IsShort}

@@ -13,7 +13,7 @@ use Rattle.task_tree.specs.declared.refusal.BeginError.TheVariants.{NameTaken, T
 use Rattle.task_tree.specs.Families.{family}
 use Rattle.slicer.specs.Rotation as rotation
 use Rattle.terminals.specs.Channels as channels
-use Rattle.packet_store.specs.Library.{Library, released}
+use Rattle.units.specs.Library.{Library, released}
 use Rattle.source_machine.specs.Tasks.{Doing, Own}
 use Rattle.source_machine.specs.Systems.{System, Moment, place, packets, woken, on_waits, on_system, uncouple_at}
 

@@ -5,7 +5,6 @@ pub mod Whole
 pub mod Ends
 pub mod Serving
 pub mod Monitor
-pub mod Readings
 pub mod Turns
 pub mod Supervisor
 pub mod Events

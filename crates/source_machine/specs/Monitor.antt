@@ -10,7 +10,7 @@ use Rattle.elan_lexer.specs.declared.error.LexError.{LexError}
 use Rattle.elan_lexer.specs.Tokens.{tokens_of, limited}
 use Rattle.elan_names.specs.declared.interface.Interface.{Interface}
 use Rattle.elan_scope.specs.declared.env.Env.{Env}
-use Rattle.packet_store.specs.Below.elan_check.specs.Packets.{after}
+use Rattle.units.specs.Packets.{after}
 use Rattle.elan_types.specs.Eval.{World}
 use Rattle.monitor.specs.Words.{words}
 use Rattle.monitor.specs.Forms.{form_of}
@@ -18,21 +18,16 @@ use Rattle.monitor.specs.declared.commands.Form.{Form}
 use Rattle.monitor.specs.declared.commands.Form.TheVariants.{Blank, Enter, Run, Insert, Names, Program}
 use Rattle.terminals.specs.Channels as channels
 use Rattle.terminals.specs.declared.channel.TheConstants.{QUEUED_LINES}
-use Rattle.packet_store.specs.declared.error.Refusal.{Refusal}
-use Rattle.packet_store.specs.declared.unit.Compiled.{Compiled}
-use Rattle.packet_store.specs.declared.library.TheConstants.{PACKETS}
-use Rattle.packet_store.specs.Library.{Library, env_of}
-use Rattle.packet_store.specs.Refusals.{refusal_text}
-use Rattle.source_texts.specs.Spaces.{Space}
-use Rattle.source_texts.specs.Sources.{most_lines, source_space, source_text}
+use Rattle.units.specs.declared.unit.Compiled.{Compiled}
+use Rattle.units.specs.declared.library.TheConstants.{PACKETS}
+use Rattle.units.specs.Library.{Library, env_of}
+use Rattle.units.specs.Refusals.{refusal_text}
+pub use Rattle.units.specs.Reading.{Reading, Compiles, Refuses}
+use Rattle.eu_base.specs.DataSpaces.{Space}
+use Rattle.units.specs.Sources.{most_lines, source_space, source_text}
 use Rattle.source_machine.specs.Stores.{Store, last_number, space_under, with_named, entering_refusal, tidied}
 use Rattle.source_machine.specs.Tasks.{Command, Doing, Idle, Entering, Running, Own, starting, store_in, settled, own_variables}
 use Rattle.source_machine.specs.Systems.{System, Moment, doing, runs, kept, packets, does, changed, sharing, on_system, on_channels, back, tell, prompt}
-
--- What a text is, behind the packets of a task and read as a packet or as a program: this unit, or it is refused so.
-pub data Reading : Type 0 where
-  Compiles : Compiled → Reading
-  Refuses : Refusal → Reading
 
 abbrev pub prompted : TaskNo → Moment → Moment
 prompted t m = tell t prompt m

@@ -22,8 +22,8 @@ use Rattle.message_wait.specs.Rendezvous as waits
 use Rattle.task_tree.specs.Tree as tree
 use Rattle.task_tree.specs.Families.{family}
 use Rattle.terminals.specs.Channels as channels
-use Rattle.packet_store.specs.declared.unit.Compiled.{Compiled}
-use Rattle.packet_store.specs.Library.{started_at}
+use Rattle.units.specs.declared.unit.Compiled.{Compiled}
+use Rattle.units.specs.Library.{started_at}
 use Rattle.source_machine.specs.Stores.{is_name, heir}
 use Rattle.source_machine.specs.Tasks.{Running, starting}
 use Rattle.source_machine.specs.Systems.{System, Moment, packets, requested, kept, given, woken, on_system, on_waits, on_channels, back, write, uncouple_at}

@@ -13,7 +13,7 @@ use Rattle.terminals.specs.Channels.{Channel}
 use Rattle.terminals.specs.Channels as channels
 use Rattle.session_text.specs.Display.{Display, blank}
 use Rattle.session_text.specs.Display as display
-use Rattle.packet_store.specs.Library.{Library, none_live}
+use Rattle.units.specs.Library.{Library, none_live}
 use Rattle.source_machine.specs.Stores.{Store, new_store}
 use Rattle.source_machine.specs.Tasks.{Command, Doing, Idle, Own, now, request_of, replied, is_running, command_of, with_doing}
 

@@ -4,7 +4,7 @@ use Rattle.eu_base.specs.declared.request.Request.{Request}
 use Rattle.eu_base.specs.Requests.{Answer}
 use Rattle.elan_types.specs.Eval.{World}
 use Rattle.elan_types.specs.Command.{Ending, Ended, Stopped, OutOfMarks, Asks, evaluate}
-use Rattle.packet_store.specs.declared.unit.Compiled.{Compiled}
+use Rattle.units.specs.declared.unit.Compiled.{Compiled}
 use Rattle.source_machine.specs.Stores.{Store}
 
 -- A command: the text or the start procedure, with the packets of the task and what it means; what the task kept when the command started;

@@ -13,8 +13,8 @@ use Rattle.task_tree.specs.Tree.{lives}
 use Rattle.task_tree.specs.Trees.{IsTree}
 use Rattle.slicer.specs.Rotation.{IsRotation}
 use Rattle.terminals.specs.Couplings.{IsOneToOne}
-use Rattle.packet_store.specs.declared.library.Live.{Live as Packet}
-use Rattle.packet_store.specs.Library.{Library}
+use Rattle.units.specs.Library.{Live as Packet}
+use Rattle.units.specs.Library.{Library}
 use Rattle.source_machine.specs.Tasks.{Own}
 use Rattle.source_machine.specs.Systems.{System, requested, kept}
 

@@ -3,4 +3,4 @@
 
 mod law;
 
-pub use law::{a_reading_exists, events_join, fixpoints_change_nothing, one_reading};
+pub use law::{events_join, fixpoints_change_nothing};

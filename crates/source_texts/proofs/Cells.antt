@@ -25,7 +25,7 @@ use Rattle.text_heap.specs.Texts.{Texts, Holds, Sets, KeepsCells}
 use Rattle.text_heap.proofs.Kept.{word_held, text_held}
 use Rattle.text_heap.proofs.Zeros.{zeros_hold}
 use Rattle.source_texts.specs.Spaces.{held, cells_of}
-use Rattle.source_texts.specs.Sources.{most_lines}
+use Rattle.units.specs.Sources.{most_lines}
 
 abbrev pub empty_text : Value
 empty_text = values.Text []

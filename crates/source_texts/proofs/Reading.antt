@@ -23,8 +23,8 @@ use Rattle.data_space.specs.Data.{SpaceData}
 use Rattle.text_heap.specs.Blocks.{text_in}
 use Rattle.text_heap.specs.Held.{text_of, HoldsCells}
 use Rattle.source_texts.specs.Spaces.{Space, HoldsSpace, AreOf, cells_of, held, shape_kinds}
-use Rattle.source_texts.specs.Sources.{most_lines, source_shape, source_space, source_text, joined, first_lines, text_by}
-use Rattle.source_texts.specs.Sources as sources
+use Rattle.units.specs.Sources.{most_lines, source_shape, source_space, source_text, joined, first_lines, text_by}
+use Rattle.units.specs.Sources as sources
 use Rattle.source_texts.specs.Lines.{lines_at, line_count, text_at, line_end}
 use Rattle.source_texts.proofs.Shapes.{source_is, source_self}
 use Rattle.source_texts.proofs.Cells.{row, empty_text}

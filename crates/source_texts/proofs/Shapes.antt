@@ -8,7 +8,7 @@ use Rattle.eu_base.specs.declared.shape.Shape.TheOpen.{Shape-F, Cell, Row, Struc
 use Rattle.eu_base.specs.declared.shape.Shape.TheViews.{out-Shape, roll-Shape, out-roll-Shape, roll-out-Shape}
 use Rattle.eu_base.specs.declared.shape.Shape.TheFolds.{fold-roll-Shape}
 use Rattle.eu_base.specs.Shapes.{cell_kinds, joined, is_cell, is_row, are_parts, is_struct, same_shape}
-use Rattle.source_texts.specs.Sources.{most_lines, source_shape}
+use Rattle.units.specs.Sources.{most_lines, source_shape}
 
 -- the layers of the three kinds of shape
 out_cell : (k : Kind) → out-Shape (shape.Cell k) ≡ Cell k

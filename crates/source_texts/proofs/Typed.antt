@@ -11,7 +11,7 @@ use Rattle.eu_base.specs.declared.value.Value.{Value}
 use Rattle.eu_base.specs.declared.value.Value.TheVariants as values
 use Rattle.eu_base.specs.Shapes.{cell_kinds}
 use Rattle.source_texts.specs.Spaces.{AreOf, none, one}
-use Rattle.source_texts.specs.Sources.{most_lines, source_shape}
+use Rattle.units.specs.Sources.{most_lines, source_shape}
 use Rattle.source_texts.proofs.Shapes.{kinds_source}
 use Rattle.source_texts.proofs.Cells.{filled, empty_text}
 

@@ -1,4 +1,4 @@
 pub mod Spaces
-pub mod Sources
+pub use Rattle.units.specs.Sources as Sources
 pub mod Lines
 pub mod View

@@ -4,7 +4,7 @@ use Rattle.eu_base.specs.Spaces.{Content}
 use Rattle.eu_base.specs.Values.{number_in}
 use Rattle.cell_layout.specs.Layout.{cell_in}
 use Rattle.text_heap.specs.Blocks.{text_in}
-use Rattle.source_texts.specs.Sources.{most_lines, joined}
+use Rattle.units.specs.Sources.{most_lines, joined}
 
 -- the texts of so many cells, from the second cell on
 abbrev pub lines_at : Content → ℕ → List (List ℕ)

@@ -1,6 +1,6 @@
 //! What was written is read again.
 ghost use Rattle.std.specs.Prelude.{◌≡◌, ◌≤◌, ℕ, List, length, Some};
-ghost use Rattle.source_texts.specs.Sources.{joined, source_space, source_text};
+ghost use Rattle.units.specs.Sources.{joined, source_space, source_text};
 
 /// Law: the text of a space that was written is that of its lines, with a line end between two.
 pub fn source_reads_back()

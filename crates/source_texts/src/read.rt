@@ -5,7 +5,7 @@ ghost use Rattle.page_pool.specs.Pool.{Backed};
 ghost use Rattle.page_table.specs.Entries.{Names};
 ghost use Rattle.page_table.specs.Frames.{over, Frames, Stands};
 ghost use Rattle.source_texts.specs.Spaces as spaces;
-ghost use Rattle.source_texts.specs.Sources.{joined, source_text};
+ghost use Rattle.units.specs.Sources.{joined, source_text};
 ghost use Rattle.source_texts.specs.Lines.{lines_at, line_count, line_end, text_at};
 
 use crate::shape::{MOST_LINES, is_source};

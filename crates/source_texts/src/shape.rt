@@ -1,7 +1,7 @@
 //! The shape of source texts.
 ghost use Rattle.std.specs.Prelude.{◌≡◌, IfOk};
 ghost use Rattle.eu_base.specs.Shapes.{same_shape};
-ghost use Rattle.source_texts.specs.Sources.{most_lines, source_shape};
+ghost use Rattle.units.specs.Sources.{most_lines, source_shape};
 
 use eu_base::{Boxed, Kind, List, NoMemory, Shape};
 use std::alloc::Global;

@@ -7,7 +7,7 @@ ghost use Rattle.page_pool.specs.Pool.{Known, Backed};
 ghost use Rattle.page_table.specs.Frames.{over, content_at, Frames, Stands};
 ghost use Rattle.text_heap.specs.Held.{HoldsCells};
 ghost use Rattle.source_texts.specs.Spaces.{HoldsSpace, cells_of};
-ghost use Rattle.source_texts.specs.Sources.{source_space};
+ghost use Rattle.units.specs.Sources.{source_space};
 
 use crate::shape::{LONGEST_LINE, MOST_LINES, SOURCE_KIND, new_shape};
 use cell_layout::put;

@@ -6,7 +6,7 @@ ghost use Rattle.monitor.specs.Words.{words};
 ghost use Rattle.terminals.specs.Channels as channels;
 ghost use Rattle.task_lines.specs.Below.source_machine.specs.Systems.{Moment};
 ghost use Rattle.task_lines.specs.Below.source_machine.specs.Monitor.{Reading, words_of};
-ghost use Rattle.task_lines.specs.Below.source_machine.specs.Readings.{IsReading};
+ghost use Rattle.task_lines.specs.Below.packet_store.specs.Readings.{IsReading};
 ghost use Rattle.task_lines.specs.Below.source_machine.specs.Supervisor as spec;
 ghost use Rattle.task_lines.specs.Below.live_system.specs.Machines.{StandsAt};
 ghost use Rattle.supervisor.specs.Lines.{command_in};

@@ -9,7 +9,7 @@ ghost use Rattle.task_lines.specs.Below.source_machine.specs.Tasks.{Command, Run
 ghost use Rattle.task_lines.specs.Below.source_machine.specs.Systems.{Moment, doing, on_ready, on_waits, on_system};
 ghost use Rattle.task_lines.specs.Below.source_machine.specs.Monitor.{Reading};
 ghost use Rattle.task_lines.specs.Below.source_machine.specs.Monitor as monitor;
-ghost use Rattle.task_lines.specs.Below.source_machine.specs.Readings.{IsReading};
+ghost use Rattle.task_lines.specs.Below.packet_store.specs.Readings.{IsReading};
 ghost use Rattle.task_lines.specs.Below.source_machine.specs.Supervisor as spec;
 ghost use Rattle.task_lines.specs.Below.live_system.specs.Machines.{StandsAt};
 

@@ -4,7 +4,7 @@ ghost use Rattle.elan_scope.specs.declared.env.Env.{Env};
 ghost use Rattle.turn_laws.specs.Waits.{HasTurn};
 ghost use Rattle.task_requests.specs.Below.source_machine.specs.Systems.{Moment, command};
 ghost use Rattle.task_requests.specs.Below.source_machine.specs.Monitor.{Reading};
-ghost use Rattle.task_requests.specs.Below.source_machine.specs.Readings.{IsReading};
+ghost use Rattle.task_requests.specs.Below.packet_store.specs.Readings.{IsReading};
 ghost use Rattle.task_requests.specs.Below.source_machine.specs.Turns as spec;
 ghost use Rattle.task_requests.specs.Below.live_system.specs.Machines.{StandsAt};
 ghost use Rattle.system.specs.Leading.{Leads, TurnGoes};

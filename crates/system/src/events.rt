@@ -4,7 +4,7 @@ ghost use Rattle.elan_scope.specs.declared.env.Env.{Env};
 ghost use Rattle.terminals.specs.Channels as channels;
 ghost use Rattle.task_requests.specs.Below.source_machine.specs.Systems as source;
 ghost use Rattle.task_requests.specs.Below.source_machine.specs.Monitor.{Reading};
-ghost use Rattle.task_requests.specs.Below.source_machine.specs.Readings.{IsReading};
+ghost use Rattle.task_requests.specs.Below.packet_store.specs.Readings.{IsReading};
 ghost use Rattle.task_requests.specs.Below.source_machine.specs.Supervisor.{called};
 ghost use Rattle.task_requests.specs.Below.source_machine.specs.Events as spec;
 ghost use Rattle.task_requests.specs.Below.live_system.specs.Machines.{StandsAt};

@@ -7,7 +7,7 @@ ghost use Rattle.terminals.specs.Channels as channels;
 ghost use Rattle.task_requests.specs.Below.source_machine.specs.Systems.{Moment, requested, runs, woken, on_system};
 ghost use Rattle.task_requests.specs.Below.source_machine.specs.Serving as serving;
 ghost use Rattle.task_requests.specs.Below.source_machine.specs.Monitor.{Reading};
-ghost use Rattle.task_requests.specs.Below.source_machine.specs.Readings.{IsReading};
+ghost use Rattle.task_requests.specs.Below.packet_store.specs.Readings.{IsReading};
 ghost use Rattle.task_requests.specs.Below.source_machine.specs.Events as spec;
 ghost use Rattle.task_requests.specs.Below.live_system.specs.Machines.{StandsAt};
 

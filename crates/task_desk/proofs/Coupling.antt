@@ -7,7 +7,7 @@ use Rattle.task_numbers.specs.declared.number.TaskNo.{TaskNo}
 use Rattle.task_numbers.specs.Numbers.{niltask, is_nil}
 use Rattle.task_tree.specs.Tree.{has_number, lives}
 use Rattle.terminals.specs.Channels.{Channel, channel, channel_of, coupled}
-use Rattle.source_machine.specs.Below.packet_store.specs.Library.{Library, none_live}
+use Rattle.source_machine.specs.Below.units.specs.Library.{Library, none_live}
 use Rattle.source_machine.specs.Tasks.{Own}
 use Rattle.source_machine.specs.Systems as machine
 use Rattle.source_machine.specs.Supervisor.{coupling_refusal}

@@ -3,7 +3,7 @@ use Rattle.std.proofs.Common.{◌≡◌, ℕ, Bool, true, false, List, [], ◌�
 use Rattle.task_numbers.specs.declared.number.TaskNo.{TaskNo}
 use Rattle.task_numbers.specs.Numbers.{is_nil}
 use Rattle.terminals.specs.Channels.{with_last}
-use Rattle.source_machine.specs.Below.packet_store.specs.Library.{Library}
+use Rattle.source_machine.specs.Below.units.specs.Library.{Library}
 use Rattle.source_machine.specs.Tasks.{Doing, Own}
 use Rattle.source_machine.specs.Systems.{Moment, say, uncouple, supervisor_prompt, on_system, on_channels}
 use Rattle.source_machine.specs.Systems as machine

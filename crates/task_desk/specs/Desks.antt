@@ -16,7 +16,7 @@ use Rattle.terminals.specs.Channels.{Channel}
 use Rattle.terminals.specs.Channels as terminal
 use Rattle.terminals.specs.Couplings.{IsOneToOne}
 use Rattle.session_text.specs.Display.{Display, blank}
-use Rattle.source_machine.specs.Below.packet_store.specs.Library.{Library}
+use Rattle.source_machine.specs.Below.units.specs.Library.{Library}
 use Rattle.source_machine.specs.Tasks.{Own}
 use Rattle.source_machine.specs.Systems.{System, Moment}
 use Rattle.source_machine.specs.Serving.{Served, Rests, replies_with}

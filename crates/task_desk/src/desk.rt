@@ -9,7 +9,7 @@ ghost use Rattle.slicer.specs.Rotation as rotation;
 ghost use Rattle.message_wait.specs.Rendezvous as rendezvous;
 ghost use Rattle.terminals.specs.Channels as terminal;
 ghost use Rattle.session_text.specs.Display as shows;
-ghost use Rattle.source_machine.specs.Below.packet_store.specs.Library.{Library};
+ghost use Rattle.source_machine.specs.Below.units.specs.Library.{Library};
 ghost use Rattle.source_machine.specs.Tasks.{Own};
 ghost use Rattle.source_machine.specs.Systems as machine;
 ghost use Rattle.source_machine.specs.Ends as ends;

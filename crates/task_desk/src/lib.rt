@@ -4,4 +4,3 @@
 mod desk;
 
 pub use desk::TaskDesk;
-pub use source_machine::one_reading;

@@ -10,7 +10,7 @@ use Rattle.space_memory.specs.Memories.{MemoryData, StandsWhole, memory_heads, h
 use Rattle.live_task.specs.Below.task_job.specs.Here.{MemoryFrames}
 use Rattle.space_memory.proofs.Framed.{roots_long}
 use Rattle.elan_types.specs.Eval.{World}
-use Rattle.live_task.specs.Below.packet_store.specs.declared.unit.Compiled.{Compiled}
+use Rattle.live_task.specs.Below.units.specs.declared.unit.Compiled.{Compiled}
 use Rattle.live_task.specs.Below.source_machine.specs.Stores.{Store}
 use Rattle.live_task.specs.Below.source_machine.specs.Tasks.{Command, Own, Idle, own_variables, settled, store_in, with_doing}
 use Rattle.live_task.specs.Below.task_job.specs.Standing.{Leaves, Keeps}

@@ -25,7 +25,7 @@ use Rattle.code_gen.specs.Codes.{IsCodeOf}
 use Rattle.code_gen.proofs.Coding.{code_behaves}
 use Rattle.elan_types.specs.Eval.{World}
 use Rattle.elan_types.specs.Command.{Ending, Ended, Stopped, OutOfMarks, Asks}
-use Rattle.source_machine.specs.Below.packet_store.specs.declared.unit.Compiled.{Compiled}
+use Rattle.source_machine.specs.Below.units.specs.declared.unit.Compiled.{Compiled}
 use Rattle.source_machine.specs.Stores.{Store}
 use Rattle.source_machine.specs.Tasks.{Command, ending, world_of, store_in, own_variables, spent, request_in, starting, with_reply}
 use Rattle.task_job.specs.Runs.{asked_by, IsStill, Reaches}

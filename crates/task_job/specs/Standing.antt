@@ -20,7 +20,7 @@ use Rattle.zero_state.specs.Stepping.{mem_of}
 use Rattle.place_gen.specs.Correct.{Image, HasVariables, HasSpaces}
 use Rattle.elan_types.specs.Eval.{Slot}
 use Rattle.elan_types.specs.Command.{Ending, Ended, Stopped, OutOfMarks, Asks}
-use Rattle.source_machine.specs.Below.packet_store.specs.Units.{IsUnit}
+use Rattle.packet_store.specs.Units.{IsUnit}
 use Rattle.source_machine.specs.Stores.{Store}
 use Rattle.source_machine.specs.Tasks.{Command, store_in, spent}
 use Rattle.task_job.specs.Runs.{IsStill, Reaches}

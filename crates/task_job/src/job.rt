@@ -7,7 +7,7 @@ ghost use Rattle.cell_kinds.specs.Kinds.{packet_kinds};
 ghost use Rattle.code_form.specs.declared.waits.Waits.TheVariants as waits;
 ghost use Rattle.code_form.specs.Runs.{asked};
 ghost use Rattle.code_gen.specs.Codes.{IsCodeOf};
-ghost use Rattle.source_machine.specs.Below.packet_store.specs.Units.{IsUnit};
+ghost use Rattle.packet_store.specs.Units.{IsUnit};
 ghost use Rattle.page_pool.specs.Pool.{Pages};
 ghost use Rattle.space_memory.specs.Memories.{MemoryData, roots, StandsWhole};
 ghost use Rattle.task_job.specs.Here.{MemoryFrames};

@@ -5,7 +5,7 @@ use Rattle.eu_base.specs.declared.stop.Stop.{Stop}
 use Rattle.elan_names.specs.declared.interface.Interface.{Interface}
 use Rattle.elan_scope.specs.declared.env.Env.{Env}
 use Rattle.elan_types.specs.Eval.{World}
-use Rattle.live_system.specs.Below.packet_store.specs.Library.{Library}
+use Rattle.live_system.specs.Below.units.specs.Library.{Library}
 use Rattle.live_system.specs.Below.source_machine.specs.Tasks.{Command, Idle, Own, store_in, with_doing}
 use Rattle.live_system.specs.Below.source_machine.specs.Systems.{System, Moment, place, changed_at, does, on_system}
 use Rattle.live_system.specs.Below.source_machine.specs.Monitor.{Reading, is_full, tidy, rested_with, insertion_over, over_as, over}

@@ -5,7 +5,7 @@ use Rattle.task_numbers.specs.declared.number.TaskNo.{TaskNo}
 use Rattle.eu_base.specs.declared.stop.Stop.TheVariants.{NoName}
 use Rattle.eu_base.specs.Stops.{stop_text}
 use Rattle.elan_scope.specs.declared.env.Env.{Env}
-use Rattle.live_system.specs.Below.packet_store.specs.Refusals.{refusal_text}
+use Rattle.live_system.specs.Below.units.specs.Refusals.{refusal_text}
 use Rattle.source_texts.specs.Spaces.{Space}
 use Rattle.source_texts.specs.Sources.{source_text}
 use Rattle.live_system.specs.Below.source_machine.specs.Systems.{Moment}

@@ -5,7 +5,7 @@ ghost use Rattle.elan_types.specs.Eval.{World};
 ghost use Rattle.live_system.specs.Below.source_machine.specs.Tasks.{Command};
 ghost use Rattle.live_system.specs.Below.source_machine.specs.Systems.{Moment, tell};
 ghost use Rattle.live_system.specs.Below.source_machine.specs.Monitor as spec;
-ghost use Rattle.live_system.specs.Below.source_machine.specs.Readings.{IsReading};
+ghost use Rattle.live_system.specs.Below.packet_store.specs.Readings.{IsReading};
 ghost use Rattle.live_system.specs.Finishing.{HasRoom};
 ghost use Rattle.live_system.specs.Machines.{StandsAt, StandsOverAt};
 

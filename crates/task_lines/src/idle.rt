@@ -6,7 +6,7 @@ ghost use Rattle.live_system.specs.Below.source_machine.specs.Stores.{Store, ent
 ghost use Rattle.live_system.specs.Below.source_machine.specs.Tasks.{Idle};
 ghost use Rattle.live_system.specs.Below.source_machine.specs.Systems.{Moment, doing, kept};
 ghost use Rattle.live_system.specs.Below.source_machine.specs.Monitor as spec;
-ghost use Rattle.live_system.specs.Below.source_machine.specs.Readings.{IsReading};
+ghost use Rattle.live_system.specs.Below.packet_store.specs.Readings.{IsReading};
 ghost use Rattle.live_system.specs.Machines.{StandsAt};
 
 use crate::answers::answer_stop;

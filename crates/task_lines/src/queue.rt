@@ -4,7 +4,7 @@ ghost use Rattle.elan_scope.specs.declared.env.Env.{Env};
 ghost use Rattle.terminals.specs.Channels as channels;
 ghost use Rattle.live_system.specs.Below.source_machine.specs.Systems.{Moment};
 ghost use Rattle.live_system.specs.Below.source_machine.specs.Monitor as spec;
-ghost use Rattle.live_system.specs.Below.source_machine.specs.Readings.{IsReading};
+ghost use Rattle.live_system.specs.Below.packet_store.specs.Readings.{IsReading};
 ghost use Rattle.live_system.specs.Machines.{StandsAt};
 ghost use Rattle.task_lines.specs.Queues.{one_taken, Follows};
 

@@ -5,7 +5,7 @@ ghost use Rattle.live_system.specs.Below.source_machine.specs.Stores.{Store};
 ghost use Rattle.live_system.specs.Below.source_machine.specs.Tasks.{Idle};
 ghost use Rattle.live_system.specs.Below.source_machine.specs.Systems.{Moment, doing};
 ghost use Rattle.live_system.specs.Below.source_machine.specs.Monitor as spec;
-ghost use Rattle.live_system.specs.Below.source_machine.specs.Readings.{IsReading};
+ghost use Rattle.live_system.specs.Below.packet_store.specs.Readings.{IsReading};
 ghost use Rattle.live_system.specs.Machines.{StandsAt};
 
 use crate::answers::{answer, answer_stop};

@@ -7,7 +7,7 @@ use Rattle.eu_base.specs.Requests.{plain}
 use Rattle.task_numbers.specs.declared.number.TaskNo.{TaskNo}
 use Rattle.task_tree.specs.declared.refusal.BeginError.{BeginError}
 use Rattle.task_tree.specs.Tree as tree
-use Rattle.live_system.specs.Below.packet_store.specs.declared.unit.Compiled.{Compiled}
+use Rattle.live_system.specs.Below.units.specs.declared.unit.Compiled.{Compiled}
 use Rattle.live_system.specs.Below.source_machine.specs.Stores.{is_name}
 use Rattle.live_system.specs.Below.source_machine.specs.Systems.{System, Moment}
 use Rattle.live_system.specs.Below.source_machine.specs.Ends.{number_refusal}

@@ -3,4 +3,5 @@ pub use Rattle.live_task as live_task
 pub use Rattle.live_task.specs.Below.task_job as task_job
 pub use Rattle.live_task.specs.Below.source_machine as source_machine
 pub use Rattle.live_task.specs.Below.packet_store as packet_store
-pub use Rattle.live_task.specs.Below.source_machine.specs.Below.elan_check as elan_check
+pub use Rattle.live_task.specs.Below.units as units
+pub use Rattle.live_task.specs.Below.packet_store.specs.Below.elan_check as elan_check

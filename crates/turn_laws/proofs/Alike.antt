@@ -13,9 +13,9 @@ use Rattle.message_wait.specs.Rendezvous.{Waits}
 use Rattle.task_tree.specs.Ends.{CanEnd, EndInTurn}
 use Rattle.terminals.specs.Channels.{Channel, channel, channel_of, uncoupled, unqueued}
 use Rattle.session_text.specs.Display.{Display}
-use Rattle.source_machine.specs.Below.elan_check.specs.Packets.{after}
-use Rattle.source_machine.specs.Below.packet_store.specs.declared.unit.Compiled.{Compiled}
-use Rattle.source_machine.specs.Below.packet_store.specs.Library.{Library, env_of}
+use Rattle.source_machine.specs.Below.units.specs.Packets.{after}
+use Rattle.source_machine.specs.Below.units.specs.declared.unit.Compiled.{Compiled}
+use Rattle.source_machine.specs.Below.units.specs.Library.{Library, env_of}
 use Rattle.source_machine.specs.Tasks.{Own}
 use Rattle.source_machine.specs.Systems.{System, Moment, own, changed, back, sharing, on_channels, on_system, write, say, uncouple, uncouple_at, supervisor_prompt}
 use Rattle.source_machine.specs.Ends.{removed, freed_by, ended}

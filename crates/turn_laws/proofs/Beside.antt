@@ -25,7 +25,7 @@ use Rattle.task_tree.specs.Tree.{Tree, with_number}
 use Rattle.task_tree.specs.Trees.{IsTree}
 use Rattle.terminals.specs.Channels as channels
 use Rattle.session_text.specs.Display.{close_all}
-use Rattle.source_machine.specs.Below.packet_store.specs.declared.unit.Compiled.{Compiled}
+use Rattle.source_machine.specs.Below.units.specs.declared.unit.Compiled.{Compiled}
 use Rattle.source_machine.specs.Tasks.{Command, Doing, Idle, Entering, Running, Own, starting, ending, spent, request_in, request_of, command_of, with_doing, replied}
 use Rattle.source_machine.specs.Systems.{Shared, System, Moment, own, doing, requested, kept, command, does, given, sharing, back, on_ready, on_channels, on_system, on_display, say}
 use Rattle.source_machine.specs.Serving.{Served, Replies, Rests, named_or, serve, number}

@@ -7,10 +7,10 @@ use Rattle.std.proofs.lemmas.Bool.{or_parts}
 use Rattle.std.proofs.lemmas.Bool.Decides.{nat_tests}
 use Rattle.elan_names.specs.declared.interface.Interface.{Interface}
 use Rattle.elan_scope.specs.declared.env.Env.{Env}
-use Rattle.source_machine.specs.Below.elan_check.specs.Packets.{nothing, after}
-use Rattle.source_machine.specs.Below.packet_store.specs.declared.library.Live.{Live}
-use Rattle.source_machine.specs.Below.packet_store.specs.declared.unit.Compiled.{Compiled}
-use Rattle.source_machine.specs.Below.packet_store.specs.Library.{Library, has_number, live_as, behind, env_behind, env_of, released}
+use Rattle.source_machine.specs.Below.units.specs.Packets.{nothing, after}
+use Rattle.source_machine.specs.Below.units.specs.Library.{Live}
+use Rattle.source_machine.specs.Below.units.specs.declared.unit.Compiled.{Compiled}
+use Rattle.source_machine.specs.Below.units.specs.Library.{Library, has_number, live_as, behind, env_behind, env_of, released}
 use Rattle.source_machine.specs.Tasks.{Own}
 use Rattle.source_machine.specs.Ends.{has_packet, released_unless, without_packets}
 use Rattle.source_machine.specs.Monitor.{installed}

@@ -18,7 +18,7 @@ use Rattle.session_text.specs.declared.events.Event.TheVariants.{Line, Superviso
 use Rattle.session_text.specs.Display.{close_all}
 use Rattle.slicer.specs.Rotation as rotation
 use Rattle.task_tree.specs.Tree as tree
-use Rattle.source_machine.specs.Below.packet_store.specs.declared.unit.Compiled.{Compiled}
+use Rattle.source_machine.specs.Below.units.specs.declared.unit.Compiled.{Compiled}
 use Rattle.source_machine.specs.Stores.{Store, heir}
 use Rattle.source_machine.specs.Tasks.{Command, Doing, Idle, Entering, Running, Own, starting, ending, spent, with_doing, replied, is_running}
 use Rattle.source_machine.specs.Systems.{Shared, System, Moment, doing, command, kept, does, given, woken, requested, sharing, on_ready, on_waits, on_system, on_display, back}

@@ -35,7 +35,7 @@ use Rattle.task_tree.proofs.Ending.{family_ends}
 use Rattle.terminals.specs.Channels.{Channel, unused}
 use Rattle.terminals.specs.Channels as channels
 use Rattle.terminals.specs.Couplings.{task_at, IsOneToOne}
-use Rattle.source_machine.specs.Below.packet_store.specs.declared.unit.Compiled.{Compiled}
+use Rattle.source_machine.specs.Below.units.specs.declared.unit.Compiled.{Compiled}
 use Rattle.source_machine.specs.Stores.{is_name, heir}
 use Rattle.source_machine.specs.Tasks.{Doing, Running, Own, starting, command_of, with_doing, replied}
 use Rattle.source_machine.specs.Systems.{System, Moment, doing, requested, packets, kept, given, woken, back, can_be_ready, on_ready, on_waits, on_channels, uncouple_at}

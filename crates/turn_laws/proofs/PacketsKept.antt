@@ -33,19 +33,19 @@ use Rattle.task_tree.specs.Tree.{Tree, has_number}
 use Rattle.task_tree.specs.Families.{family}
 use Rattle.task_tree.specs.Ends.{EndInTurn}
 use Rattle.terminals.specs.Channels as channels
-use Rattle.source_machine.specs.Below.elan_check.specs.Packets.{nothing}
-use Rattle.source_machine.specs.Below.elan_check.specs.Packets as compiled
-use Rattle.source_machine.specs.Below.packet_store.specs.declared.library.Live.{Live}
-use Rattle.source_machine.specs.Below.packet_store.specs.declared.library.TheConstants.{PACKETS}
-use Rattle.source_machine.specs.Below.packet_store.specs.declared.unit.Compiled.{Compiled}
-use Rattle.source_machine.specs.Below.packet_store.specs.Library.{Library, env_of, started_at}
+use Rattle.source_machine.specs.Below.units.specs.Packets.{nothing}
+use Rattle.packet_store.specs.Below.elan_check.specs.Packets as compiled
+use Rattle.source_machine.specs.Below.units.specs.Library.{Live}
+use Rattle.source_machine.specs.Below.units.specs.declared.library.TheConstants.{PACKETS}
+use Rattle.source_machine.specs.Below.units.specs.declared.unit.Compiled.{Compiled}
+use Rattle.source_machine.specs.Below.units.specs.Library.{Library, env_of, started_at}
 use Rattle.source_machine.specs.Stores.{Store, last_number, heir}
 use Rattle.source_machine.specs.Tasks.{Command, Doing, Idle, Entering, Running, Own, starting, spent, request_of, command_of, with_reply_to, with_doing, replied}
 use Rattle.source_machine.specs.Systems.{Shared, System, Moment, own, doing, command, kept, packets, packets_of, with_own, changed, does, given, woken, sharing, on_ready, on_waits, on_channels, on_system, on_display, back, can_be_ready, uncouple_at, at_event}
 use Rattle.source_machine.specs.Ends.{next, begun, has_packet, without_packets, no_task, removed, freed_by, ended, ended_with_descendants}
 use Rattle.source_machine.specs.Serving.{Served, Replies, Rests, put, line_taken, input, begin_with, begin_refusal, may_end, end_allowed, end_living, named_or, number, content, message, sent, caller, send_to, send_living, call_living, space_refusal, call_refusal, unless_stopped, call_taken, serve}
 use Rattle.source_machine.specs.Monitor.{Reading, installed, with_packet, inserted, is_full}
-use Rattle.source_machine.specs.Readings.{IsReading}
+use Rattle.packet_store.specs.Readings.{IsReading}
 use Rattle.source_machine.specs.Turns.{turn, turn_of, turns, turn_marks, most_evaluations}
 use Rattle.source_machine.specs.Events.{after}
 use Rattle.source_machine.specs.Whole.{IsSystem, AreNumbered}

@@ -34,9 +34,9 @@ use Rattle.task_tree.specs.Tree as tree
 use Rattle.task_tree.specs.Tree.{has_number}
 use Rattle.task_tree.specs.Families.{family}
 use Rattle.terminals.specs.Channels as channels
-use Rattle.source_machine.specs.Below.packet_store.specs.declared.unit.Compiled.{Compiled}
-use Rattle.source_machine.specs.Below.packet_store.specs.Library.{started_at}
-use Rattle.source_texts.specs.Sources.{most_lines}
+use Rattle.source_machine.specs.Below.units.specs.declared.unit.Compiled.{Compiled}
+use Rattle.source_machine.specs.Below.units.specs.Library.{started_at}
+use Rattle.source_machine.specs.Below.units.specs.Sources.{most_lines}
 use Rattle.source_machine.specs.Stores.{Store, is_name, heir, last_number}
 use Rattle.source_machine.specs.Tasks.{Doing, Idle, Entering, Running, Own, starting, spent}
 use Rattle.source_machine.specs.Systems.{System, Moment, own, doing, kept, packets, does, sharing, on_ready, on_waits, on_system, on_display, uncouple_at, at_event}

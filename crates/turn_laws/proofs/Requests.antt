@@ -25,8 +25,8 @@ use Rattle.task_tree.specs.Tree as tree
 use Rattle.task_tree.specs.Tree.{Tree}
 use Rattle.task_tree.specs.Trees.{IsTree}
 use Rattle.terminals.specs.Channels as channels
-use Rattle.source_machine.specs.Below.packet_store.specs.declared.unit.Compiled.{Compiled}
-use Rattle.source_machine.specs.Below.packet_store.specs.Library.{started_at}
+use Rattle.source_machine.specs.Below.units.specs.declared.unit.Compiled.{Compiled}
+use Rattle.source_machine.specs.Below.units.specs.Library.{started_at}
 use Rattle.source_machine.specs.Tasks.{Command, Own, with_doing, replied}
 use Rattle.source_machine.specs.Systems.{System, Moment, requested, kept, kept_by, command, packets, given, woken, on_waits}
 use Rattle.source_machine.specs.Ends.{ended_with_descendants}

@@ -26,8 +26,8 @@ use Rattle.slicer.specs.Rotation as rotation
 use Rattle.task_tree.specs.Tree as tree
 use Rattle.task_tree.specs.Tree.{has_number}
 use Rattle.terminals.specs.Channels as channels
-use Rattle.source_machine.specs.Below.packet_store.specs.declared.unit.Compiled.{Compiled}
-use Rattle.source_machine.specs.Below.packet_store.specs.Library.{started_at}
+use Rattle.source_machine.specs.Below.units.specs.declared.unit.Compiled.{Compiled}
+use Rattle.source_machine.specs.Below.units.specs.Library.{started_at}
 use Rattle.source_machine.specs.Stores.{Store, heir}
 use Rattle.source_machine.specs.Tasks.{Command, Doing, Running, Own, starting, ending, with_doing, with_reply, replied}
 use Rattle.source_machine.specs.Systems.{Shared, System, Moment, doing, requested, kept, packets, given, woken, uncouple_at}

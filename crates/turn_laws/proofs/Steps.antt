@@ -29,8 +29,8 @@ use Rattle.terminals.specs.Channels.{Channel}
 use Rattle.terminals.specs.Channels as channels
 use Rattle.terminals.specs.Couplings.{IsOneToOne}
 use Rattle.terminals.proofs.Coupling.{coupled_one_to_one}
-use Rattle.source_machine.specs.Below.packet_store.specs.declared.unit.Compiled.{Compiled}
-use Rattle.source_machine.specs.Below.packet_store.specs.Library.{Library, env_of}
+use Rattle.source_machine.specs.Below.units.specs.declared.unit.Compiled.{Compiled}
+use Rattle.source_machine.specs.Below.units.specs.Library.{Library, env_of}
 use Rattle.eu_base.specs.Requests.{Answer}
 use Rattle.source_machine.specs.Tasks.{Doing, Own, with_doing, replied}
 use Rattle.source_machine.specs.Systems.{System, own, packets, packets_of, changed, does, given, woken, sharing, on_ready, on_waits, on_channels, back, can_be_ready}

@@ -13,10 +13,10 @@ use Rattle.monitor.specs.declared.commands.Form.{Form}
 use Rattle.monitor.specs.declared.commands.Form.TheVariants as forms
 use Rattle.terminals.specs.Channels as channels
 use Rattle.terminals.specs.declared.channel.TheConstants.{QUEUED_LINES}
-use Rattle.source_machine.specs.Below.packet_store.specs.declared.unit.Compiled.{Compiled}
-use Rattle.source_machine.specs.Below.packet_store.specs.Library.{env_of}
-use Rattle.source_texts.specs.Spaces.{Space}
-use Rattle.source_texts.specs.Sources.{source_space, source_text, most_lines}
+use Rattle.source_machine.specs.Below.units.specs.declared.unit.Compiled.{Compiled}
+use Rattle.source_machine.specs.Below.units.specs.Library.{env_of}
+use Rattle.eu_base.specs.DataSpaces.{Space}
+use Rattle.source_machine.specs.Below.units.specs.Sources.{source_space, source_text, most_lines}
 use Rattle.source_machine.specs.Stores.{Store, space_under, with_named, entering_refusal, tidied}
 use Rattle.source_machine.specs.Tasks.{Command, Doing, Idle, Entering, Running, Own, settled, own_variables, is_running}
 use Rattle.source_machine.specs.Systems.{System, Moment, own, doing, runs, kept, packets, does, sharing, on_channels, on_system, say_at, tell, prompt}

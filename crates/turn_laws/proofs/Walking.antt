@@ -19,11 +19,11 @@ use Rattle.monitor.specs.declared.commands.Form.{Form}
 use Rattle.monitor.specs.declared.commands.Form.TheVariants as forms
 use Rattle.terminals.specs.Channels as channels
 use Rattle.terminals.specs.declared.channel.TheConstants.{QUEUED_LINES}
-use Rattle.source_machine.specs.Below.elan_check.specs.Packets.{nothing}
-use Rattle.source_machine.specs.Below.packet_store.specs.declared.unit.Compiled.{Compiled}
-use Rattle.source_machine.specs.Below.packet_store.specs.Library.{Library, env_of}
-use Rattle.source_texts.specs.Spaces.{Space}
-use Rattle.source_texts.specs.Sources.{source_space, source_text, most_lines}
+use Rattle.source_machine.specs.Below.units.specs.Packets.{nothing}
+use Rattle.source_machine.specs.Below.units.specs.declared.unit.Compiled.{Compiled}
+use Rattle.source_machine.specs.Below.units.specs.Library.{Library, env_of}
+use Rattle.eu_base.specs.DataSpaces.{Space}
+use Rattle.source_machine.specs.Below.units.specs.Sources.{source_space, source_text, most_lines}
 use Rattle.source_machine.specs.Stores.{Store, space_under, with_named, entering_refusal, tidied}
 use Rattle.source_machine.specs.Tasks.{Command, Doing, Idle, Entering, Running, Own, starting, store_in, settled, own_variables, ending, spent, with_doing, is_running, command_of}
 use Rattle.source_machine.specs.Systems.{System, Moment, own, doing, runs, command, kept, kept_by, packets, packets_of, does, given, on_channels, on_system, back, say, say_at, tell, prompt}

@@ -4,7 +4,7 @@ use Rattle.elan_scope.specs.declared.env.Env.{Env}
 use Rattle.session_text.specs.declared.events.Event.{Event}
 use Rattle.source_machine.specs.Systems.{System, Moment}
 use Rattle.source_machine.specs.Monitor.{Reading}
-use Rattle.source_machine.specs.Readings.{IsReading}
+use Rattle.packet_store.specs.Readings.{IsReading}
 use Rattle.source_machine.specs.Turns.{turn}
 use Rattle.source_machine.specs.Events.{after, run}
 use Rattle.turn_laws.specs.Steady.{AreSteady}

@@ -32,8 +32,8 @@ use Rattle.task_tree.specs.Families.{descent, family}
 use Rattle.task_tree.specs.Ends.{EndInTurn}
 use Rattle.terminals.specs.Channels.{channel, channel_of}
 use Rattle.session_text.specs.Display.{unfinished_at, close_all}
-use Rattle.source_machine.specs.Below.packet_store.specs.declared.unit.Compiled.{Compiled}
-use Rattle.source_machine.specs.Below.packet_store.specs.Library.{started_at}
+use Rattle.source_machine.specs.Below.units.specs.declared.unit.Compiled.{Compiled}
+use Rattle.source_machine.specs.Below.units.specs.Library.{started_at}
 use Rattle.source_machine.specs.Stores.{heir}
 use Rattle.source_machine.specs.Tasks.{Running, Own, starting, spent, with_doing, replied}
 use Rattle.source_machine.specs.Systems.{Shared, System, Moment, packets, kept, changed, does, given, woken, on_ready, on_waits, on_system, on_display, uncouple_at}

@@ -3,7 +3,7 @@ use Rattle.std.specs.Prelude.{ℕ, List, Option, option_map}
 use Rattle.task_numbers.specs.declared.number.TaskNo.{TaskNo}
 use Rattle.elan_scope.specs.declared.env.Env.{Env}
 use Rattle.task_tree.specs.Tree as tree
-use Rattle.source_machine.specs.Below.packet_store.specs.Library.{Library, env_of}
+use Rattle.source_machine.specs.Below.units.specs.Library.{Library, env_of}
 use Rattle.source_machine.specs.Tasks.{Own}
 use Rattle.source_machine.specs.Systems.{System, own}
 

@@ -5,7 +5,7 @@ use Rattle.eu_base.specs.declared.request.Request.{Request}
 use Rattle.eu_base.specs.Requests.{Answer}
 use Rattle.elan_names.specs.declared.interface.Interface.{Interface}
 use Rattle.elan_types.specs.Command.{Ending, Ended, Stopped, OutOfMarks, Asks}
-use Rattle.source_machine.specs.Below.packet_store.specs.Library.{Library}
+use Rattle.source_machine.specs.Below.units.specs.Library.{Library}
 use Rattle.source_machine.specs.Tasks.{Command, Running, ending, spent}
 use Rattle.source_machine.specs.Systems.{Moment, command, does, given, on_ready, on_system}
 use Rattle.source_machine.specs.Serving.{Served, Replies, Rests, serve}

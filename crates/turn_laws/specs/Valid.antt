@@ -11,12 +11,12 @@ use Rattle.terminals.specs.declared.channel.TheConstants.{QUEUED_LINES}
 use Rattle.elan_scope.specs.declared.env.Env.{Env}
 use Rattle.session_text.specs.declared.events.Event.{Event}
 use Rattle.session_text.specs.declared.events.Event.TheVariants.{Line}
-use Rattle.source_texts.specs.Sources.{most_lines}
-use Rattle.source_machine.specs.Below.elan_check.specs.Packets.{nothing}
-use Rattle.source_machine.specs.Below.packet_store.specs.declared.library.Live.{Live as Packet}
-use Rattle.source_machine.specs.Below.packet_store.specs.declared.library.TheConstants.{PACKETS}
-use Rattle.source_machine.specs.Below.packet_store.specs.declared.unit.Compiled.{Compiled}
-use Rattle.source_machine.specs.Below.packet_store.specs.Library.{Library, IsLive, live_as, env_of, start_unit_behind}
+use Rattle.source_machine.specs.Below.units.specs.Sources.{most_lines}
+use Rattle.source_machine.specs.Below.units.specs.Packets.{nothing}
+use Rattle.source_machine.specs.Below.units.specs.Library.{Live as Packet}
+use Rattle.source_machine.specs.Below.units.specs.declared.library.TheConstants.{PACKETS}
+use Rattle.source_machine.specs.Below.units.specs.declared.unit.Compiled.{Compiled}
+use Rattle.source_machine.specs.Below.units.specs.Library.{Library, IsLive, live_as, env_of, start_unit_behind}
 use Rattle.source_machine.specs.Stores.{is_name, entering_refusal, last_number}
 use Rattle.source_machine.specs.Tasks.{Doing, Entering, Running, Own}
 use Rattle.source_machine.specs.Systems.{System}

@@ -4,7 +4,7 @@ ghost use Rattle.elan_scope.specs.declared.env.Env.{Env};
 ghost use Rattle.session_text.specs.declared.events.Event.{Event};
 ghost use Rattle.source_machine.specs.Systems.{System, Moment, opening};
 ghost use Rattle.source_machine.specs.Monitor.{Reading};
-ghost use Rattle.source_machine.specs.Readings.{IsReading};
+ghost use Rattle.packet_store.specs.Readings.{IsReading};
 ghost use Rattle.source_machine.specs.Turns.{turn};
 ghost use Rattle.source_machine.specs.Events.{after, run};
 ghost use Rattle.source_machine.specs.Whole.{IsSystem};

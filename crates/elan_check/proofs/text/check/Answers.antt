@@ -1,12 +1,8 @@
-use Rattle.std.proofs.Common.{subst}
-use Rattle.elan_scope.specs.declared.env.Env.{Env}
 use Rattle.elan_check.proofs.Checked.{Checked, text_checked}
 use Rattle.elan_check.proofs.text.check.Goals as goal
 
 checked : (c : goal.After-core_of) → Checked c.args.packets.now c.args.tree.now c.core_of.result
-checked c =
-    subst (λ (env : Env). Checked env c.args.tree.now c.core_of.result) c.env.ensures.env
-    (text_checked c.env.result.now c.env.ensures.compiled c.args.tree.now c.core_of.result c.core_of.ensures)
+checked c = text_checked c.args.packets.now c.requires c.args.tree.now c.core_of.result c.core_of.ensures
 
 pub returns-clause-meaning : goal.returns-clause-meaning
 returns-clause-meaning c = (checked c).meaning

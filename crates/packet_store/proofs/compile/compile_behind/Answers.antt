@@ -1,5 +1,6 @@
 use Rattle.std.proofs.Common.{sym, subst}
 use Rattle.elan_scope.specs.declared.env.Env.{Env}
+use Rattle.elan_check.specs.Packets.{AreCompiled}
 use Rattle.packet_store.specs.Units.{IsUnitOf, of_text}
 use Rattle.packet_store.proofs.Refusing.{handed_on}
 use Rattle.packet_store.proofs.compile.compile_behind.Goals as goal
@@ -14,4 +15,5 @@ with_code-requires-clause-unit c =
     let t = c.in_ok-tree.ensures.tree in
     let u = c.in_ok-compiled.ensures.unit c.args.packet t.0 t.1 t.2 in
     of_text c.args.packet c.args.text.now
+    (subst AreCompiled (sym u.packets_are) c.requires.compiled)
     (subst (λ (env : Env). IsUnitOf env c.args.packet c.args.text.now c.in_ok-compiled.field-0) (sym u.packets_are) u)

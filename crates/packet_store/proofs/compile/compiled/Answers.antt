@@ -3,7 +3,7 @@ use Rattle.std.specs.Prelude.{is_some}
 use Rattle.elan_scope.specs.declared.env.Env.{Env}
 use Rattle.elan_check.specs.Text as tree
 use Rattle.packet_store.specs.Meaning.{means, of_check}
-use Rattle.packet_store.specs.declared.unit.Source.TheVariants.{Text}
+use Rattle.units.specs.declared.unit.Source.TheVariants.{Text}
 use Rattle.packet_store.specs.Units.{Shows, shown_by}
 use Rattle.packet_store.proofs.Refusing.{handed_on, check_refuses}
 use Rattle.packet_store.proofs.ReadAs.{kind_read, shown_is}

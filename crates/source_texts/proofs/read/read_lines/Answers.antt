@@ -1,7 +1,7 @@
 use Rattle.std.proofs.Common.{◌≡◌, ◌+◌, ◌++◌, sym, ap, ◌∙◌, arith}
 use Rattle.eu_base.specs.Spaces.{Content}
 use Rattle.text_heap.specs.Blocks.{text_in}
-use Rattle.source_texts.specs.Sources.{joined}
+use Rattle.units.specs.Sources.{joined}
 use Rattle.source_texts.specs.Lines.{lines_at, line_end}
 use Rattle.source_texts.proofs.Reading.{next_line}
 use Rattle.source_texts.proofs.read.read_lines.Goals as goal

@@ -1,6 +1,6 @@
 use Rattle.std.proofs.Common.{◌≡◌, ◌≤◌}
 use Rattle.eu_base.specs.Spaces.{IsKept}
-use Rattle.source_texts.specs.Sources.{joined}
+use Rattle.units.specs.Sources.{joined}
 use Rattle.source_texts.specs.Lines.{lines_at}
 use Rattle.source_texts.proofs.read.read_lines.Given as goal
 

@@ -1,5 +1,5 @@
 use Rattle.std.proofs.Common.{length, arith}
-use Rattle.source_texts.specs.Sources.{most_lines}
+use Rattle.units.specs.Sources.{most_lines}
 use Rattle.source_texts.proofs.Cells.{number_held, next_held}
 use Rattle.source_texts.proofs.write.put_lines.Goals as goal
 

@@ -2,7 +2,7 @@ use Rattle.std.proofs.Common.{ℕ, ◌-◌, Bool, List}
 use Rattle.elan_scope.specs.declared.env.Env.{Env}
 use Rattle.live_system.specs.Below.source_machine.specs.Systems.{Moment}
 use Rattle.live_system.specs.Below.source_machine.specs.Monitor.{Reading, drained_in}
-use Rattle.live_system.specs.Below.source_machine.specs.Readings.{IsReading}
+use Rattle.live_system.specs.Below.packet_store.specs.Readings.{IsReading}
 use Rattle.live_system.specs.Machines.{StandsAt}
 use Rattle.task_lines.proofs.Draining.{Midway}
 use Rattle.task_lines.proofs.queue.drain.Given as goal

@@ -1,5 +1,5 @@
 use Rattle.std.proofs.Common.{ℕ, List, Option, subst}
-use Rattle.live_system.specs.Below.packet_store.specs.Library.{env_of}
+use Rattle.live_system.specs.Below.units.specs.Library.{env_of}
 use Rattle.live_system.specs.Below.source_machine.specs.Systems.{packets}
 use Rattle.live_system.specs.Below.source_machine.specs.Monitor.{answered}
 use Rattle.live_system.specs.Texts.{RunsText}

@@ -1,5 +1,5 @@
 use Rattle.std.proofs.Common.{◌≡◌, None, sym, subst}
-use Rattle.live_system.specs.Below.packet_store.specs.Library.{started_at}
+use Rattle.live_system.specs.Below.units.specs.Library.{started_at}
 use Rattle.live_system.specs.Below.source_machine.specs.Systems.{packets}
 use Rattle.live_system.specs.Below.source_machine.specs.Serving.{begin_refusal, begin_with}
 use Rattle.task_requests.specs.Served.{ServedAs}

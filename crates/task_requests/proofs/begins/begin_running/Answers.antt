@@ -1,5 +1,5 @@
 use Rattle.std.proofs.Common.{subst}
-use Rattle.live_system.specs.Below.packet_store.specs.Library.{started_at}
+use Rattle.live_system.specs.Below.units.specs.Library.{started_at}
 use Rattle.live_system.specs.Below.source_machine.specs.Systems.{packets}
 use Rattle.live_system.specs.Steps.{BeginsRunning}
 use Rattle.task_requests.proofs.Beginning.{none_refused, begun, not_begun}

@@ -1,10 +1,10 @@
 use Rattle.std.proofs.Common.{◌<◌, ◌+◌, List, [], ◌∷◌, ◌++◌, length, refl, sym, ap, subst, ◌∙◌, arith}
 use Rattle.std.proofs.lemmas.Grind.{common_steps}
 use Rattle.elan_scope.specs.declared.env.Env.{Env}
-use Rattle.elan_check.specs.Packets.{after}
-use Rattle.packet_store.specs.declared.library.Live.{Live}
-use Rattle.packet_store.specs.declared.library.TheConstants.{PACKETS}
-use Rattle.packet_store.specs.Library as spec
+use Rattle.units.specs.Packets.{after}
+use Rattle.units.specs.Library.{Live}
+use Rattle.units.specs.declared.library.TheConstants.{PACKETS}
+use Rattle.units.specs.Library as spec
 use Rattle.packet_store.proofs.Growing.{some_of, installed_is}
 use Rattle.packet_store.proofs.library.Library.install.Goals as goal
 

@@ -1,7 +1,7 @@
 use Rattle.std.proofs.Common.{◌≡◌, drop}
 use Rattle.std.specs.Prelude.{option_map}
-use Rattle.elan_check.specs.Packets.{nothing}
-use Rattle.packet_store.specs.Library.{behind, env_behind, env_of}
+use Rattle.units.specs.Packets.{nothing}
+use Rattle.units.specs.Library.{behind, env_behind, env_of}
 use Rattle.packet_store.proofs.library.Library.packets_of.Given as goal
 
 abbrev pub invariant-loop-number : goal.invariant-loop-number

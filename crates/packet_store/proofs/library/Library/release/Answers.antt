@@ -1,8 +1,8 @@
 -- What the closure keeps is the filter by the same test.
 use Rattle.std.proofs.Common.{rules, List, not, sym, ap, subst, ◌∙◌}
 use Rattle.std.proofs.lemmas.Fn.{filter_same}
-use Rattle.packet_store.specs.declared.library.Live.{Live}
-use Rattle.packet_store.specs.Library as spec
+use Rattle.units.specs.Library.{Live}
+use Rattle.units.specs.Library as spec
 use Rattle.packet_store.proofs.Growing.{released_is}
 use Rattle.packet_store.proofs.library.Library.release.Goals as goal
 

@@ -1,0 +1,7 @@
+pub mod Packets
+pub mod Starts
+pub mod Sound
+pub mod Library
+pub mod Reading
+pub mod Refusals
+pub mod Sources
