@@ -3,3 +3,4 @@ pub mod Machine
 pub mod Valid
 pub mod Listing
 pub mod Runs
+pub mod Below

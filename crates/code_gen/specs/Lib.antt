@@ -4,3 +4,4 @@ pub mod walks
 pub mod Codes
 pub mod Program
 pub mod Correct
+pub mod Below

@@ -5,8 +5,8 @@ ghost use Rattle.elan_types.specs.Typing.{IsWellTyped, StartsSo};
 ghost use Rattle.code_gen.specs.Correct.{Behaves};
 ghost use Rattle.code_gen.specs.Program.{program_of, start_from, lines_from, size_from, started_at, started_lines, started_size};
 
+use crate::below::of_cell_kinds::Packet;
 use crate::entries::emit_bodies;
-use cell_kinds::Packet;
 use code_form::{Code, Instr, Start};
 use elan_types::{Body, Core};
 use eu_base::NoMemory;

@@ -1,6 +1,7 @@
 //! From the core of a text to the instructions of the machine; in the code of a command, bodies that it does not reach do nothing.
 #![tactic(auto)]
 
+pub mod below;
 mod code;
 mod command;
 mod cores;

@@ -53,21 +53,21 @@ use Rattle.elan_scope.specs.declared.delivery.Delivery.TheVariants.{Open}
 use Rattle.elan_scope.specs.Known.{delivered}
 use Rattle.elan_judge.specs.Refinements.{stated}
 use Rattle.elan_scope.specs.declared.known.Known.{Known}
-use Rattle.value_rules.specs.Calls as calls
-use Rattle.elan_rules.specs.Units as u
+use Rattle.elan_check.specs.Below.value_rules.specs.Calls as calls
+use Rattle.elan_check.specs.Below.elan_rules.specs.Units as u
 use Rattle.elan_meant.specs.Verdict as verdict
-use Rattle.elan_rules.specs.Rules.{ruled}
+use Rattle.elan_check.specs.Below.elan_rules.specs.Rules.{ruled}
 use Rattle.elan_judge.specs.Shape as shape
 use Rattle.elan_judge.specs.Level as l
-use Rattle.elan_rules.specs.Meaning.{judged, judged_all}
-use Rattle.elan_rules.proofs.First.{bind_gives, before_gives, gives_is}
+use Rattle.elan_check.specs.Below.elan_rules.specs.Meaning.{judged, judged_all}
+use Rattle.elan_check.specs.Below.elan_rules.proofs.First.{bind_gives, before_gives, gives_is}
 use Rattle.elan_judge.proofs.InScope.{InScope, body_units_in}
 use Rattle.elan_judge.proofs.Inferred.{unless_gives}
 use Rattle.type_names.proofs.Held.{held_append}
 use Rattle.type_names.proofs.OwnNames.{own_held}
 use Rattle.std.specs.Option.{option_map_or}
-use Rattle.elan_rules.proofs.TypedPerformed.{owner_with, behind}
-use Rattle.elan_rules.proofs.TypedCalls.{held_cells, AllSized}
+use Rattle.elan_check.specs.Below.elan_rules.proofs.TypedPerformed.{owner_with, behind}
+use Rattle.elan_check.specs.Below.elan_rules.proofs.TypedCalls.{held_cells, AllSized}
 use Rattle.elan_check.proofs.HeldTypes.{BodiesSized}
 
 -- ---- lists

@@ -23,7 +23,7 @@ use Rattle.elan_scope.specs.Known.{delivered}
 use Rattle.elan_scope.specs.Phrase as form
 use Rattle.elan_scope.specs.Phrase.{Form, plain, Phrase, phrase, Parts, none, part, all_of, leaf}
 use Rattle.elan_walk.specs.Operators.{operator_text}
-use Rattle.elan_rules.specs.Meaning.{phrases, phrases_of}
+use Rattle.elan_check.specs.Below.elan_rules.specs.Meaning.{phrases, phrases_of}
 use Rattle.elan_judge.specs.Shape as shape
 use Rattle.elan_judge.proofs.InScope.{Names, InScope, AllIn, statement_in, body_units_in}
 use Rattle.type_names.specs.Bodies as b

@@ -8,7 +8,7 @@ use Rattle.elan_tree.specs.declared.tree.Tree.{Tree}
 use Rattle.elan_meant.specs.declared.meant.Meant.TheVariants as means
 use Rattle.elan_scope.specs.Ruled.{Fault, gives}
 use Rattle.elan_scope.specs.declared.known.Known.{Known}
-use Rattle.elan_rules.specs.Meaning.{judged}
+use Rattle.elan_check.specs.Below.elan_rules.specs.Meaning.{judged}
 use Rattle.elan_check.specs.declared.error.CheckError.{CheckError}
 use Rattle.elan_check.specs.declared.error.CheckError.TheVariants.{NoMemory, NoMeaning}
 use Rattle.elan_judge.specs.Level.{text}

@@ -23,7 +23,7 @@ use Rattle.elan_names.specs.declared.entry.Entry.{Entry}
 use Rattle.elan_names.specs.declared.type_name.TypeName.{TypeName}
 use Rattle.elan_scope.specs.Ruled.{Fault}
 use Rattle.elan_scope.specs.Scope.{held, all_held, has_open, is_open_result}
-use Rattle.value_rules.specs.Calls.{holds_open}
+use Rattle.elan_check.specs.Below.value_rules.specs.Calls.{holds_open}
 use Rattle.elan_walk.specs.declared.definition.Definition.{Definition}
 use Rattle.elan_walk.specs.Definitions as definitions
 use Rattle.type_names.specs.Types as names

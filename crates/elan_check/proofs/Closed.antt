@@ -33,10 +33,10 @@ use Rattle.elan_scope.specs.Phrase.{Plain, plain}
 use Rattle.elan_meant.specs.declared.meant.Meant.{Meant}
 use Rattle.elan_meant.specs.Operands.{takes, may_take, is_unclear, becomes}
 use Rattle.elan_meant.specs.Parts.{nth}
-use Rattle.value_rules.specs.Calls as c
-use Rattle.value_rules.specs.Calls.{holds_open, denotes_open, is_open_name, declares_open, is_open_type}
-use Rattle.elan_rules.specs.Units.{binding_if}
-use Rattle.elan_rules.specs.Rules.{hangs_on}
+use Rattle.elan_check.specs.Below.value_rules.specs.Calls as c
+use Rattle.elan_check.specs.Below.value_rules.specs.Calls.{holds_open, denotes_open, is_open_name, declares_open, is_open_type}
+use Rattle.elan_check.specs.Below.elan_rules.specs.Units.{binding_if}
+use Rattle.elan_check.specs.Below.elan_rules.specs.Rules.{hangs_on}
 use Rattle.elan_judge.proofs.InScope.{Names}
 use Rattle.type_names.proofs.Sound.{Mean}
 use Rattle.elan_check.proofs.Clean.{Closed}

@@ -12,12 +12,12 @@ use Rattle.elan_scope.specs.declared.known.Known.{Known}
 use Rattle.elan_meant.specs.declared.meant.Meant.{Meant}
 use Rattle.elan_meant.specs.declared.meant.Meant.TheVariants as means
 use Rattle.elan_meant.specs.Parts.{actions_of}
-use Rattle.elan_rules.specs.Units.{bodies_of}
+use Rattle.elan_check.specs.Below.elan_rules.specs.Units.{bodies_of}
 use Rattle.elan_scope.specs.Phrase as form
 use Rattle.elan_scope.specs.Phrase.{plain, all_of}
 use Rattle.elan_scope.specs.Ruled.{Fault, Ruled, gives, breaks, hangs, ◌>>=◌}
-use Rattle.elan_rules.specs.Rules.{ruled}
-use Rattle.elan_rules.specs.Meaning.{judged, judged_all}
+use Rattle.elan_check.specs.Below.elan_rules.specs.Rules.{ruled}
+use Rattle.elan_check.specs.Below.elan_rules.specs.Meaning.{judged, judged_all}
 use Rattle.elan_check.specs.declared.error.CheckError.{CheckError}
 use Rattle.elan_check.specs.declared.error.CheckError.TheVariants.{NoMemory, NoMeaning}
 use Rattle.elan_names.specs.declared.type_name.TypeName.{TypeName}

@@ -19,21 +19,21 @@ use Rattle.elan_scope.specs.Phrase.{Form, plain, Phrase, phrase, Parts, none, pa
 use Rattle.elan_scope.specs.Ruled.{Ruled, gives, breaks, hangs, ◌>>=◌, before}
 use Rattle.elan_scope.specs.Known.{delivery_at, leads_back}
 use Rattle.elan_scope.specs.declared.known.Known.{Known}
-use Rattle.value_rules.specs.Calls as c
+use Rattle.elan_check.specs.Below.value_rules.specs.Calls as c
 use Rattle.elan_meant.specs.Verdict.{told, unless}
-use Rattle.elan_rules.specs.Rules.{rule, ruled, hangs_on}
-use Rattle.elan_rules.specs.Meaning.{judged, judged_all, phrases, phrases_of}
+use Rattle.elan_check.specs.Below.elan_rules.specs.Rules.{rule, ruled, hangs_on}
+use Rattle.elan_check.specs.Below.elan_rules.specs.Meaning.{judged, judged_all, phrases, phrases_of}
 use Rattle.elan_judge.specs.Refinements.{stated, last_unit, last_part, unit_delivery, outcome, called_by, called_in}
-use Rattle.elan_rules.proofs.First.{Faultless, whole, open_one, bind_faultless, before_faultless, breaks_has_fault}
+use Rattle.elan_check.specs.Below.elan_rules.proofs.First.{Faultless, whole, open_one, bind_faultless, before_faultless, breaks_has_fault}
 use Rattle.elan_judge.proofs.Alike.{in_first, in_rest}
 use Rattle.elan_judge.proofs.Calls.{called_append}
 use Rattle.elan_judge.proofs.InScope.{Names, InScope, AllIn}
-use Rattle.elan_rules.proofs.Hung.{named_open}
+use Rattle.elan_check.specs.Below.elan_rules.proofs.Hung.{named_open}
 use Rattle.elan_meant.proofs.Told.{told_never_hangs}
-use Rattle.call_graph.proofs.Walks.{In}
+use Rattle.elan_check.specs.Below.call_graph.proofs.Walks.{In}
 use Rattle.elan_judge.proofs.Settled.{not_open}
 use Rattle.elan_check.proofs.Closed.{ScopeClosed, nothing_hangs, name_closed, leave_closed}
-use Rattle.elan_rules.proofs.TypedCalls.{first_at}
+use Rattle.elan_check.specs.Below.elan_rules.proofs.TypedCalls.{first_at}
 
 -- ---- what hangs
 

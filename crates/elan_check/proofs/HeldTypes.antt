@@ -25,7 +25,7 @@ use Rattle.type_names.proofs.Sized.{SizedNames, type_sized, seen_sized}
 use Rattle.type_names.specs.Declarations as d
 use Rattle.type_names.specs.Bodies as b
 use Rattle.type_names.proofs.Held.{held_append}
-use Rattle.elan_rules.proofs.TypedCalls.{AllSized, AllConst}
+use Rattle.elan_check.specs.Below.elan_rules.proofs.TypedCalls.{AllSized, AllConst}
 
 -- what holds of nothing, of two lists together, of each name of a declaration, and of names that hold nothing, where these names of types can be seen
 module _ (P : List Entry → Type 0) (nothing : P []) (append : (es gs : List Entry) → P es → P gs → P (es ++ gs)) (ts : List TypeName)

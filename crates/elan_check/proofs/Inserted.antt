@@ -27,8 +27,8 @@ use Rattle.type_names.specs.Types.{look, level_definitions}
 use Rattle.type_names.proofs.Looked.{look_both}
 use Rattle.type_names.proofs.Sized.{IsSized, none_sized, names_sized, seen_sized}
 use Rattle.type_names.specs.Bodies.{seen_types}
-use Rattle.elan_rules.proofs.TypedPerformed.{Fitting}
-use Rattle.elan_rules.proofs.TypedCalls.{HeldThere, PacketFits}
+use Rattle.elan_check.specs.Below.elan_rules.proofs.TypedPerformed.{Fitting}
+use Rattle.elan_check.specs.Below.elan_rules.proofs.TypedCalls.{HeldThere, PacketFits}
 use Rattle.elan_check.specs.Packets.{AreCompiled, none, behind, IsPacket, after, interface}
 use Rattle.elan_check.proofs.Clean as clean
 use Rattle.elan_check.proofs.HeldTypes.{level_sized}

@@ -17,13 +17,13 @@ use Rattle.elan_scope.specs.Phrase.{plain, Phrase, phrase, Parts, none, part, al
 use Rattle.elan_scope.specs.Ruled.{gives}
 use Rattle.elan_scope.specs.declared.known.Known.{Known}
 use Rattle.elan_walk.specs.Operators.{operator_text}
-use Rattle.elan_rules.specs.Units as u
+use Rattle.elan_check.specs.Below.elan_rules.specs.Units as u
 use Rattle.elan_meant.specs.Verdict.{told}
-use Rattle.elan_rules.specs.Rules.{ruled}
+use Rattle.elan_check.specs.Below.elan_rules.specs.Rules.{ruled}
 use Rattle.elan_judge.specs.Shape as shape
 use Rattle.elan_judge.specs.Level as l
-use Rattle.elan_rules.specs.Meaning.{judged, judged_all}
-use Rattle.elan_rules.proofs.First.{bind_gives, before_gives, gives_is}
+use Rattle.elan_check.specs.Below.elan_rules.specs.Meaning.{judged, judged_all}
+use Rattle.elan_check.specs.Below.elan_rules.proofs.First.{bind_gives, before_gives, gives_is}
 use Rattle.elan_judge.proofs.Counts.{unit_headings_count}
 use Rattle.elan_check.proofs.HeldTypes.{BodiesSized}
 use Rattle.elan_check.proofs.Aligned.{Inside, Row, Rows, rows_append, routine_rows, procedure_quiet, type_quiet}

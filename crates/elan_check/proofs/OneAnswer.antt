@@ -12,20 +12,20 @@ use Rattle.elan_scope.specs.Phrase as form
 use Rattle.elan_scope.specs.Phrase.{plain, Phrase, phrase, all_of}
 use Rattle.elan_scope.specs.declared.known.Known.{Known}
 use Rattle.elan_meant.specs.Parts.{actions_of}
-use Rattle.elan_rules.specs.Units.{bodies_of}
-use Rattle.elan_rules.specs.Rules.{ruled}
-use Rattle.elan_rules.specs.Meaning.{judged, judged_all}
+use Rattle.elan_check.specs.Below.elan_rules.specs.Units.{bodies_of}
+use Rattle.elan_check.specs.Below.elan_rules.specs.Rules.{ruled}
+use Rattle.elan_check.specs.Below.elan_rules.specs.Meaning.{judged, judged_all}
 use Rattle.elan_check.proofs.Bodies.{known_is}
 use Rattle.elan_check.proofs.Spots.{never_hangs}
 use Rattle.elan_judge.specs.Level.{text, text_parts}
-use Rattle.elan_rules.specs.Meaning as phrase
+use Rattle.elan_check.specs.Below.elan_rules.specs.Meaning as phrase
 use Rattle.elan_check.specs.Text.{Means, Refused, IsEarliest, earliest, known, faults, core_of, HasAnswer, meaning, refusal, HasOneAnswer}
 use Rattle.type_names.specs.Faults.{first_fault}
 use Rattle.elan_check.specs.Packets.{AreCompiled}
 use Rattle.elan_check.proofs.Inserted.{is_sound}
 use Rattle.std.proofs.lemmas.Bool.{ltb-true, ltb-false}
 use Rattle.std.specs.Prelude.{nat_lt}
-use Rattle.elan_rules.proofs.First as first
+use Rattle.elan_check.specs.Below.elan_rules.proofs.First as first
 use Rattle.elan_check.proofs.SameCore.{core_made}
 
 units_are : (as' bs : List Action) (ps qs : List Body) → Level as' ps ≡ Level bs qs → as' ≡ bs

@@ -7,7 +7,7 @@ use Rattle.elan_scope.specs.declared.trouble.Trouble.TheVariants.{NoMemory, Brea
 use Rattle.elan_scope.specs.Answer.{Is}
 use Rattle.elan_scope.specs.Phrase.{Phrase, all_of}
 use Rattle.elan_scope.specs.Ruled.{Fault, Ruled, gives, breaks, hangs, before}
-use Rattle.elan_rules.specs.Meaning.{judged, judged_all}
+use Rattle.elan_check.specs.Below.elan_rules.specs.Meaning.{judged, judged_all}
 use Rattle.elan_check.specs.walks.Over.{is_over}
 use Rattle.elan_check.proofs.Routines.{Grown}
 

@@ -26,11 +26,11 @@ use Rattle.elan_scope.specs.Known.{delivered}
 use Rattle.elan_scope.specs.declared.delivery.Delivery.{Delivery}
 use Rattle.elan_scope.specs.Phrase.{Phrase, all_of, around, leaf}
 use Rattle.elan_scope.specs.Answer.{Is}
-use Rattle.elan_rules.specs.Meaning.{judged, judged_all}
+use Rattle.elan_check.specs.Below.elan_rules.specs.Meaning.{judged, judged_all}
 use Rattle.elan_scope.specs.Ruled.{Ruled, gives, joined}
 use Rattle.elan_scope.specs.Scope.{first_heading, is_alike, types_of}
-use Rattle.value_rules.specs.Calls as calls
-use Rattle.elan_rules.specs.Units as u
+use Rattle.elan_check.specs.Below.value_rules.specs.Calls as calls
+use Rattle.elan_check.specs.Below.elan_rules.specs.Units as u
 use Rattle.elan_judge.specs.Shape as shape
 use Rattle.type_names.specs.Bodies.{parameters, result, frame, body_within, routine_scope, bodies_in, bodies_of_units}
 use Rattle.elan_judge.specs.Level as l

@@ -18,10 +18,10 @@ use Rattle.elan_scope.specs.Scope.{all_held, variables_of}
 use Rattle.elan_scope.specs.Shown.{shown_types}
 use Rattle.type_names.specs.Bodies.{seen_types, level_names}
 use Rattle.elan_judge.specs.Level.{home_of, level_in}
-use Rattle.elan_rules.proofs.TypeEquations.{Stand}
-use Rattle.elan_rules.proofs.TypedPerformed.{Fitting}
-use Rattle.elan_rules.proofs.TypedCalls.{held_cells, HeldThere, AllFit}
-use Rattle.elan_rules.proofs.HeldCells.{level_cells}
+use Rattle.elan_check.specs.Below.elan_rules.proofs.TypeEquations.{Stand}
+use Rattle.elan_check.specs.Below.elan_rules.proofs.TypedPerformed.{Fitting}
+use Rattle.elan_check.specs.Below.elan_rules.proofs.TypedCalls.{held_cells, HeldThere, AllFit}
+use Rattle.elan_check.specs.Below.elan_rules.proofs.HeldCells.{level_cells}
 use Rattle.type_names.proofs.Sound.{Mean}
 use Rattle.type_names.proofs.Sized.{SizedNames}
 use Rattle.elan_check.specs.Text.{inserted, declared}

@@ -34,15 +34,15 @@ use Rattle.elan_scope.specs.Phrase.{Plain, plain, Phrase, none, part, all_of, ro
 use Rattle.elan_scope.specs.Ruled.{Ruled, hangs}
 use Rattle.elan_scope.specs.Known.{delivered, delivery_at, leads_back}
 use Rattle.elan_scope.specs.declared.known.Known.{Known}
-use Rattle.elan_rules.specs.Rules.{rule, ruled, hangs_on}
+use Rattle.elan_check.specs.Below.elan_rules.specs.Rules.{rule, ruled, hangs_on}
 use Rattle.elan_judge.specs.Shape as shape
 use Rattle.elan_judge.specs.Level as l
-use Rattle.elan_rules.specs.Meaning.{judged, judged_all}
+use Rattle.elan_check.specs.Below.elan_rules.specs.Meaning.{judged, judged_all}
 use Rattle.elan_judge.specs.Refinements.{stated, called_in, known_of}
-use Rattle.elan_rules.proofs.First.{Faultless, whole, open_one, bind_faultless, before_faultless}
+use Rattle.elan_check.specs.Below.elan_rules.proofs.First.{Faultless, whole, open_one, bind_faultless, before_faultless}
 use Rattle.elan_judge.proofs.InScope.{InScope, body_units_in, statement_in}
 use Rattle.elan_meant.proofs.Told.{told_never_hangs}
-use Rattle.call_graph.proofs.Walks.{In, Call, no_walk}
+use Rattle.elan_check.specs.Below.call_graph.proofs.Walks.{In, Call, no_walk}
 use Rattle.elan_judge.proofs.Settled.{open_last, calls_are}
 use Rattle.elan_judge.proofs.Counts.{unit_headings_count, all_headings_count}
 use Rattle.elan_judge.proofs.Places.{same_length}
@@ -52,7 +52,7 @@ use Rattle.elan_check.proofs.Clean as clean
 use Rattle.type_names.proofs.Sound.{Mean}
 use Rattle.elan_check.specs.Text.{faults}
 use Rattle.elan_scope.specs.Scope.{has_open, is_open_result}
-use Rattle.value_rules.specs.Calls.{heading_open}
+use Rattle.elan_check.specs.Below.value_rules.specs.Calls.{heading_open}
 use Rattle.elan_meant.specs.Verdict.{Verdict, told, is_given}
 use Rattle.type_names.specs.walks.Headings.{all_headings}
 use Rattle.elan_judge.specs.walks.Units.{all_unit_bodies, level_units}

@@ -1,5 +1,5 @@
 -- A start procedure is well typed.
-use Rattle.std.proofs.Common.{◌≡◌, ℕ, Bool, true, false, List, [], ◌∷◌, ◌++◌, Option, Some, None, refl, sym, ap, ◌∙◌, subst, append-nil}
+use Rattle.std.proofs.Common.{◌≡◌, ℕ, true, List, [], ◌∷◌, Option, Some, None, refl, sym, subst, append-nil}
 use Rattle.std.specs.Prelude.{slice_get}
 use Rattle.eu_base.specs.declared.value.Kind.{Kind}
 use Rattle.cell_kinds.specs.Kinds.{packet_kinds}
@@ -8,11 +8,10 @@ use Rattle.elan_types.specs.declared.core_phrase.Scope.TheVariants.{Own, Of, Lev
 use Rattle.elan_types.specs.declared.core_phrase.Content.{Content}
 use Rattle.elan_types.specs.declared.core_phrase.Content.TheVariants.{Units, Value}
 use Rattle.elan_types.specs.declared.core_phrase.Body.{Body}
-use Rattle.elan_types.specs.Typing.{Outside, is_content_typed, IsStart, IsWellTyped}
+use Rattle.elan_types.specs.Typing.{is_content_typed, IsStart, IsWellTyped}
 use Rattle.elan_scope.specs.declared.env.Env.{Env}
 use Rattle.elan_check.specs.Packets.{AreCompiled}
 use Rattle.units.specs.Starts.{starts_by, is_start, start_core}
-use Rattle.elan_check.proofs.Sound.{IsSound}
 use Rattle.elan_check.proofs.Inserted.{is_sound}
 
 module _ (env : Env) (p : ℕ) where

@@ -39,7 +39,7 @@ use Rattle.elan_names.specs.declared.heading.Heading.{Heading}
 use Rattle.elan_meant.specs.declared.meant.Meant.{Meant}
 use Rattle.elan_meant.specs.declared.meant.Meant.TheVariants.{Absent, Variable, Value, Done, Left, Labels, Bodies, Level, Start}
 use Rattle.std.specs.Option.{option_or}
-use Rattle.elan_scope.specs.Scope.{number_of, all_held}
+use Rattle.elan_scope.specs.Scope.{number_of}
 use Rattle.elan_scope.specs.declared.scope.Scope.{Scope}
 use Rattle.elan_scope.specs.declared.scope.Within.{Within}
 use Rattle.elan_names.specs.declared.type_name.TypeName.{TypeName}
@@ -51,19 +51,19 @@ use Rattle.elan_scope.specs.Known.{delivery_at}
 use Rattle.elan_scope.specs.declared.known.Known.{Known}
 use Rattle.elan_walk.specs.Operators.{operator_text}
 use Rattle.elan_meant.specs.Parts as p
-use Rattle.elan_rules.specs.Units as u
-use Rattle.elan_rules.specs.Rules.{ruled}
+use Rattle.elan_check.specs.Below.elan_rules.specs.Units as u
+use Rattle.elan_check.specs.Below.elan_rules.specs.Rules.{ruled}
 use Rattle.elan_judge.specs.Shape as shape
 use Rattle.elan_judge.specs.Level as l
-use Rattle.elan_rules.specs.Meaning.{judged, judged_all}
+use Rattle.elan_check.specs.Below.elan_rules.specs.Meaning.{judged, judged_all}
 use Rattle.elan_judge.specs.Refinements.{stated, delivery_of, known_of}
-use Rattle.elan_rules.proofs.First.{bind_gives, before_gives, gives_is}
+use Rattle.elan_check.specs.Below.elan_rules.proofs.First.{bind_gives, before_gives, gives_is}
 use Rattle.elan_judge.proofs.InScope.{statement_in}
-use Rattle.elan_rules.proofs.TypeEquations.{Stand}
-use Rattle.elan_rules.proofs.Typed as ty
-use Rattle.elan_rules.proofs.TypedUnits.{content_as_good, content_of_good}
-use Rattle.elan_rules.proofs.TypedPerformed.{owner_with, behind, Headed, Delivering, BodyFits, Fitting}
-use Rattle.elan_rules.proofs.TypedCalls.{held_cells, AllSized, FrameIs, WithinSized, HeldThere, AllFit, Fits}
+use Rattle.elan_check.specs.Below.elan_rules.proofs.TypeEquations.{Stand}
+use Rattle.elan_check.specs.Below.elan_rules.proofs.Typed as ty
+use Rattle.elan_check.specs.Below.elan_rules.proofs.TypedUnits.{content_as_good, content_of_good}
+use Rattle.elan_check.specs.Below.elan_rules.proofs.TypedPerformed.{owner_with, behind, Headed, Delivering, BodyFits, Fitting}
+use Rattle.elan_check.specs.Below.elan_rules.proofs.TypedCalls.{held_cells, AllSized, FrameIs, WithinSized, HeldThere, AllFit, Fits}
 use Rattle.elan_names.specs.declared.interface.Inserted.{Inserted}
 use Rattle.elan_scope.specs.declared.scope.Home.{Home as HeldIn}
 use Rattle.elan_check.proofs.HeldTypes.{BodiesSized, level_sized, bodies_sized}

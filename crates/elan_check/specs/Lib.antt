@@ -1,3 +1,4 @@
 pub mod walks
 pub mod Text
 pub mod Packets
+pub mod Below

@@ -19,7 +19,7 @@ use Rattle.type_names.specs.Faults.{first_fault, level_faults}
 use Rattle.elan_judge.specs.Level.{level_in, level_bodies, text_scope, text}
 use Rattle.elan_scope.specs.declared.known.Known.{Known}
 use Rattle.elan_judge.specs.Refinements.{bodies_within, known_of}
-use Rattle.elan_rules.specs.Meaning as phrase
+use Rattle.elan_check.specs.Below.elan_rules.specs.Meaning as phrase
 
 -- after these packets
 module _ (env : Env) where

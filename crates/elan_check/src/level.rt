@@ -3,11 +3,12 @@
 ghost use Rattle.std.specs.Prelude.{◌≡◌, ◌++◌, List, [], None};
 ghost use Rattle.elan_scope.specs.declared.known.Known.{Known};
 ghost use Rattle.elan_scope.specs.Phrase.{Phrase, all_of};
-ghost use Rattle.elan_rules.specs.Meaning.{judged, judged_all};
+ghost use Rattle.elan_check.specs.Below.elan_rules.specs.Meaning.{judged, judged_all};
 ghost use Rattle.elan_scope.specs.Answer.{Is};
 ghost use Rattle.elan_judge.specs.Level as spec;
 ghost use Rattle.elan_judge.specs.walks.Units as of_units;
 
+use crate::below::of_value_rules::name::{declared, type_declared};
 use crate::routine::{Routine, is_over, judge_refinements, judge_routine};
 use crate::shown::judge_exports;
 use elan_judge::judge::judge_role;
@@ -22,7 +23,6 @@ use elan_tree::{Export, Formal, Level, LevelUnit, Name};
 use elan_walk::operator_text;
 use std::alloc::Global;
 use type_names::heading::{first_refinement, number_behind};
-use value_rules::name::{declared, type_declared};
 
 // The name of a PROC: one without parameters is a name of the level.
 fn procedure_name(alloc: Global, scope: &Scope, name: &Name, formals: &[Formal]) -> Row

@@ -1,6 +1,7 @@
 //! What a text means, phrase after phrase: its names and types, and the first phrase that breaks a rule.
 #![tactic(auto)]
 
+pub mod below;
 mod error;
 mod laws;
 pub mod level;

@@ -6,21 +6,22 @@ ghost use Rattle.elan_scope.specs.declared.scope.Scope.{Scope};
 ghost use Rattle.elan_scope.specs.Known.{delivered};
 ghost use Rattle.elan_scope.specs.Phrase as form;
 ghost use Rattle.elan_scope.specs.Phrase.{Phrase, around, row, all_of};
-ghost use Rattle.elan_rules.specs.Meaning.{judged, judged_all};
+ghost use Rattle.elan_check.specs.Below.elan_rules.specs.Meaning.{judged, judged_all};
 ghost use Rattle.elan_scope.specs.Answer.{Is};
 ghost use Rattle.type_names.specs.Bodies as bodies;
 ghost use Rattle.elan_judge.specs.Level as spec;
 ghost use Rattle.elan_check.specs.walks.Over as walks;
 ghost use Rattle.elan_judge.specs.Shape as shape;
 
+use crate::below::of_elan_rules::body::{bodies_of, body};
+use crate::below::of_elan_rules::whole::refinement_phrase;
+use crate::below::of_value_rules::name::{Headed, declared, heading};
 use elan_judge::judge::judge_units;
 use elan_judge::role::{Wanted, all_empty};
 use elan_meant::meant::Meant;
 use elan_meant::row::{Judged, Row};
 use elan_meant::together::{let_go, with};
 use elan_names::heading::Sort;
-use elan_rules::body::{bodies_of, body};
-use elan_rules::whole::refinement_phrase;
 use elan_scope::known::Known;
 use elan_scope::scope::Scope;
 use elan_scope::trouble::Trouble;
@@ -31,7 +32,6 @@ use std::alloc::Global;
 use type_names::bodies::{own_kinds, parameters};
 use type_names::heading::{next_number, result_type};
 use type_names::within::{enter, leave};
-use value_rules::name::{Headed, declared, heading};
 
 /// A PROC or OP as it is written, with its number among the bodies of the level.
 #[derive(Clone, Copy)]

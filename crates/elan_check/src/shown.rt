@@ -8,11 +8,12 @@ ghost use Rattle.elan_tree.specs.declared.tree.Level.{Level as Written};
 ghost use Rattle.elan_scope.specs.Phrase.{all_of, leaf};
 ghost use Rattle.elan_scope.specs.Phrase as form;
 ghost use Rattle.elan_scope.specs.Scope as scopes;
-ghost use Rattle.elan_rules.specs.Meaning.{judged, judged_all};
+ghost use Rattle.elan_check.specs.Below.elan_rules.specs.Meaning.{judged, judged_all};
 ghost use Rattle.elan_scope.specs.Answer.{Is};
 ghost use Rattle.elan_walk.specs.Definitions as definitions;
 ghost use Rattle.elan_judge.specs.Level as spec;
 
+use crate::below::of_value_rules::name::exported;
 use elan_meant::row::{Judged, Row};
 use elan_meant::together::{let_go, none, with};
 use elan_names::directory::Directory;
@@ -25,7 +26,6 @@ use elan_walk::definition::{Defined, Definition, level_definitions};
 use elan_walk::operator_text;
 use eu_base::{Bytes, List, NoMemory};
 use std::alloc::Global;
-use value_rules::name::exported;
 
 // The name that is shown.
 fn export_name(alloc: Global, export: &Export) -> Result<Bytes, NoMemory>

@@ -9,6 +9,7 @@ ghost use Rattle.elan_judge.specs.Level as spec;
 ghost use Rattle.elan_check.specs.Text as texts;
 ghost use Rattle.elan_check.specs.Packets.{AreCompiled};
 
+use crate::below::of_elan_rules::body::level;
 use crate::error::CheckError;
 use crate::level::judge_level;
 use crate::packets::shared;
@@ -18,7 +19,6 @@ use elan_judge::known_of;
 use elan_meant::meant::Meant;
 use elan_meant::row::Row;
 use elan_names::type_directory::TypeDirectory;
-use elan_rules::body::level;
 use elan_scope::env::Env;
 use elan_scope::known::Known;
 use elan_scope::scope::Scope;

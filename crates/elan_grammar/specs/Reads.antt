@@ -33,7 +33,7 @@ text is_packet = text_within 400 399 is_packet
 abbrev pub Reads : Bool → Tokens → Tree → Type 0
 Reads is_packet tokens t = (tokens ≢ []) × (text is_packet).reads t tokens []
 
--- The same without the limit of 400: with any that serves. By the law `depth_alone` (elan_depth) a text reads as a tree exactly
+-- The same without the limit of 400: with any that serves. By the law `depth_alone` (elan_laws) a text reads as a tree exactly
 -- where the grammar without a limit reads it as that tree and the tree is at most 400 deep.
 abbrev pub ReadsAtAnyDepth : Bool → Tokens → Tree → Type 0
 ReadsAtAnyDepth is_packet tokens t = (tokens ≢ []) × ((in_body : ℕ) × (text_within (suc in_body) in_body is_packet).reads t tokens [])

@@ -8,8 +8,8 @@ use Rattle.elan_scope.specs.declared.known.Known.{Known}
 use Rattle.elan_scope.specs.declared.scope.Scope.{Scope}
 use Rattle.elan_scope.specs.Scope.{Found}
 use Rattle.elan_scope.specs.declared.scope.Home.{Home}
-use Rattle.elan_names.specs.declared.entry.Denotes.{Denotes}
-use Rattle.elan_names.specs.declared.entry.Denotes.TheVariants as denotes
+use Rattle.elan_judge.specs.Below.elan_names.specs.declared.entry.Denotes.{Denotes}
+use Rattle.elan_judge.specs.Below.elan_names.specs.declared.entry.Denotes.TheVariants as denotes
 use Rattle.elan_scope.specs.declared.scope.Usage.TheVariants.{Expression, Counter}
 use Rattle.elan_scope.specs.Known.{delivery_at, leads_back}
 use Rattle.elan_scope.specs.Scope.{find, left, refinement_named}
@@ -21,8 +21,8 @@ use Rattle.elan_meant.specs.declared.meant.Meant.{Meant}
 use Rattle.elan_meant.specs.Parts.{nth}
 use Rattle.elan_meant.specs.Verdict as verdict
 use Rattle.elan_meant.specs.Verdict.{Verdict, told, unless}
-use Rattle.value_rules.specs.Calls as r
-use Rattle.value_rules.specs.walks.Steps as walk
+use Rattle.elan_judge.specs.Below.value_rules.specs.Calls as r
+use Rattle.elan_judge.specs.Below.value_rules.specs.walks.Steps as walk
 use Rattle.elan_rules.specs.Rules.{ruled}
 use Rattle.elan_rules.specs.Meaning.{judged, judged_all, phrases, phrases_of}
 use Rattle.elan_judge.proofs.InScope.{Names, InScope, AllIn}

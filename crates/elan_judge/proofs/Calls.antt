@@ -26,14 +26,14 @@ use Rattle.elan_scope.specs.Phrase as form
 use Rattle.elan_scope.specs.Phrase.{Form, Plain, plain, Phrase, phrase, Parts, none, part, all_of, around}
 use Rattle.elan_rules.specs.Meaning.{phrases, phrases_of}
 use Rattle.std.specs.Str.{bytes_eq}
-use Rattle.value_rules.specs.Calls.{begin}
+use Rattle.elan_judge.specs.Below.value_rules.specs.Calls.{begin}
 use Rattle.elan_judge.specs.Shape as shape
 use Rattle.elan_judge.specs.walks.Steps as walk
 use Rattle.elan_tree.specs.declared.written_type.TypePhrase.{TypePhrase}
-use Rattle.elan_walk.specs.declared.node.Held.{Held}
-use Rattle.elan_walk.specs.declared.node.Held.TheVariants as held
-use Rattle.elan_walk.specs.Nodes as nodes
-use Rattle.elan_walk.specs.Nodes.{Node, sign}
+use Rattle.elan_judge.specs.Below.elan_walk.specs.declared.node.Held.{Held}
+use Rattle.elan_judge.specs.Below.elan_walk.specs.declared.node.Held.TheVariants as held
+use Rattle.elan_judge.specs.Below.elan_walk.specs.Nodes as nodes
+use Rattle.elan_judge.specs.Below.elan_walk.specs.Nodes.{Node, sign}
 use Rattle.type_names.specs.walks.Uses as uses
 use Rattle.elan_judge.specs.Refinements.{called_by, called_in}
 

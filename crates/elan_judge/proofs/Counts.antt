@@ -6,7 +6,7 @@ use Rattle.elan_tree.specs.declared.tree.Level.{Level}
 use Rattle.elan_tree.specs.declared.tree.LevelUnit.{LevelUnit}
 use Rattle.elan_tree.specs.declared.tree.LevelUnit.TheVariants as level
 use Rattle.elan_scope.specs.declared.scope.Scope.{Scope}
-use Rattle.elan_names.specs.declared.type_name.TypeName.{TypeName}
+use Rattle.elan_judge.specs.Below.elan_names.specs.declared.type_name.TypeName.{TypeName}
 use Rattle.type_names.specs.Bodies as b
 use Rattle.type_names.specs.walks.Headings.{all_headings}
 use Rattle.elan_judge.specs.Level as l

@@ -24,7 +24,7 @@ use Rattle.elan_scope.specs.declared.scope.Scope.{Scope}
 use Rattle.elan_scope.specs.Phrase as form
 use Rattle.elan_scope.specs.Phrase.{Form, plain, Phrase, phrase, Parts, none, part, all_of}
 use Rattle.std.specs.Str.{bytes_eq}
-use Rattle.value_rules.specs.Calls.{begin}
+use Rattle.elan_judge.specs.Below.value_rules.specs.Calls.{begin}
 use Rattle.elan_judge.specs.Shape as shape
 use Rattle.elan_judge.specs.walks.Steps as walk
 

@@ -7,8 +7,8 @@ use Rattle.elan_scope.specs.declared.delivery.Delivery.TheVariants.{Open, Nothin
 use Rattle.elan_scope.specs.declared.known.Known.{Known}
 use Rattle.elan_scope.specs.declared.scope.Scope.{Scope}
 use Rattle.elan_scope.specs.Scope.{Found}
-use Rattle.elan_names.specs.declared.entry.Denotes.{Denotes}
-use Rattle.elan_names.specs.declared.entry.Denotes.TheVariants as denotes
+use Rattle.elan_judge.specs.Below.elan_names.specs.declared.entry.Denotes.{Denotes}
+use Rattle.elan_judge.specs.Below.elan_names.specs.declared.entry.Denotes.TheVariants as denotes
 use Rattle.elan_scope.specs.declared.scope.Usage.TheVariants.{Expression, Counter}
 use Rattle.elan_scope.specs.Known.{delivery_at, leads_back}
 use Rattle.elan_scope.specs.Scope as scope
@@ -17,7 +17,7 @@ use Rattle.elan_scope.specs.Phrase.{Form, plain, Phrase, phrase, Parts, none, pa
 use Rattle.elan_scope.specs.declared.scope.Home.{Home}
 use Rattle.elan_scope.specs.Ruled.{Ruled, gives, breaks, hangs}
 use Rattle.elan_meant.specs.declared.meant.Meant.{Meant}
-use Rattle.value_rules.specs.Calls as c
+use Rattle.elan_judge.specs.Below.value_rules.specs.Calls as c
 use Rattle.elan_rules.specs.Rules.{ruled}
 use Rattle.elan_rules.specs.Meaning.{judged, judged_all, phrases, phrases_of}
 use Rattle.elan_rules.proofs.First.{bind_gives, before_gives}

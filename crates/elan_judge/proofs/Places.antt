@@ -11,17 +11,17 @@ use Rattle.elan_tree.specs.declared.tree.Level.{Level}
 use Rattle.elan_tree.specs.declared.tree.LevelUnit.{LevelUnit}
 use Rattle.elan_tree.specs.declared.tree.LevelUnit.TheVariants as level
 use Rattle.elan_scope.specs.declared.delivery.Delivery.TheVariants.{Open}
-use Rattle.elan_names.specs.declared.heading.Sort.{Sort}
-use Rattle.elan_names.specs.declared.heading.Sort.TheVariants.{Procedure, Operator}
-use Rattle.elan_names.specs.declared.heading.What.TheVariants.{Routine}
-use Rattle.elan_names.specs.declared.heading.Heading.{Heading}
+use Rattle.elan_judge.specs.Below.elan_names.specs.declared.heading.Sort.{Sort}
+use Rattle.elan_judge.specs.Below.elan_names.specs.declared.heading.Sort.TheVariants.{Procedure, Operator}
+use Rattle.elan_judge.specs.Below.elan_names.specs.declared.heading.What.TheVariants.{Routine}
+use Rattle.elan_judge.specs.Below.elan_names.specs.declared.heading.Heading.{Heading}
 use Rattle.elan_scope.specs.declared.scope.Scope.{Scope}
 use Rattle.elan_scope.specs.Scope.{number_of}
 use Rattle.elan_scope.specs.Known.{delivered}
 use Rattle.elan_scope.specs.Phrase.{Phrase}
 use Rattle.type_names.specs.Bodies as b
 use Rattle.type_names.specs.Bodies.{parameters, result}
-use Rattle.elan_walk.specs.Operators.{operator_text}
+use Rattle.elan_judge.specs.Below.elan_walk.specs.Operators.{operator_text}
 use Rattle.elan_judge.proofs.InScope.{InScope, body_units_in}
 use Rattle.elan_judge.specs.Level as l
 use Rattle.elan_judge.proofs.Counts.{unit_headings_count, all_headings_count}

@@ -4,7 +4,7 @@ use Rattle.std.specs.Prelude.{slice_get, slice_index_or}
 use Rattle.elan_types.specs.declared.elan_type.ElanType.{ElanType}
 use Rattle.elan_scope.specs.declared.delivery.Delivery.{Delivery}
 use Rattle.elan_scope.specs.declared.delivery.Delivery.TheVariants.{Open, Nothing, Of}
-use Rattle.elan_names.specs.declared.heading.Heading.{Heading}
+use Rattle.elan_judge.specs.Below.elan_names.specs.declared.heading.Heading.{Heading}
 use Rattle.elan_meant.specs.declared.meant.Meant.{Meant}
 use Rattle.elan_meant.specs.declared.meant.Meant.TheVariants.{Absent, Variable, Value, Done, Left, Labels, Bodies, Level, Start}
 use Rattle.elan_scope.specs.Phrase.{Phrase}

@@ -22,7 +22,7 @@ use Rattle.elan_meant.specs.declared.meant.Meant.{Meant}
 use Rattle.elan_meant.specs.declared.meant.Meant.TheVariants.{Absent}
 use Rattle.elan_scope.specs.Answer.{Is}
 use Rattle.std.specs.Str.{bytes_eq}
-use Rattle.value_rules.specs.Calls.{begin}
+use Rattle.elan_judge.specs.Below.value_rules.specs.Calls.{begin}
 use Rattle.elan_rules.specs.Meaning.{judged, judged_all}
 use Rattle.elan_scope.specs.declared.delivery.Delivery.TheVariants.{Open, Nothing}
 use Rattle.elan_scope.specs.declared.known.Known.{Known}

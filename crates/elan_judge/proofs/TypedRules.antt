@@ -4,17 +4,17 @@ use Rattle.elan_meant.specs.declared.meant.Meant.{Meant}
 use Rattle.elan_scope.specs.Ruled.{Ruled, gives}
 use Rattle.elan_meant.specs.Verdict.{Verdict, told}
 use Rattle.std.specs.Prelude.{nat_eq}
-use Rattle.elan_names.specs.declared.type_name.TypeName.{TypeName}
+use Rattle.elan_judge.specs.Below.elan_names.specs.declared.type_name.TypeName.{TypeName}
 use Rattle.elan_scope.specs.Scope as scope
 use Rattle.elan_scope.specs.declared.scope.Scope.{Scope}
 use Rattle.elan_scope.specs.declared.known.Known.{Known}
-use Rattle.elan_names.specs.declared.heading.Sort.TheVariants.{Procedure, Operator}
+use Rattle.elan_judge.specs.Below.elan_names.specs.declared.heading.Sort.TheVariants.{Procedure, Operator}
 use Rattle.elan_scope.specs.Scope.{Callable}
 use Rattle.elan_meant.specs.Operands.{chosen, becomes}
 use Rattle.elan_scope.specs.Phrase as form
 use Rattle.elan_scope.specs.Phrase.{Form, Plain, plain, Phrase, phrase, Parts, none, part}
 use Rattle.elan_meant.specs.Parts as p
-use Rattle.value_rules.specs.Calls as r
+use Rattle.elan_judge.specs.Below.value_rules.specs.Calls as r
 use Rattle.elan_rules.specs.walks.ChoiceSteps as walk
 use Rattle.elan_rules.specs.Rules as all
 use Rattle.elan_meant.specs.declared.meant.Meant.TheVariants.{Start}

@@ -5,7 +5,7 @@ use Rattle.std.specs.List.{list_any}
 use Rattle.std.specs.Option.{option_or, option_map_or}
 use Rattle.std.specs.Str.{bytes_eq}
 use Rattle.eu_base.specs.declared.value.Kind.{Kind}
-use Rattle.cell_kinds.specs.Kinds.{packet_kinds}
+use Rattle.elan_judge.specs.Below.cell_kinds.specs.Kinds.{packet_kinds}
 use Rattle.elan_types.specs.Types.{is_open}
 use Rattle.elan_types.specs.declared.elan_type.ElanType.{ElanType}
 use Rattle.elan_types.specs.declared.core_phrase.Scope.{Scope as Owner}
@@ -22,24 +22,24 @@ use Rattle.elan_tree.specs.declared.tree.LevelUnit.{LevelUnit}
 use Rattle.elan_tree.specs.declared.tree.LevelUnit.TheVariants as level
 use Rattle.elan_tree.specs.declared.tree.Tree.{Tree}
 use Rattle.elan_tree.specs.declared.tree.Tree.TheVariants as tree
-use Rattle.elan_names.specs.declared.entry.Denotes.{Denotes}
-use Rattle.elan_names.specs.declared.entry.Denotes.TheVariants as denotes
-use Rattle.elan_names.specs.declared.heading.Sort.{Sort}
-use Rattle.elan_names.specs.declared.heading.Sort.TheVariants.{Procedure, Operator}
-use Rattle.elan_names.specs.declared.heading.Heading.{Heading}
-use Rattle.elan_names.specs.declared.heading.What.{What}
-use Rattle.elan_names.specs.declared.heading.What.TheVariants as what
+use Rattle.elan_judge.specs.Below.elan_names.specs.declared.entry.Denotes.{Denotes}
+use Rattle.elan_judge.specs.Below.elan_names.specs.declared.entry.Denotes.TheVariants as denotes
+use Rattle.elan_judge.specs.Below.elan_names.specs.declared.heading.Sort.{Sort}
+use Rattle.elan_judge.specs.Below.elan_names.specs.declared.heading.Sort.TheVariants.{Procedure, Operator}
+use Rattle.elan_judge.specs.Below.elan_names.specs.declared.heading.Heading.{Heading}
+use Rattle.elan_judge.specs.Below.elan_names.specs.declared.heading.What.{What}
+use Rattle.elan_judge.specs.Below.elan_names.specs.declared.heading.What.TheVariants as what
 use Rattle.elan_scope.specs.declared.env.Env.{Env}
 use Rattle.elan_scope.specs.declared.scope.Scope.{Scope}
 use Rattle.elan_scope.specs.declared.scope.Home.{Home}
 use Rattle.elan_scope.specs.declared.scope.Home.TheVariants.{Level as of_level, Packet as of_packet}
 use Rattle.elan_scope.specs.Scope.{placed, first_named}
-use Rattle.elan_walk.specs.declared.definition.Defined.{Defined}
-use Rattle.elan_walk.specs.declared.definition.Defined.TheVariants as defined
-use Rattle.elan_walk.specs.Definitions.{level_definitions, first_from}
+use Rattle.elan_judge.specs.Below.elan_walk.specs.declared.definition.Defined.{Defined}
+use Rattle.elan_judge.specs.Below.elan_walk.specs.declared.definition.Defined.TheVariants as defined
+use Rattle.elan_judge.specs.Below.elan_walk.specs.Definitions.{level_definitions, first_from}
 use Rattle.type_names.specs.Bodies as bodies
 use Rattle.type_names.specs.Bodies.{parameters, result, frame, body_within, routine_scope, seen_types, level_names, headings, numbered, bodies_of_units}
-use Rattle.elan_walk.specs.Operators.{operator_text, sign_text}
+use Rattle.elan_judge.specs.Below.elan_walk.specs.Operators.{operator_text, sign_text}
 use Rattle.elan_scope.specs.Phrase as form
 use Rattle.elan_scope.specs.Known.{delivered}
 use Rattle.elan_scope.specs.declared.delivery.Delivery.TheVariants.{Open, Nothing}

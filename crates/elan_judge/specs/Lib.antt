@@ -2,3 +2,4 @@ pub mod Shape
 pub mod walks
 pub mod Level
 pub mod Refinements
+pub mod Below

@@ -3,9 +3,9 @@ use Rattle.std.specs.Prelude.{ℕ, zero, suc, List, [], ◌∷◌, map, flat_map
 use Rattle.std.specs.Option.{option_map_or}
 use Rattle.elan_scope.specs.declared.delivery.Delivery.{Delivery}
 use Rattle.elan_scope.specs.declared.delivery.Delivery.TheVariants.{Open, Nothing, Of}
-use Rattle.elan_names.specs.declared.heading.What.{What}
-use Rattle.elan_names.specs.declared.heading.What.TheVariants.{Routine, Refinement}
-use Rattle.elan_names.specs.declared.heading.Heading.{Heading}
+use Rattle.elan_judge.specs.Below.elan_names.specs.declared.heading.What.{What}
+use Rattle.elan_judge.specs.Below.elan_names.specs.declared.heading.What.TheVariants.{Routine, Refinement}
+use Rattle.elan_judge.specs.Below.elan_names.specs.declared.heading.Heading.{Heading}
 use Rattle.elan_meant.specs.declared.meant.Meant.{Meant}
 use Rattle.elan_meant.specs.declared.meant.Meant.TheVariants.{Value}
 use Rattle.elan_scope.specs.Known.{delivered}

@@ -7,6 +7,8 @@ ghost use Rattle.elan_rules.specs.Meaning.{judged};
 ghost use Rattle.elan_scope.specs.Answer.{Is};
 ghost use Rattle.elan_judge.specs.Shape as shape;
 
+use crate::below::of_value_rules::name::{declared, type_declared};
+use crate::below::of_value_rules::value::{number, text, truth};
 use elan_meant::row::Judged;
 use elan_meant::together::{none, pair, with};
 use elan_rules::list::definition;
@@ -14,8 +16,6 @@ use elan_scope::known::Known;
 use elan_scope::scope::Scope;
 use elan_tree::{Constant, LetItem};
 use std::alloc::Global;
-use value_rules::name::{declared, type_declared};
-use value_rules::value::{number, text, truth};
 
 fn judge_constant(alloc: Global, known: &Known, scope: &Scope, constant: &Constant) -> Judged
     ensures { Is result (judged known.now (shape.constant scope.now constant.now)) }

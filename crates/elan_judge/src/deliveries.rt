@@ -15,6 +15,7 @@ ghost use Rattle.elan_judge.specs.walks.Steps as steps;
 ghost use Rattle.elan_scope.specs.Known.{delivery_at};
 ghost use lib.Pointwise.{pointwise};
 
+use crate::below::of_elan_names::heading::{Heading, What};
 use crate::judge::judge_role;
 use crate::role::{Wanted, is_empty};
 use crate::settle::settled;
@@ -22,7 +23,6 @@ use crate::walk::{EachBody, each_body};
 use call_graph::CallGraph;
 use elan_meant::meant::Meant;
 use elan_meant::row::Judged;
-use elan_names::heading::{Heading, What};
 use elan_scope::delivery::Delivery;
 use elan_scope::known::Known;
 use elan_scope::scope::Scope;

@@ -11,6 +11,13 @@ ghost use Rattle.elan_meant.specs.walks.Arity.{triple};
 ghost use Rattle.elan_judge.specs.Shape as shape;
 ghost use Rattle.elan_judge.specs.walks.Steps as walk;
 
+use crate::below::of_elan_names::heading::Sort;
+use crate::below::of_elan_walk::operator_text;
+use crate::below::of_value_rules::call::{applied, is_begin_name};
+use crate::below::of_value_rules::leave::leaving;
+use crate::below::of_value_rules::name::{declared, named, start_named, started};
+use crate::below::of_value_rules::part::field_part;
+use crate::below::of_value_rules::value::{bracketed, concr, number, text, truth};
 use crate::define::judge_let;
 use crate::label::{add_numbers, judge_labels};
 use crate::place::unit_place;
@@ -18,7 +25,6 @@ use crate::role::{Wanted, asked};
 use elan_meant::meant::Meant;
 use elan_meant::row::{Judged, Row};
 use elan_meant::together::{Three, before, let_go, none, one, pair, three, with};
-use elan_names::heading::Sort;
 use elan_rules::choice::choice;
 use elan_rules::list::{alone, declaration, in_order, must_deliver, without_value};
 use elan_rules::selection::selected;
@@ -31,14 +37,8 @@ use elan_scope::scope::{Scope, Usage};
 use elan_scope::trouble::Trouble;
 use elan_tree::{Branch, Case, Counter, Expr, Item, Limit, Name, Unit};
 use elan_types::Way;
-use elan_walk::operator_text;
 use eu_base::List;
 use std::alloc::Global;
-use value_rules::call::{applied, is_begin_name};
-use value_rules::leave::leaving;
-use value_rules::name::{declared, named, start_named, started};
-use value_rules::part::field_part;
-use value_rules::value::{bracketed, concr, number, text, truth};
 
 // PROC with a name.
 fn start(at: u32, scope: &Scope, may: bool, name: &Name) -> Judged

@@ -20,27 +20,27 @@ use Rattle.elan_tree.specs.declared.phrase.Expr.TheOpen.{Expr-F, Limit-F, Unit-F
 use Rattle.elan_tree.specs.declared.phrase.Expr.TheFolds.{ind-Unit, map-Expr, map-Limit, map-Unit, map-Branch, map-Case, map-Counter, map-Item}
 use Rattle.elan_tree.specs.declared.phrase.Expr.TheFolds.{fold-roll-Expr, fold-roll-Limit, fold-roll-Unit, fold-roll-Branch, fold-roll-Case}
 use Rattle.elan_tree.specs.declared.phrase.Expr.TheFolds.{fold-roll-Counter, fold-roll-Item}
-use Rattle.elan_scope.specs.declared.delivery.Delivery.{Delivery}
-use Rattle.elan_scope.specs.declared.delivery.Delivery.TheVariants.{Open, Nothing, Of}
-use Rattle.elan_scope.specs.declared.scope.Scope.{Scope}
-use Rattle.elan_scope.specs.Phrase as form
-use Rattle.elan_scope.specs.Phrase.{plain, Phrase, phrase, all_of}
+use Rattle.elan_laws.specs.Below.elan_scope.specs.declared.delivery.Delivery.{Delivery}
+use Rattle.elan_laws.specs.Below.elan_scope.specs.declared.delivery.Delivery.TheVariants.{Open, Nothing, Of}
+use Rattle.elan_laws.specs.Below.elan_scope.specs.declared.scope.Scope.{Scope}
+use Rattle.elan_laws.specs.Below.elan_scope.specs.Phrase as form
+use Rattle.elan_laws.specs.Below.elan_scope.specs.Phrase.{plain, Phrase, phrase, all_of}
 use Rattle.std.specs.Str.{bytes_eq}
-use Rattle.value_rules.specs.Calls.{begin}
-use Rattle.elan_judge.specs.Shape as shape
-use Rattle.elan_judge.specs.walks.Steps as walk
+use Rattle.elan_laws.specs.Below.value_rules.specs.Calls.{begin}
+use Rattle.elan_laws.specs.Below.elan_judge.specs.Shape as shape
+use Rattle.elan_laws.specs.Below.elan_judge.specs.walks.Steps as walk
 use Rattle.elan_tree.specs.declared.written_type.TypePhrase.{TypePhrase}
-use Rattle.elan_walk.specs.declared.node.Held.{Held}
-use Rattle.elan_walk.specs.declared.node.Held.TheVariants.{Variable, Constant, Bound}
-use Rattle.elan_walk.specs.Nodes as nodes
-use Rattle.elan_walk.specs.Nodes.{Node, other, sign, of_type, content, item}
-use Rattle.elan_scope.specs.declared.scope.Usage.TheVariants.{Counter as Counts}
-use Rattle.type_names.specs.Declarations as d
-use Rattle.type_names.specs.Types.{defined_by}
-use Rattle.elan_walk.specs.declared.definition.Definition.{Definition}
-use Rattle.elan_names.specs.declared.type_name.TypeName.{TypeName}
-use Rattle.elan_names.specs.declared.entry.Entry.{Entry}
-use Rattle.elan_scope.specs.Scope.{find, find_own, find_own_type}
+use Rattle.elan_laws.specs.Below.elan_walk.specs.declared.node.Held.{Held}
+use Rattle.elan_laws.specs.Below.elan_walk.specs.declared.node.Held.TheVariants.{Variable, Constant, Bound}
+use Rattle.elan_laws.specs.Below.elan_walk.specs.Nodes as nodes
+use Rattle.elan_laws.specs.Below.elan_walk.specs.Nodes.{Node, other, sign, of_type, content, item}
+use Rattle.elan_laws.specs.Below.elan_scope.specs.declared.scope.Usage.TheVariants.{Counter as Counts}
+use Rattle.elan_laws.specs.Below.type_names.specs.Declarations as d
+use Rattle.elan_laws.specs.Below.type_names.specs.Types.{defined_by}
+use Rattle.elan_laws.specs.Below.elan_walk.specs.declared.definition.Definition.{Definition}
+use Rattle.elan_laws.specs.Below.elan_names.specs.declared.type_name.TypeName.{TypeName}
+use Rattle.elan_laws.specs.Below.elan_names.specs.declared.entry.Entry.{Entry}
+use Rattle.elan_laws.specs.Below.elan_scope.specs.Scope.{find, find_own, find_own_type}
 use Rattle.elan_laws.specs.Served.{HasOdd, HasBody, AreServed, AllServed}
 
 abbrev fst : {A : Type 0} {B : A → Type 0} → (a : A) × B a → A

@@ -3,23 +3,23 @@ use Rattle.std.proofs.Common.{◌≡◌, ℕ, zero, suc, List, [], ◌∷◌, le
 use Rattle.std.specs.Prelude.{slice_get, slice_index_or}
 use Rattle.elan_types.specs.declared.elan_type.ElanType.{ElanType}
 use Rattle.elan_tree.specs.declared.tree.Tree.{Tree}
-use Rattle.elan_scope.specs.declared.delivery.Delivery.{Delivery}
-use Rattle.elan_scope.specs.declared.delivery.Delivery.TheVariants.{Open, Nothing, Of}
-use Rattle.elan_names.specs.declared.heading.What.{What}
-use Rattle.elan_names.specs.declared.heading.What.TheVariants.{Routine, Refinement}
-use Rattle.elan_names.specs.declared.heading.Heading.{Heading}
-use Rattle.elan_scope.specs.declared.env.Env.{Env}
-use Rattle.elan_scope.specs.declared.known.Known.{Known}
-use Rattle.elan_scope.specs.Known.{delivered, delivery_at}
-use Rattle.elan_scope.specs.Phrase.{Phrase}
-use Rattle.elan_scope.specs.Ruled.{Ruled, gives, breaks, hangs}
-use Rattle.elan_meant.specs.declared.meant.Meant.{Meant}
-use Rattle.elan_rules.specs.Meaning.{judged}
-use Rattle.type_names.specs.Bodies.{headings}
-use Rattle.elan_judge.specs.Level.{level_in, text}
-use Rattle.elan_judge.specs.Refinements.{bodies_within, delivery_of, last_unit, outcome, unit_delivery, known_after}
-use Rattle.elan_judge.proofs.Inferred.{Below, same_meaning}
-use Rattle.elan_judge.proofs.Settled.{not_open, from, told_found, open_last}
+use Rattle.elan_laws.specs.Below.elan_scope.specs.declared.delivery.Delivery.{Delivery}
+use Rattle.elan_laws.specs.Below.elan_scope.specs.declared.delivery.Delivery.TheVariants.{Open, Nothing, Of}
+use Rattle.elan_laws.specs.Below.elan_names.specs.declared.heading.What.{What}
+use Rattle.elan_laws.specs.Below.elan_names.specs.declared.heading.What.TheVariants.{Routine, Refinement}
+use Rattle.elan_laws.specs.Below.elan_names.specs.declared.heading.Heading.{Heading}
+use Rattle.elan_laws.specs.Below.elan_scope.specs.declared.env.Env.{Env}
+use Rattle.elan_laws.specs.Below.elan_scope.specs.declared.known.Known.{Known}
+use Rattle.elan_laws.specs.Below.elan_scope.specs.Known.{delivered, delivery_at}
+use Rattle.elan_laws.specs.Below.elan_scope.specs.Phrase.{Phrase}
+use Rattle.elan_laws.specs.Below.elan_scope.specs.Ruled.{Ruled, gives, breaks, hangs}
+use Rattle.elan_laws.specs.Below.elan_meant.specs.declared.meant.Meant.{Meant}
+use Rattle.elan_laws.specs.Below.elan_rules.specs.Meaning.{judged}
+use Rattle.elan_laws.specs.Below.type_names.specs.Bodies.{headings}
+use Rattle.elan_laws.specs.Below.elan_judge.specs.Level.{level_in, text}
+use Rattle.elan_laws.specs.Below.elan_judge.specs.Refinements.{bodies_within, delivery_of, last_unit, outcome, unit_delivery, known_after}
+use Rattle.elan_laws.specs.Below.elan_judge.proofs.Inferred.{Below, same_meaning}
+use Rattle.elan_laws.specs.Below.elan_judge.proofs.Settled.{not_open, from, told_found, open_last}
 use Rattle.elan_laws.specs.Settled.{Delivers, Settles, IsSettled}
 
 -- what a heading says

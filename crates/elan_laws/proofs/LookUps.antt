@@ -1,6 +1,6 @@
 -- What is declared is found, and a refinement that is found is a body.
 use Rattle.std.proofs.Common.{◌≡◌, ℕ, ◌+◌, Bool, true, false, ◌&&◌, if◌then◌else◌, List, [], ◌∷◌, ◌++◌, Option, Some}
-use Rattle.elan_names.specs.declared.entry.Denotes.TheVariants as denotes
+use Rattle.elan_laws.specs.Below.elan_names.specs.declared.entry.Denotes.TheVariants as denotes
 use Rattle.std.specs.Prelude.{flat_map}
 use Rattle.std.proofs.Common.{None, refl, sym, ap, subst, ◌∙◌, ◌⊎◌, inl, inr}
 use Rattle.std.specs.Prelude.{option_and_then, option_map, option_to_list, slice_get, map}
@@ -13,33 +13,33 @@ use Rattle.elan_tree.specs.declared.written_type.Formal.{Formal}
 use Rattle.elan_tree.specs.declared.tree.Refinement.{Refinement}
 use Rattle.elan_tree.specs.declared.tree.LevelUnit.{LevelUnit}
 use Rattle.elan_tree.specs.declared.tree.LevelUnit.TheVariants as level
-use Rattle.elan_walk.specs.Nodes as nodes
-use Rattle.elan_walk.specs.Nodes.{Node}
-use Rattle.elan_names.specs.declared.entry.Entry.{Entry}
-use Rattle.elan_scope.specs.declared.scope.Scope.{Scope}
-use Rattle.elan_scope.specs.declared.scope.Within.{Within}
-use Rattle.elan_scope.specs.declared.scope.Home.{Home}
-use Rattle.elan_names.specs.declared.heading.Heading.{Heading}
+use Rattle.elan_laws.specs.Below.elan_walk.specs.Nodes as nodes
+use Rattle.elan_laws.specs.Below.elan_walk.specs.Nodes.{Node}
+use Rattle.elan_laws.specs.Below.elan_names.specs.declared.entry.Entry.{Entry}
+use Rattle.elan_laws.specs.Below.elan_scope.specs.declared.scope.Scope.{Scope}
+use Rattle.elan_laws.specs.Below.elan_scope.specs.declared.scope.Within.{Within}
+use Rattle.elan_laws.specs.Below.elan_scope.specs.declared.scope.Home.{Home}
+use Rattle.elan_laws.specs.Below.elan_names.specs.declared.heading.Heading.{Heading}
 use Rattle.std.specs.Option.{option_or}
-use Rattle.elan_names.specs.Names.{cells_held}
-use Rattle.elan_scope.specs.Scope.{first_from, find, found, found_in, from_inside, routine_layer, level_layer, packet_layer, predefined_layer}
-use Rattle.elan_names.specs.declared.interface.Inserted.{Inserted}
-use Rattle.elan_scope.specs.walks.Seen.{found_in_packets, found_around, found_within}
-use Rattle.elan_scope.proofs.Layers.{found_as}
-use Rattle.elan_names.proofs.Named.{first_heading_from}
-use Rattle.elan_scope.specs.Scope.{first_heading, is_refinement, is_refined, number_in, number_of, refinement_in}
-use Rattle.elan_scope.specs.Scope.{Found}
-use Rattle.elan_scope.specs.declared.scope.Home.TheVariants.{Routine as of_routine}
-use Rattle.elan_names.specs.declared.heading.What.TheVariants as what
-use Rattle.elan_walk.specs.declared.node.Held.TheVariants.{Variable, Constant, Bound}
+use Rattle.elan_laws.specs.Below.elan_names.specs.Names.{cells_held}
+use Rattle.elan_laws.specs.Below.elan_scope.specs.Scope.{first_from, find, found, found_in, from_inside, routine_layer, level_layer, packet_layer, predefined_layer}
+use Rattle.elan_laws.specs.Below.elan_names.specs.declared.interface.Inserted.{Inserted}
+use Rattle.elan_laws.specs.Below.elan_scope.specs.walks.Seen.{found_in_packets, found_around, found_within}
+use Rattle.elan_laws.specs.Below.elan_scope.proofs.Layers.{found_as}
+use Rattle.elan_laws.specs.Below.elan_names.proofs.Named.{first_heading_from}
+use Rattle.elan_laws.specs.Below.elan_scope.specs.Scope.{first_heading, is_refinement, is_refined, number_in, number_of, refinement_in}
+use Rattle.elan_laws.specs.Below.elan_scope.specs.Scope.{Found}
+use Rattle.elan_laws.specs.Below.elan_scope.specs.declared.scope.Home.TheVariants.{Routine as of_routine}
+use Rattle.elan_laws.specs.Below.elan_names.specs.declared.heading.What.TheVariants as what
+use Rattle.elan_laws.specs.Below.elan_walk.specs.declared.node.Held.TheVariants.{Variable, Constant, Bound}
 use Rattle.std.proofs.lemmas.Bool.Decides.{Decides-eqb}
-use Rattle.type_names.specs.Declarations as d
-use Rattle.elan_names.specs.declared.type_name.TypeName.{TypeName}
-use Rattle.elan_names.specs.Types.{first_type}
-use Rattle.type_names.specs.Types.{type_name, names_from, names_of, in_units, in_refinements, refinement_definitions}
-use Rattle.type_names.proofs.Looked.{look_append}
-use Rattle.elan_walk.specs.declared.definition.Definition.{Definition}
-use Rattle.type_names.specs.Bodies as b
+use Rattle.elan_laws.specs.Below.type_names.specs.Declarations as d
+use Rattle.elan_laws.specs.Below.elan_names.specs.declared.type_name.TypeName.{TypeName}
+use Rattle.elan_laws.specs.Below.elan_names.specs.Types.{first_type}
+use Rattle.elan_laws.specs.Below.type_names.specs.Types.{type_name, names_from, names_of, in_units, in_refinements, refinement_definitions}
+use Rattle.elan_laws.specs.Below.type_names.proofs.Looked.{look_append}
+use Rattle.elan_laws.specs.Below.elan_walk.specs.declared.definition.Definition.{Definition}
+use Rattle.elan_laws.specs.Below.type_names.specs.Bodies as b
 use Rattle.elan_laws.specs.Served.{HasBody}
 use Rattle.elan_types.specs.declared.elan_type.Parameter.{Parameter}
 use Rattle.elan_laws.proofs.Declared.{Named}

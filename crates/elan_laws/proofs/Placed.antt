@@ -19,48 +19,48 @@ use Rattle.elan_types.specs.declared.core_phrase.Actual.{Actual}
 use Rattle.elan_types.specs.declared.core_phrase.Actual.TheVariants as actual
 use Rattle.elan_types.specs.declared.core_phrase.ValuePhrase.{ValuePhrase}
 use Rattle.elan_types.specs.declared.core_phrase.Exit.{Exit}
-use Rattle.elan_scope.specs.declared.delivery.Delivery.{Delivery}
-use Rattle.elan_scope.specs.declared.delivery.Delivery.TheVariants.{Open, Nothing, Of}
-use Rattle.elan_names.specs.declared.heading.Heading.{Heading}
-use Rattle.elan_names.specs.declared.heading.Sort.{Sort}
-use Rattle.elan_names.specs.declared.heading.Sort.TheVariants.{Procedure, Operator}
-use Rattle.elan_scope.specs.declared.scope.Scope.{Scope}
-use Rattle.elan_scope.specs.Scope.{Found}
-use Rattle.elan_scope.specs.declared.scope.Home.{Home}
-use Rattle.elan_names.specs.declared.denoter.Denoter.{Denoter}
-use Rattle.elan_names.specs.declared.denoter.Denoter.TheVariants as denoters
-use Rattle.elan_names.specs.declared.entry.Denotes.{Denotes}
-use Rattle.elan_names.specs.declared.entry.Denotes.TheVariants as denotes
-use Rattle.elan_scope.specs.declared.scope.Usage.{Usage}
-use Rattle.elan_scope.specs.declared.scope.Usage.TheVariants.{Expression, Counter}
-use Rattle.elan_scope.specs.declared.known.Known.{Known}
-use Rattle.elan_names.specs.Callees.{Callee}
-use Rattle.elan_names.specs.Callees.{Predefined, Body}
-use Rattle.elan_names.specs.declared.predefined.Predefined.TheVariants.{Operation, Change, Request, OnSpaces, ErrorStop}
-use Rattle.elan_scope.specs.Known.{leads_back, delivery_at}
+use Rattle.elan_laws.specs.Below.elan_scope.specs.declared.delivery.Delivery.{Delivery}
+use Rattle.elan_laws.specs.Below.elan_scope.specs.declared.delivery.Delivery.TheVariants.{Open, Nothing, Of}
+use Rattle.elan_laws.specs.Below.elan_names.specs.declared.heading.Heading.{Heading}
+use Rattle.elan_laws.specs.Below.elan_names.specs.declared.heading.Sort.{Sort}
+use Rattle.elan_laws.specs.Below.elan_names.specs.declared.heading.Sort.TheVariants.{Procedure, Operator}
+use Rattle.elan_laws.specs.Below.elan_scope.specs.declared.scope.Scope.{Scope}
+use Rattle.elan_laws.specs.Below.elan_scope.specs.Scope.{Found}
+use Rattle.elan_laws.specs.Below.elan_scope.specs.declared.scope.Home.{Home}
+use Rattle.elan_laws.specs.Below.elan_names.specs.declared.denoter.Denoter.{Denoter}
+use Rattle.elan_laws.specs.Below.elan_names.specs.declared.denoter.Denoter.TheVariants as denoters
+use Rattle.elan_laws.specs.Below.elan_names.specs.declared.entry.Denotes.{Denotes}
+use Rattle.elan_laws.specs.Below.elan_names.specs.declared.entry.Denotes.TheVariants as denotes
+use Rattle.elan_laws.specs.Below.elan_scope.specs.declared.scope.Usage.{Usage}
+use Rattle.elan_laws.specs.Below.elan_scope.specs.declared.scope.Usage.TheVariants.{Expression, Counter}
+use Rattle.elan_laws.specs.Below.elan_scope.specs.declared.known.Known.{Known}
+use Rattle.elan_laws.specs.Below.elan_names.specs.Callees.{Callee}
+use Rattle.elan_laws.specs.Below.elan_names.specs.Callees.{Predefined, Body}
+use Rattle.elan_laws.specs.Below.elan_names.specs.declared.predefined.Predefined.TheVariants.{Operation, Change, Request, OnSpaces, ErrorStop}
+use Rattle.elan_laws.specs.Below.elan_scope.specs.Known.{leads_back, delivery_at}
 use Rattle.std.specs.Prelude.{◌||◌, is_some}
-use Rattle.elan_names.specs.declared.type_name.TypeName.{TypeName}
-use Rattle.elan_scope.specs.Scope.{Callable, number_named, find, find_own, find_own_type, is_known, has_open, is_alike, left, first_heading}
-use Rattle.elan_scope.specs.Scope.{types_of, refinement_named}
-use Rattle.elan_scope.specs.Phrase as form
-use Rattle.elan_scope.specs.Phrase.{Form, Plain, plain}
-use Rattle.elan_scope.specs.Ruled as ruled
-use Rattle.elan_scope.specs.Ruled.{Ruled, hangs}
-use Rattle.elan_meant.specs.declared.meant.Meant.{Meant}
-use Rattle.elan_meant.specs.declared.meant.Meant.TheVariants.{Absent, Variable, Value, Left, Labels, Start}
-use Rattle.elan_meant.specs.Verdict.{Verdict, gives, breaks, ◌>>=◌, told, unless}
-use Rattle.elan_meant.specs.Operands.{delivers, fit, chosen, becomes}
-use Rattle.elan_meant.specs.Parts as p
-use Rattle.value_rules.specs.Values as v
-use Rattle.value_rules.specs.walks.Steps as value_walk
-use Rattle.value_rules.specs.Calls as r
-use Rattle.elan_rules.specs.Units as u
-use Rattle.elan_rules.specs.Loops as o
-use Rattle.elan_rules.specs.walks.UnitSteps as unit_walk
-use Rattle.elan_rules.specs.Choices as c
-use Rattle.elan_rules.specs.walks.ChoiceSteps as choice_walk
-use Rattle.elan_rules.specs.Rules as all
-use Rattle.elan_rules.specs.Rules.{rule, ruled}
+use Rattle.elan_laws.specs.Below.elan_names.specs.declared.type_name.TypeName.{TypeName}
+use Rattle.elan_laws.specs.Below.elan_scope.specs.Scope.{Callable, number_named, find, find_own, find_own_type, is_known, has_open, is_alike, left, first_heading}
+use Rattle.elan_laws.specs.Below.elan_scope.specs.Scope.{types_of, refinement_named}
+use Rattle.elan_laws.specs.Below.elan_scope.specs.Phrase as form
+use Rattle.elan_laws.specs.Below.elan_scope.specs.Phrase.{Form, Plain, plain}
+use Rattle.elan_laws.specs.Below.elan_scope.specs.Ruled as ruled
+use Rattle.elan_laws.specs.Below.elan_scope.specs.Ruled.{Ruled, hangs}
+use Rattle.elan_laws.specs.Below.elan_meant.specs.declared.meant.Meant.{Meant}
+use Rattle.elan_laws.specs.Below.elan_meant.specs.declared.meant.Meant.TheVariants.{Absent, Variable, Value, Left, Labels, Start}
+use Rattle.elan_laws.specs.Below.elan_meant.specs.Verdict.{Verdict, gives, breaks, ◌>>=◌, told, unless}
+use Rattle.elan_laws.specs.Below.elan_meant.specs.Operands.{delivers, fit, chosen, becomes}
+use Rattle.elan_laws.specs.Below.elan_meant.specs.Parts as p
+use Rattle.elan_laws.specs.Below.value_rules.specs.Values as v
+use Rattle.elan_laws.specs.Below.value_rules.specs.walks.Steps as value_walk
+use Rattle.elan_laws.specs.Below.value_rules.specs.Calls as r
+use Rattle.elan_laws.specs.Below.elan_rules.specs.Units as u
+use Rattle.elan_laws.specs.Below.elan_rules.specs.Loops as o
+use Rattle.elan_laws.specs.Below.elan_rules.specs.walks.UnitSteps as unit_walk
+use Rattle.elan_laws.specs.Below.elan_rules.specs.Choices as c
+use Rattle.elan_laws.specs.Below.elan_rules.specs.walks.ChoiceSteps as choice_walk
+use Rattle.elan_laws.specs.Below.elan_rules.specs.Rules as all
+use Rattle.elan_laws.specs.Below.elan_rules.specs.Rules.{rule, ruled}
 use Rattle.elan_laws.specs.Order.{Follows, own}
 
 -- among these places

@@ -2,16 +2,16 @@
 use Rattle.std.proofs.Common.{◌≡◌, ℕ, suc, List, [], ◌∷◌, ◌++◌, Option, Some, None, refl, sym, ap, subst, ◌∙◌, arith, inl, inr}
 use Rattle.std.specs.List.{Contains}
 use Rattle.elan_tree.specs.declared.tree.Tree.{Tree}
-use Rattle.elan_meant.specs.declared.meant.Meant.{Meant}
-use Rattle.elan_scope.specs.declared.env.Env.{Env}
-use Rattle.elan_scope.specs.declared.known.Known.{Known}
-use Rattle.elan_scope.specs.Phrase.{Phrase, phrase, Parts, none, part}
-use Rattle.elan_scope.specs.Ruled.{Fault, Ruled, gives, breaks, hangs, ◌>>=◌, before}
-use Rattle.elan_rules.specs.Rules.{ruled}
-use Rattle.elan_rules.specs.Meaning.{phrases, IsFirst, judged, judged_all}
-use Rattle.elan_rules.proofs.First as first
-use Rattle.type_names.specs.Faults.{first_fault}
-use Rattle.elan_judge.specs.Level.{text}
+use Rattle.elan_laws.specs.Below.elan_meant.specs.declared.meant.Meant.{Meant}
+use Rattle.elan_laws.specs.Below.elan_scope.specs.declared.env.Env.{Env}
+use Rattle.elan_laws.specs.Below.elan_scope.specs.declared.known.Known.{Known}
+use Rattle.elan_laws.specs.Below.elan_scope.specs.Phrase.{Phrase, phrase, Parts, none, part}
+use Rattle.elan_laws.specs.Below.elan_scope.specs.Ruled.{Fault, Ruled, gives, breaks, hangs, ◌>>=◌, before}
+use Rattle.elan_laws.specs.Below.elan_rules.specs.Rules.{ruled}
+use Rattle.elan_laws.specs.Below.elan_rules.specs.Meaning.{phrases, IsFirst, judged, judged_all}
+use Rattle.elan_laws.specs.Below.elan_rules.proofs.First as first
+use Rattle.elan_laws.specs.Below.type_names.specs.Faults.{first_fault}
+use Rattle.elan_laws.specs.Below.elan_judge.specs.Level.{text}
 use Rattle.elan_check.specs.Text.{IsEarliest, Refused, faults, known}
 use Rattle.elan_laws.specs.Places.{places, type_places}
 use Rattle.elan_laws.specs.Order.{Follows, ends, stays, goes_on, own, in_phrase, in_parts}

@@ -12,31 +12,31 @@ use Rattle.eu_base.specs.declared.value.Kind.{Kind}
 use Rattle.eu_base.specs.declared.request.RequestName.{RequestName}
 use Rattle.eu_base.specs.Requests.{request_result}
 use Rattle.elan_types.specs.Types.{type_in, shape_in, held_const, held_var}
-use Rattle.elan_names.specs.declared.heading.Sort.{Sort}
-use Rattle.elan_names.specs.declared.heading.What.{What}
-use Rattle.elan_names.specs.declared.heading.What.TheVariants.{Routine, Refinement}
-use Rattle.elan_names.specs.declared.heading.Heading.{Heading}
-use Rattle.elan_scope.specs.declared.scope.Scope.{Scope}
-use Rattle.elan_scope.specs.declared.scope.Within.{Within}
-use Rattle.elan_names.specs.Callees.{Predefined}
-use Rattle.elan_names.specs.declared.predefined.Predefined.{Predefined as Name}
+use Rattle.elan_laws.specs.Below.elan_names.specs.declared.heading.Sort.{Sort}
+use Rattle.elan_laws.specs.Below.elan_names.specs.declared.heading.What.{What}
+use Rattle.elan_laws.specs.Below.elan_names.specs.declared.heading.What.TheVariants.{Routine, Refinement}
+use Rattle.elan_laws.specs.Below.elan_names.specs.declared.heading.Heading.{Heading}
+use Rattle.elan_laws.specs.Below.elan_scope.specs.declared.scope.Scope.{Scope}
+use Rattle.elan_laws.specs.Below.elan_scope.specs.declared.scope.Within.{Within}
+use Rattle.elan_laws.specs.Below.elan_names.specs.Callees.{Predefined}
+use Rattle.elan_laws.specs.Below.elan_names.specs.declared.predefined.Predefined.{Predefined as Name}
 use Rattle.eu_base.specs.declared.space_operation.SpaceOperation.{SpaceOperation}
 use Rattle.eu_base.specs.SpaceOperations.{space_result_kind}
-use Rattle.elan_names.specs.declared.predefined.Predefined.TheVariants.{Operation, Change, Request, OnSpaces, ErrorStop}
-use Rattle.elan_names.specs.Predefined.{Row, predefined, parameters, result}
+use Rattle.elan_laws.specs.Below.elan_names.specs.declared.predefined.Predefined.TheVariants.{Operation, Change, Request, OnSpaces, ErrorStop}
+use Rattle.elan_laws.specs.Below.elan_names.specs.Predefined.{Row, predefined, parameters, result}
 use Rattle.std.specs.Prelude.{option_map, option_to_list}
-use Rattle.elan_names.specs.declared.interface.Inserted.{Inserted}
-use Rattle.elan_scope.specs.walks.Seen.{called_in}
-use Rattle.elan_scope.specs.Scope.{layers, routine_layer, level_layer, packet_layer, predefined_layer}
-use Rattle.elan_scope.specs.Scope.{Callable, Layer, own_callable, own_callables, predefined_callable}
+use Rattle.elan_laws.specs.Below.elan_names.specs.declared.interface.Inserted.{Inserted}
+use Rattle.elan_laws.specs.Below.elan_scope.specs.walks.Seen.{called_in}
+use Rattle.elan_laws.specs.Below.elan_scope.specs.Scope.{layers, routine_layer, level_layer, packet_layer, predefined_layer}
+use Rattle.elan_laws.specs.Below.elan_scope.specs.Scope.{Callable, Layer, own_callable, own_callables, predefined_callable}
 use Rattle.std.specs.Option.{option_or}
-use Rattle.elan_scope.specs.Scope.{first, first_in, called_by, is_called}
-use Rattle.elan_meant.specs.declared.meant.Meant.{Meant}
-use Rattle.elan_meant.specs.declared.meant.Meant.TheVariants.{Variable, Value, Done}
-use Rattle.elan_meant.specs.Verdict.{gives}
-use Rattle.elan_meant.specs.Operands.{delivers, fit, takes, chosen}
-use Rattle.elan_meant.specs.Parts.{value_of}
-use Rattle.value_rules.specs.Calls.{given, performed, values_in}
+use Rattle.elan_laws.specs.Below.elan_scope.specs.Scope.{first, first_in, called_by, is_called}
+use Rattle.elan_laws.specs.Below.elan_meant.specs.declared.meant.Meant.{Meant}
+use Rattle.elan_laws.specs.Below.elan_meant.specs.declared.meant.Meant.TheVariants.{Variable, Value, Done}
+use Rattle.elan_laws.specs.Below.elan_meant.specs.Verdict.{gives}
+use Rattle.elan_laws.specs.Below.elan_meant.specs.Operands.{delivers, fit, takes, chosen}
+use Rattle.elan_laws.specs.Below.elan_meant.specs.Parts.{value_of}
+use Rattle.elan_laws.specs.Below.value_rules.specs.Calls.{given, performed, values_in}
 
 both : (a b : Bool) → (a && b) ≡ true → b ≡ true
 both true b e = e

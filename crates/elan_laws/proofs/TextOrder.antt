@@ -19,15 +19,15 @@ use Rattle.elan_tree.specs.declared.phrase.Expr.TheOpen.{Expr-F, Limit-F, Unit-F
 use Rattle.elan_tree.specs.declared.phrase.Expr.TheFolds.{ind-Unit, map-Expr, map-Limit, map-Unit, map-Branch, map-Case, map-Counter, map-Item}
 use Rattle.elan_tree.specs.declared.phrase.Expr.TheFolds.{fold-roll-Expr, fold-roll-Limit, fold-roll-Unit, fold-roll-Branch, fold-roll-Case}
 use Rattle.elan_tree.specs.declared.phrase.Expr.TheFolds.{fold-roll-Counter, fold-roll-Item}
-use Rattle.elan_scope.specs.declared.delivery.Delivery.{Delivery}
-use Rattle.elan_scope.specs.declared.delivery.Delivery.TheVariants.{Open, Nothing, Of}
-use Rattle.elan_scope.specs.declared.scope.Scope.{Scope}
-use Rattle.elan_scope.specs.Phrase as form
-use Rattle.elan_scope.specs.Phrase.{plain, Phrase, phrase, all_of}
+use Rattle.elan_laws.specs.Below.elan_scope.specs.declared.delivery.Delivery.{Delivery}
+use Rattle.elan_laws.specs.Below.elan_scope.specs.declared.delivery.Delivery.TheVariants.{Open, Nothing, Of}
+use Rattle.elan_laws.specs.Below.elan_scope.specs.declared.scope.Scope.{Scope}
+use Rattle.elan_laws.specs.Below.elan_scope.specs.Phrase as form
+use Rattle.elan_laws.specs.Below.elan_scope.specs.Phrase.{plain, Phrase, phrase, all_of}
 use Rattle.std.specs.Str.{bytes_eq}
-use Rattle.value_rules.specs.Calls.{begin}
-use Rattle.elan_judge.specs.Shape as shape
-use Rattle.elan_judge.specs.walks.Steps as walk
+use Rattle.elan_laws.specs.Below.value_rules.specs.Calls.{begin}
+use Rattle.elan_laws.specs.Below.elan_judge.specs.Shape as shape
+use Rattle.elan_laws.specs.Below.elan_judge.specs.walks.Steps as walk
 use Rattle.elan_laws.specs.Places as at
 use Rattle.elan_laws.specs.Order.{Follows, IsSame, in_phrase, in_parts}
 use Rattle.elan_laws.proofs.Through.{both, same, twice, nothing, equal, later, without_first}

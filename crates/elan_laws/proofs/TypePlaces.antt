@@ -26,18 +26,18 @@ use Rattle.elan_tree.specs.declared.tree.LevelUnit.{LevelUnit}
 use Rattle.elan_tree.specs.declared.tree.LevelUnit.TheVariants as level
 use Rattle.elan_tree.specs.declared.tree.Tree.{Tree}
 use Rattle.elan_tree.specs.declared.tree.Tree.TheVariants as tree
-use Rattle.elan_walk.specs.Nodes as nodes
-use Rattle.elan_walk.specs.Nodes.{Node, alone, other, sign, of_type, item, let_name, abbreviation, new_type, content}
-use Rattle.elan_names.specs.declared.type_name.TypeName.{TypeName}
-use Rattle.elan_names.specs.declared.type_name.Named.{Named}
-use Rattle.elan_names.specs.declared.type_name.Named.TheVariants as named
-use Rattle.elan_scope.specs.declared.env.Env.{Env}
-use Rattle.elan_scope.specs.Ruled.{Fault}
-use Rattle.elan_scope.specs.Shown.{shown_types}
-use Rattle.elan_walk.specs.declared.definition.Definition.{Definition}
-use Rattle.type_names.specs.Types.{first_from, names_of, body_definitions, level_definitions, look, size_in, size_of, is_broken}
-use Rattle.type_names.specs.Faults as faults
-use Rattle.type_names.specs.Faults.{Here, here, Judged, JudgedFields}
+use Rattle.elan_laws.specs.Below.elan_walk.specs.Nodes as nodes
+use Rattle.elan_laws.specs.Below.elan_walk.specs.Nodes.{Node, alone, other, sign, of_type, item, let_name, abbreviation, new_type, content}
+use Rattle.elan_laws.specs.Below.elan_names.specs.declared.type_name.TypeName.{TypeName}
+use Rattle.elan_laws.specs.Below.elan_names.specs.declared.type_name.Named.{Named}
+use Rattle.elan_laws.specs.Below.elan_names.specs.declared.type_name.Named.TheVariants as named
+use Rattle.elan_laws.specs.Below.elan_scope.specs.declared.env.Env.{Env}
+use Rattle.elan_laws.specs.Below.elan_scope.specs.Ruled.{Fault}
+use Rattle.elan_laws.specs.Below.elan_scope.specs.Shown.{shown_types}
+use Rattle.elan_laws.specs.Below.elan_walk.specs.declared.definition.Definition.{Definition}
+use Rattle.elan_laws.specs.Below.type_names.specs.Types.{first_from, names_of, body_definitions, level_definitions, look, size_in, size_of, is_broken}
+use Rattle.elan_laws.specs.Below.type_names.specs.Faults as faults
+use Rattle.elan_laws.specs.Below.type_names.specs.Faults.{Here, here, Judged, JudgedFields}
 use Rattle.elan_check.specs.Text.{faults as text_faults}
 use Rattle.elan_laws.specs.Places as at
 use Rattle.elan_laws.specs.Places.{type_places}

@@ -6,9 +6,9 @@ use lib.Pointwise.{pointwise}
 use Rattle.elan_types.specs.declared.elan_type.ElanType.{ElanType}
 use Rattle.elan_types.specs.Types.{same_type}
 use Rattle.elan_types.proofs.Types.{same_type_self}
-use Rattle.elan_names.specs.declared.type_name.TypeName.{TypeName}
-use Rattle.type_names.specs.Types as types
-use Rattle.elan_walk.specs.declared.definition.Definition.{Definition}
+use Rattle.elan_laws.specs.Below.elan_names.specs.declared.type_name.TypeName.{TypeName}
+use Rattle.elan_laws.specs.Below.type_names.specs.Types as types
+use Rattle.elan_laws.specs.Below.elan_walk.specs.declared.definition.Definition.{Definition}
 use Rattle.elan_tree.specs.declared.written_type.Name.{Name}
 use Rattle.elan_tree.specs.declared.written_type.TypePhrase.{TypePhrase}
 use Rattle.elan_tree.specs.declared.written_type.Formal.{Formal}
@@ -19,34 +19,34 @@ use Rattle.elan_tree.specs.declared.tree.LevelUnit.TheVariants as level
 use Rattle.elan_tree.specs.declared.tree.Export.{Export}
 use Rattle.elan_tree.specs.declared.tree.Level.{Level}
 use Rattle.elan_tree.specs.declared.tree.Tree.{Tree}
-use Rattle.elan_walk.specs.Nodes as nodes
-use Rattle.elan_walk.specs.Nodes.{Node}
-use Rattle.elan_walk.specs.Operators.{operator_text}
-use Rattle.elan_names.specs.declared.entry.Denotes.{Denotes}
-use Rattle.elan_names.specs.declared.entry.Denotes.TheVariants as denotes
-use Rattle.elan_names.specs.declared.entry.Entry.{Entry}
-use Rattle.elan_scope.specs.declared.env.Env.{Env}
-use Rattle.elan_scope.specs.declared.scope.Home.{Home}
-use Rattle.elan_scope.specs.declared.scope.Scope.{Scope}
-use Rattle.elan_scope.specs.Shown.{shown_types}
-use Rattle.elan_names.specs.declared.heading.Sort.{Sort}
-use Rattle.elan_names.specs.declared.heading.Sort.TheVariants.{Procedure, Operator}
-use Rattle.elan_scope.specs.declared.delivery.Delivery.TheVariants.{Open}
-use Rattle.elan_scope.specs.Scope.{is_alike}
-use Rattle.elan_scope.specs.Scope.{same_sort, types_of}
-use Rattle.elan_scope.specs.Known.{delivered}
-use Rattle.elan_scope.specs.Phrase as form
-use Rattle.elan_scope.specs.Phrase.{Phrase, leaf, all_of}
-use Rattle.type_names.specs.Declarations as d
-use Rattle.type_names.specs.Bodies as b
-use Rattle.elan_judge.specs.Level as l
+use Rattle.elan_laws.specs.Below.elan_walk.specs.Nodes as nodes
+use Rattle.elan_laws.specs.Below.elan_walk.specs.Nodes.{Node}
+use Rattle.elan_laws.specs.Below.elan_walk.specs.Operators.{operator_text}
+use Rattle.elan_laws.specs.Below.elan_names.specs.declared.entry.Denotes.{Denotes}
+use Rattle.elan_laws.specs.Below.elan_names.specs.declared.entry.Denotes.TheVariants as denotes
+use Rattle.elan_laws.specs.Below.elan_names.specs.declared.entry.Entry.{Entry}
+use Rattle.elan_laws.specs.Below.elan_scope.specs.declared.env.Env.{Env}
+use Rattle.elan_laws.specs.Below.elan_scope.specs.declared.scope.Home.{Home}
+use Rattle.elan_laws.specs.Below.elan_scope.specs.declared.scope.Scope.{Scope}
+use Rattle.elan_laws.specs.Below.elan_scope.specs.Shown.{shown_types}
+use Rattle.elan_laws.specs.Below.elan_names.specs.declared.heading.Sort.{Sort}
+use Rattle.elan_laws.specs.Below.elan_names.specs.declared.heading.Sort.TheVariants.{Procedure, Operator}
+use Rattle.elan_laws.specs.Below.elan_scope.specs.declared.delivery.Delivery.TheVariants.{Open}
+use Rattle.elan_laws.specs.Below.elan_scope.specs.Scope.{is_alike}
+use Rattle.elan_laws.specs.Below.elan_scope.specs.Scope.{same_sort, types_of}
+use Rattle.elan_laws.specs.Below.elan_scope.specs.Known.{delivered}
+use Rattle.elan_laws.specs.Below.elan_scope.specs.Phrase as form
+use Rattle.elan_laws.specs.Below.elan_scope.specs.Phrase.{Phrase, leaf, all_of}
+use Rattle.elan_laws.specs.Below.type_names.specs.Declarations as d
+use Rattle.elan_laws.specs.Below.type_names.specs.Bodies as b
+use Rattle.elan_laws.specs.Below.elan_judge.specs.Level as l
 use Rattle.elan_laws.specs.Served.{AreServed, AllServed}
 use Rattle.elan_laws.proofs.Declared.{NamedType, AllNamed, AllDefined, Fine, unit_alone_found, body_units_found}
 use Rattle.elan_laws.proofs.LookUps.{Has, in_first, in_second, Defines, defined_first, defined_second, refined, type_named, type_seen, bytes_self, named, own}
 use Rattle.elan_laws.proofs.LookUps.{HasHeading, heading_first, heading_second, heading_is, both_true, SubHeadings, Bodies}
 use Rattle.elan_laws.proofs.LookUps.{bodies_of, lead_append, nodes_lead, formals_lead, refinements_lead, units_lead}
-use Rattle.type_names.specs.walks.Headings.{all_headings}
-use Rattle.elan_judge.specs.walks.Units.{level_units}
+use Rattle.elan_laws.specs.Below.type_names.specs.walks.Headings.{all_headings}
+use Rattle.elan_laws.specs.Below.elan_judge.specs.walks.Units.{level_units}
 
 abbrev Sub : Scope → List Entry → Type 0
 Sub z es = (x : List ℕ) → Has es x → Has (own z) x

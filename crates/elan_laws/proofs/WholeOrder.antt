@@ -14,23 +14,23 @@ use Rattle.elan_tree.specs.declared.tree.Export.TheVariants as exported
 use Rattle.elan_tree.specs.declared.tree.Level.{Level}
 use Rattle.elan_tree.specs.declared.tree.Tree.{Tree}
 use Rattle.elan_tree.specs.declared.tree.Tree.TheVariants as tree
-use Rattle.elan_names.specs.declared.heading.Sort.{Sort}
-use Rattle.elan_names.specs.declared.heading.Sort.TheVariants.{Procedure, Operator}
-use Rattle.elan_scope.specs.declared.delivery.Delivery.TheVariants.{Open}
-use Rattle.elan_scope.specs.declared.env.Env.{Env}
-use Rattle.elan_scope.specs.declared.scope.Scope.{Scope}
-use Rattle.elan_scope.specs.Known.{delivered}
-use Rattle.elan_walk.specs.Operators.{operator_text}
-use Rattle.elan_scope.specs.Phrase.{Phrase, phrase, Parts, none, part}
-use Rattle.type_names.specs.Bodies.{result, bodies_in, bodies_of_units}
-use Rattle.elan_rules.specs.Meaning.{phrases, phrases_of}
-use Rattle.elan_judge.specs.Level as l
+use Rattle.elan_laws.specs.Below.elan_names.specs.declared.heading.Sort.{Sort}
+use Rattle.elan_laws.specs.Below.elan_names.specs.declared.heading.Sort.TheVariants.{Procedure, Operator}
+use Rattle.elan_laws.specs.Below.elan_scope.specs.declared.delivery.Delivery.TheVariants.{Open}
+use Rattle.elan_laws.specs.Below.elan_scope.specs.declared.env.Env.{Env}
+use Rattle.elan_laws.specs.Below.elan_scope.specs.declared.scope.Scope.{Scope}
+use Rattle.elan_laws.specs.Below.elan_scope.specs.Known.{delivered}
+use Rattle.elan_laws.specs.Below.elan_walk.specs.Operators.{operator_text}
+use Rattle.elan_laws.specs.Below.elan_scope.specs.Phrase.{Phrase, phrase, Parts, none, part}
+use Rattle.elan_laws.specs.Below.type_names.specs.Bodies.{result, bodies_in, bodies_of_units}
+use Rattle.elan_laws.specs.Below.elan_rules.specs.Meaning.{phrases, phrases_of}
+use Rattle.elan_laws.specs.Below.elan_judge.specs.Level as l
 use Rattle.elan_laws.specs.Places as at
 use Rattle.elan_laws.specs.Places.{places}
 use Rattle.elan_laws.specs.Order.{Follows, ends, IsSame, own, in_phrase, in_parts, leaves}
 use Rattle.elan_laws.proofs.Through.{behind, beside, both, same, twice, nothing, all_of_it, through}
 use Rattle.elan_laws.proofs.TextOrder.{places_of, parts_follow, one_part, body_units_follow, unit_alone_follows}
-use Rattle.elan_judge.specs.walks.Units.{level_units}
+use Rattle.elan_laws.specs.Below.elan_judge.specs.walks.Units.{level_units}
 
 -- ---- bodies
 

@@ -1,7 +1,7 @@
 -- The places of phrases, and their order.
 use Rattle.std.specs.Prelude.{ℕ, List, [], ◌∷◌, ◌++◌}
-use Rattle.elan_scope.specs.Phrase as form
-use Rattle.elan_scope.specs.Phrase.{Form, plain, Phrase, phrase, Parts, none, part}
+use Rattle.elan_laws.specs.Below.elan_scope.specs.Phrase as form
+use Rattle.elan_laws.specs.Below.elan_scope.specs.Phrase.{Form, plain, Phrase, phrase, Parts, none, part}
 
 -- The first list goes through the second from left to right, and may stand still or leave some out.
 pub data Follows : List ℕ → List ℕ → Type 0 where

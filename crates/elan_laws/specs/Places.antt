@@ -35,7 +35,7 @@ use Rattle.elan_tree.specs.declared.tree.LevelUnit.{LevelUnit}
 use Rattle.elan_tree.specs.declared.tree.LevelUnit.TheVariants as level
 use Rattle.elan_tree.specs.declared.tree.Tree.{Tree}
 use Rattle.elan_tree.specs.declared.tree.Tree.TheVariants as tree
-use Rattle.elan_walk.specs.Nodes.{Node, of_type, content, item, abbreviation, new_type, nodes}
+use Rattle.elan_laws.specs.Below.elan_walk.specs.Nodes.{Node, of_type, content, item, abbreviation, new_type, nodes}
 
 abbrev pub all : List (List ℕ) → List ℕ
 all [] = []

@@ -2,11 +2,11 @@
 -- where they are called.
 use Rattle.std.specs.Prelude.{◌≡◌, ℕ, zero, suc, true, List, Option, Some, None}
 use Rattle.std.specs.Option.{is_some}
-use Rattle.elan_scope.specs.Scope.{find, find_own, find_own_type, first_heading, is_alike, types_of, is_refinement, refinement_named}
-use Rattle.elan_scope.specs.declared.scope.Scope.{Scope}
-use Rattle.elan_scope.specs.Scope.{Found}
-use Rattle.elan_scope.specs.Phrase as form
-use Rattle.elan_scope.specs.Phrase.{Form, plain, Phrase, phrase, Parts, none, part}
+use Rattle.elan_laws.specs.Below.elan_scope.specs.Scope.{find, find_own, find_own_type, first_heading, is_alike, types_of, is_refinement, refinement_named}
+use Rattle.elan_laws.specs.Below.elan_scope.specs.declared.scope.Scope.{Scope}
+use Rattle.elan_laws.specs.Below.elan_scope.specs.Scope.{Found}
+use Rattle.elan_laws.specs.Below.elan_scope.specs.Phrase as form
+use Rattle.elan_laws.specs.Below.elan_scope.specs.Phrase.{Form, plain, Phrase, phrase, Parts, none, part}
 
 -- What is denoted as a refinement is one of the bodies.
 abbrev pub HasBody : Scope → List ℕ → Option Found → Type 0

@@ -3,15 +3,15 @@
 ghost use Rattle.std.specs.Prelude.{◌≡◌, ℕ, List, Some};
 ghost use Rattle.elan_tree.specs.declared.tree.Tree.{Tree};
 ghost use Rattle.elan_types.specs.declared.core_phrase.Actual.{Actual};
-ghost use Rattle.elan_names.specs.declared.heading.Sort.{Sort};
-ghost use Rattle.elan_scope.specs.declared.env.Env.{Env};
-ghost use Rattle.elan_scope.specs.declared.scope.Scope.{Scope};
-ghost use Rattle.elan_scope.specs.Scope.{Callable};
-ghost use Rattle.elan_meant.specs.declared.meant.Meant.{Meant};
-ghost use Rattle.elan_meant.specs.Operands.{chosen};
-ghost use Rattle.elan_meant.specs.Verdict.{gives};
-ghost use Rattle.value_rules.specs.Calls.{given, performed};
-ghost use Rattle.elan_judge.specs.Level.{text};
+ghost use Rattle.elan_laws.specs.Below.elan_names.specs.declared.heading.Sort.{Sort};
+ghost use Rattle.elan_laws.specs.Below.elan_scope.specs.declared.env.Env.{Env};
+ghost use Rattle.elan_laws.specs.Below.elan_scope.specs.declared.scope.Scope.{Scope};
+ghost use Rattle.elan_laws.specs.Below.elan_scope.specs.Scope.{Callable};
+ghost use Rattle.elan_laws.specs.Below.elan_meant.specs.declared.meant.Meant.{Meant};
+ghost use Rattle.elan_laws.specs.Below.elan_meant.specs.Operands.{chosen};
+ghost use Rattle.elan_laws.specs.Below.elan_meant.specs.Verdict.{gives};
+ghost use Rattle.elan_laws.specs.Below.value_rules.specs.Calls.{given, performed};
+ghost use Rattle.elan_laws.specs.Below.elan_judge.specs.Level.{text};
 ghost use Rattle.elan_laws.specs.Served.{AreServed};
 
 /// In every text each rule is given what it asks for: so many parts, and what it looks up. Each name that is declared,

@@ -3,10 +3,10 @@
 ghost use Rattle.std.specs.Prelude.{◌++◌, map};
 ghost use Rattle.std.specs.List.{Contains};
 ghost use Rattle.elan_tree.specs.declared.tree.Tree.{Tree};
-ghost use Rattle.elan_scope.specs.declared.env.Env.{Env};
-ghost use Rattle.elan_scope.specs.Ruled.{Fault};
-ghost use Rattle.elan_rules.specs.Meaning.{phrases, IsFirst};
-ghost use Rattle.elan_judge.specs.Level.{text};
+ghost use Rattle.elan_laws.specs.Below.elan_scope.specs.declared.env.Env.{Env};
+ghost use Rattle.elan_laws.specs.Below.elan_scope.specs.Ruled.{Fault};
+ghost use Rattle.elan_laws.specs.Below.elan_rules.specs.Meaning.{phrases, IsFirst};
+ghost use Rattle.elan_laws.specs.Below.elan_judge.specs.Level.{text};
 ghost use Rattle.elan_check.specs.Text.{Refused, faults, known};
 ghost use Rattle.elan_laws.specs.Places.{places, type_places};
 ghost use Rattle.elan_laws.specs.Order.{Follows, IsSame, in_phrase, leaves};

@@ -1,9 +1,9 @@
 -- What a packet shows that takes some operands.
 use Rattle.std.proofs.Common.{◌≡◌, ℕ, List, Option, None, if◌then◌else◌}
-use Rattle.elan_names.specs.declared.interface.Inserted.{Inserted}
-use Rattle.elan_names.specs.declared.heading.Sort.{Sort}
-use Rattle.elan_names.specs.Interfaces.{exports}
-use Rattle.elan_names.proofs.Named.{called_named}
+use Rattle.elan_meant.specs.Below.elan_names.specs.declared.interface.Inserted.{Inserted}
+use Rattle.elan_meant.specs.Below.elan_names.specs.declared.heading.Sort.{Sort}
+use Rattle.elan_meant.specs.Below.elan_names.specs.Interfaces.{exports}
+use Rattle.elan_meant.specs.Below.elan_names.proofs.Named.{called_named}
 use Rattle.elan_scope.specs.Scope.{first, own_callables}
 use Rattle.elan_scope.specs.walks.Seen.{called_in_packet}
 use Rattle.elan_scope.proofs.Layers.{seen_first}

@@ -6,3 +6,4 @@ pub mod Operands
 pub mod Parts
 pub mod Arms
 pub mod walks
+pub mod Below

@@ -4,7 +4,7 @@ use Rattle.std.specs.Option.{option_or, option_map_or}
 use Rattle.elan_types.specs.declared.elan_type.ElanType.{ElanType}
 use Rattle.elan_types.specs.declared.elan_type.Parameter.{Parameter}
 use Rattle.elan_types.specs.Types.{same_type}
-use Rattle.elan_names.specs.declared.heading.Sort.{Sort}
+use Rattle.elan_meant.specs.Below.elan_names.specs.declared.heading.Sort.{Sort}
 use Rattle.elan_scope.specs.declared.scope.Scope.{Scope}
 use Rattle.elan_scope.specs.Scope.{Callable, is_called, called_by, first, has_open, is_open_callable, own_callables}
 use Rattle.elan_meant.specs.declared.meant.Meant.{Meant}

@@ -3,6 +3,7 @@
 
 pub mod arity;
 pub mod arms;
+pub mod below;
 pub mod meant;
 pub mod operands;
 pub mod part;

@@ -3,18 +3,18 @@
 ghost use Rattle.std.specs.Prelude.{◌≡◌, map, option_map};
 ghost use Rattle.std.specs.Option.{option_or};
 ghost use Rattle.elan_types.specs.Types.{type_in};
-ghost use Rattle.elan_names.specs.Predefined.{predefined};
+ghost use Rattle.elan_meant.specs.Below.elan_names.specs.Predefined.{predefined};
 ghost use Rattle.elan_scope.specs.Scope as scopes;
-ghost use Rattle.elan_names.specs.walks.Seen as seen;
+ghost use Rattle.elan_meant.specs.Below.elan_names.specs.walks.Seen as seen;
 ghost use Rattle.elan_scope.specs.walks.Seen as looked;
 ghost use Rattle.elan_meant.specs.Operands as spec;
 
+use crate::below::of_elan_names::callable::{Callable, Parameters, predefined_callable};
+use crate::below::of_elan_names::heading::Sort;
+use crate::below::of_elan_names::headings::Headings;
+use crate::below::of_elan_names::interface::Inserted;
+use crate::below::of_elan_names::predefined::rows;
 use crate::meant::Meant;
-use elan_names::callable::{Callable, Parameters, predefined_callable};
-use elan_names::heading::Sort;
-use elan_names::headings::Headings;
-use elan_names::interface::Inserted;
-use elan_names::predefined::rows;
 use elan_scope::scope::Scope;
 use elan_types::ElanType;
 use eu_base::Kind;

@@ -17,3 +17,4 @@ pub use Rattle.elan_rules.specs.Loops
 pub use Rattle.elan_rules.specs.Choices
 pub mod Rules
 pub mod Meaning
+pub mod Below

@@ -2,6 +2,7 @@
 #![tactic(auto)]
 
 pub mod assignment;
+pub mod below;
 pub mod body;
 pub mod choice;
 pub mod list;

@@ -5,3 +5,4 @@ pub mod Ruled
 pub mod Known
 pub mod Answer
 pub mod walks
+pub mod Below

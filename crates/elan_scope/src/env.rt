@@ -3,7 +3,7 @@
 ghost use Rattle.std.specs.Prelude.{◌≡◌, ◌++◌, [], IfOk, OnOk};
 ghost use Rattle.elan_scope.specs.Shown as spec;
 
-use cell_kinds::Packet;
+use crate::below::of_cell_kinds::Packet;
 use elan_names::interface::{Inserted, Interface};
 use elan_names::type_directory::TypeDirectory;
 use elan_names::type_name::TypeName;

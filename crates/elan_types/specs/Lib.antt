@@ -3,3 +3,4 @@ pub mod Types
 pub mod Eval
 pub mod Command
 pub mod Nested
+pub mod Below

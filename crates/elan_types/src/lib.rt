@@ -1,6 +1,7 @@
 //! Types of ELAN, and what a text means: its core.
 #![tactic(auto)]
 
+pub mod below;
 mod core_phrase;
 mod elan_type;
 mod laws;

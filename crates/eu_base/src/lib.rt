@@ -4,6 +4,7 @@
 
 mod address;
 mod backing;
+pub mod below;
 mod cells;
 mod law;
 mod number;

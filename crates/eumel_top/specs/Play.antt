@@ -6,9 +6,9 @@ use Rattle.line_command.specs.declared.status.Status.TheVariants.{Done, BadWords
 use Rattle.session_lines.specs.declared.ending.Ending.{Ending}
 use Rattle.session_lines.specs.declared.ending.Ending.TheVariants as ending
 use Rattle.session_lines.specs.Sessions.{session_of}
-use Rattle.session_play.specs.declared.error.PlayError.{PlayError}
-use Rattle.session_play.specs.declared.error.PlayError.TheVariants as error
-use Rattle.session_play.specs.Play.{PlayEnds, PlayStops}
+use Rattle.eumel_top.specs.declared.error.PlayError.{PlayError}
+use Rattle.eumel_top.specs.declared.error.PlayError.TheVariants as error
+use Rattle.eumel_top.specs.SessionPlay.{PlayEnds, PlayStops}
 
 -- left and left' are the bytes left in the source before and after, taken and taken' those taken by the sink
 abbrev pub PlayAnswers : Bool → (left left' taken taken' : Option (List ℕ)) → Status → Type 0

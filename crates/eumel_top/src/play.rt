@@ -4,9 +4,9 @@ ghost use Rattle.eu_base.specs.Faults.{Rose};
 ghost use Rattle.line_command.specs.Answer.{HasCause};
 ghost use Rattle.eumel_top.specs.Play as spec;
 
+use crate::{Ending, PlayError, run_play};
 use edge::{Sink, Source};
 use line_command::Status;
-use session_play::{Ending, PlayError, run_play};
 use std::alloc::Global;
 
 /// Runs a session of the opening system.

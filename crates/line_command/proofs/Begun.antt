@@ -11,21 +11,21 @@ use Rattle.eu_base.specs.Values.{SpaceNo, blank_of}
 use Rattle.eu_base.specs.Cells.{Cell, Free, Cells, held_of, area_cell, run_cell, packet_cell, same_area, written}
 use Rattle.eu_base.specs.DataSpaces.{heads_of, no_spaces}
 use Rattle.eu_base.proofs.Places.{same_there}
-use Rattle.cell_kinds.specs.declared.packet.Packet.{Packet}
-use Rattle.cell_kinds.specs.Kinds.{packet_kinds}
+use Rattle.line_command.specs.Below.cell_kinds.specs.declared.packet.Packet.{Packet}
+use Rattle.line_command.specs.Below.cell_kinds.specs.Kinds.{packet_kinds}
 use Rattle.code_form.specs.Program.{Program, start_kinds}
 use Rattle.code_form.specs.Machine.{Mem, written_in, made_in, made, CanBeMade}
 use Rattle.elan_types.specs.declared.core_phrase.Core.{Core}
 use Rattle.elan_types.specs.Eval.{Slot}
 use Rattle.elan_types.specs.Command as command
 use Rattle.elan_types.specs.Command.{blanks}
-use Rattle.place_gen.specs.Correct.{StandsFor, HasVariables, HasSpaces, HasSlots}
+use Rattle.line_command.specs.Below.place_gen.specs.Correct.{StandsFor, HasVariables, HasSpaces, HasSlots}
 use Rattle.page_pool.specs.Pool.{Pages, Tell, Known}
-use Rattle.page_table.proofs.Framing.{nil_agree, stands_of}
+use Rattle.line_command.specs.Below.page_table.proofs.Framing.{nil_agree, stands_of}
 use Rattle.space_memory.specs.Memories.{StandsWhole, roots, new_memory}
-use Rattle.zero_machine.proofs.Written.{at_other, behind}
-use Rattle.code_gen.specs.Correct.{Behaves}
-use Rattle.code_gen.proofs.Plays.{has_blank}
+use Rattle.line_command.specs.Below.zero_machine.proofs.Written.{at_other, behind}
+use Rattle.line_command.specs.Below.code_gen.specs.Correct.{Behaves}
+use Rattle.line_command.specs.Below.code_gen.proofs.Plays.{has_blank}
 
 module _ (area : Area) where
   at_same : (cells : Cells) (k : ℕ) (n : Cell) → written cells (area_cell area k) n (area_cell area k) ≡ n

@@ -21,17 +21,17 @@ use Rattle.code_form.specs.Machine.{Position, Control, After, To, Stops, Unsaid,
 use Rattle.code_form.specs.Machine.{free, given, answered, answered_by, takes_reply, Stage, On, Over, Lost}
 use Rattle.code_form.specs.Machine.{after_stage, mark_stage, move_stage, reply_stage, stage_at, advance, carry_on, exec, have_room, start}
 use Rattle.code_form.specs.Machine as machine
-use Rattle.place_gen.specs.Correct.{Shows, Comes, scene_of}
-use Rattle.code_gen.specs.Program.{program_of}
-use Rattle.code_gen.proofs.Whole.{behaves}
+use Rattle.line_command.specs.Below.place_gen.specs.Correct.{Shows, Comes, scene_of}
+use Rattle.line_command.specs.Below.code_gen.specs.Program.{program_of}
+use Rattle.line_command.specs.Below.code_gen.proofs.Whole.{behaves}
 use Rattle.elan_tree.specs.declared.tree.Tree.{Tree}
-use Rattle.elan_scope.specs.declared.env.Env.{Env}
-use Rattle.units.specs.Packets.{nothing}
-use Rattle.elan_check.specs.Packets.{AreCompiled, none}
+use Rattle.line_command.specs.Below.elan_scope.specs.declared.env.Env.{Env}
+use Rattle.line_command.specs.Below.units.specs.Packets.{nothing}
+use Rattle.line_command.specs.Below.elan_check.specs.Packets.{AreCompiled, none}
 use Rattle.elan_types.specs.declared.core_phrase.Core.{Core}
 use Rattle.elan_types.specs.Typing.{IsWellTyped}
 use Rattle.elan_types.specs.Command.{Ending, Ended, Stopped, OutOfMarks, Asks, evaluate, at_start}
-use Rattle.elan_check.specs.Text as tree
+use Rattle.line_command.specs.Below.elan_check.specs.Text as tree
 use Rattle.line_command.proofs.Begun.{begun, has_begun}
 use Rattle.packet_store.specs.Meaning.{means}
 use Rattle.line_command.specs.Meaning.{Means}

@@ -1,8 +1,8 @@
 -- A text that is refused writes the line that says so.
 use Rattle.std.proofs.Common.{◌≡◌, ℕ, List, Result, Ok, Err, subst, sym}
 use Rattle.std.specs.Prelude.{IfOk}
-use Rattle.containers.specs.declared.no_memory.NoMemory.{NoMemory}
-use Rattle.units.specs.declared.error.Refusal.{Refusal}
+use Rattle.line_command.specs.Below.containers.specs.declared.no_memory.NoMemory.{NoMemory}
+use Rattle.line_command.specs.Below.units.specs.declared.error.Refusal.{Refusal}
 use Rattle.line_command.specs.Meaning.{IsRefused, TextWrites, refused, refusal_line}
 
 pub refused_line : (text : List ℕ) (r : Refusal) (q : Result (List ℕ) NoMemory) → IsRefused text r → IfOk q (λ line. line ≡ refusal_line r text)

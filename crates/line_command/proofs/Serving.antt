@@ -16,11 +16,11 @@ use Rattle.code_form.specs.Machine.{Mem, Position, Control, asking, Rest, have_r
 use Rattle.code_form.specs.declared.waits.Waits.{Waits}
 use Rattle.code_form.specs.declared.waits.Waits.TheVariants.{Nothing, Asked, Refused}
 use Rattle.code_form.specs.Runs.{Rests, IsPaused, asked}
-use Rattle.place_gen.specs.Correct.{HasSlots, Shows, Comes}
-use Rattle.place_gen.specs.Correct as place
-use Rattle.code_gen.specs.Correct.{Behaves}
-use Rattle.zero_state.specs.Stepping.{mem_of, scene_of}
-use Rattle.zero_machine.specs.Running.{RestsSo}
+use Rattle.line_command.specs.Below.place_gen.specs.Correct.{HasSlots, Shows, Comes}
+use Rattle.line_command.specs.Below.place_gen.specs.Correct as place
+use Rattle.line_command.specs.Below.code_gen.specs.Correct.{Behaves}
+use Rattle.line_command.specs.Below.zero_state.specs.Stepping.{mem_of, scene_of}
+use Rattle.line_command.specs.Below.zero_machine.specs.Running.{RestsSo}
 use Rattle.elan_types.specs.declared.core_phrase.Core.{Core}
 use Rattle.elan_types.specs.Eval.{World}
 use Rattle.elan_types.specs.Command.{Ending, Ended, Stopped, OutOfMarks, Asks, evaluate, at_start, blanks, start_kinds}

@@ -1,7 +1,7 @@
 -- Each line has an output.
 use Rattle.std.proofs.Common.{ℕ, false, List, length, refl, ⊎_elim}
 use Rattle.std.proofs.lemmas.Bool.{cases_lt}
-use Rattle.units.specs.Packets.{nothing}
+use Rattle.line_command.specs.Below.units.specs.Packets.{nothing}
 use Rattle.packet_store.specs.Meaning.{HasOutcome, meaning, refusal}
 use Rattle.line_command.specs.Meaning.{TextWrites, runs, refused}
 use Rattle.line_command.specs.Line.{first_line, longest_line, LineWrites, program, too_long}

@@ -1,7 +1,7 @@
 -- A text has one meaning or one refusal, so a line writes one output.
 use Rattle.std.proofs.Common.{◌≡◌, ℕ, List, refl, sym, ap, subst, ◌∙◌, arith}
 use Rattle.elan_types.specs.declared.core_phrase.Core.{Core}
-use Rattle.units.specs.declared.error.Refusal.{Refusal}
+use Rattle.line_command.specs.Below.units.specs.declared.error.Refusal.{Refusal}
 use Rattle.line_command.specs.Program.{Shows}
 use Rattle.line_command.specs.Meaning.{Means, IsRefused, TextWrites, runs, refused, refusal_line}
 use Rattle.line_command.specs.Line.{LineWrites, program, too_long}

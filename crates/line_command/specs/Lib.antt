@@ -5,3 +5,4 @@ pub mod Line
 pub mod Streams
 pub mod Status
 pub mod Answer
+pub mod Below

@@ -1,10 +1,10 @@
 -- What the text of a program means, why it is refused, and what it writes.
 use Rattle.std.specs.Prelude.{ℕ, false, List, ◌++◌, codes}
 use Rattle.elan_types.specs.declared.core_phrase.Core.{Core}
-use Rattle.units.specs.Packets.{nothing}
-use Rattle.units.specs.declared.error.Refusal.{Refusal}
+use Rattle.line_command.specs.Below.units.specs.Packets.{nothing}
+use Rattle.line_command.specs.Below.units.specs.declared.error.Refusal.{Refusal}
 use Rattle.packet_store.specs.Meaning as behind
-use Rattle.units.specs.Refusals.{refusal_text}
+use Rattle.line_command.specs.Below.units.specs.Refusals.{refusal_text}
 use Rattle.line_command.specs.Program.{Shows}
 
 -- The text, which stands behind no packets, has this meaning as a program.

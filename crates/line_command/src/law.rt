@@ -5,7 +5,7 @@ ghost use Rattle.line_command.specs.Line.{LineWrites};
 ghost use Rattle.line_command.specs.Meaning.{Means};
 ghost use Rattle.line_command.specs.Program.{line_marks, Suffices};
 
-use elan_check::what_a_text_means_is_well_typed;
+use crate::below::of_elan_check::what_a_text_means_is_well_typed;
 use packet_store::one_meaning;
 
 /// For each input there is one thing that the command `line` writes, and no other. What a program writes is told by as

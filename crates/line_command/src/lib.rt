@@ -1,6 +1,7 @@
 //! The command `line`: one line of ELAN from a source, and what it writes to a sink.
 #![tactic(auto)]
 
+pub mod below;
 mod law;
 mod line;
 mod program;

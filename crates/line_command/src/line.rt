@@ -1,8 +1,8 @@
 //! The command `line`.
 ghost use Rattle.std.specs.Prelude.{◌≡◌, ◌≤◌, ◌<◌, ◌^◌, [], false, length, IfErr, IfOk, MatchOption};
-ghost use Rattle.code_gen.specs.Correct.{Behaves};
+ghost use Rattle.line_command.specs.Below.code_gen.specs.Correct.{Behaves};
 ghost use Rattle.elan_types.specs.declared.core_phrase.Core.{Core};
-ghost use Rattle.units.specs.Packets.{nothing};
+ghost use Rattle.line_command.specs.Below.units.specs.Packets.{nothing};
 ghost use Rattle.packet_store.specs.Meaning.{IsCause};
 ghost use Rattle.packet_store.specs.Units.{IsUnitOf};
 ghost use Rattle.line_command.specs.Program.{Shows};

@@ -4,11 +4,11 @@ use Rattle.std.specs.Prelude.{slice_get}
 use Rattle.eu_base.specs.declared.value.Kind.{Kind}
 use Rattle.cell_kinds.specs.Kinds.{packet_kinds}
 use Rattle.elan_types.specs.Eval.{World}
-use Rattle.live_tasks.specs.Below.units.specs.declared.unit.Compiled.{Compiled}
-use Rattle.live_tasks.specs.Below.source_machine.specs.Stores.{Store, tidied}
-use Rattle.live_tasks.specs.Below.source_machine.specs.Tasks.{Command, Idle, Own, store_in, with_doing}
-use Rattle.live_tasks.specs.Below.source_machine.specs.Systems.{with_own}
-use Rattle.live_tasks.specs.Below.source_machine.specs.Monitor.{with_packet}
+use Rattle.live_packets.specs.Below.units.specs.declared.unit.Compiled.{Compiled}
+use Rattle.live_packets.specs.Below.system_meaning.specs.Stores.{Store, tidied}
+use Rattle.live_packets.specs.Below.system_meaning.specs.Tasks.{Command, Idle, Own, store_in, with_doing}
+use Rattle.live_packets.specs.Below.system_meaning.specs.Systems.{with_own}
+use Rattle.live_packets.specs.Below.system_meaning.specs.Monitor.{with_packet}
 use Rattle.live_tasks.specs.Tasks.{Live, Stand, StandOver}
 use Rattle.live_tasks.proofs.Standing.{with_own_twice}
 use Rattle.live_packets.proofs.Owns.{found_with}

@@ -5,18 +5,18 @@ use Rattle.std.proofs.lemmas.Option.{same_Some}
 use Rattle.eu_base.specs.declared.value.Kind.{Kind}
 use Rattle.cell_kinds.specs.declared.packet.Packet.{Packet}
 use Rattle.cell_kinds.specs.Kinds.{packet_kinds}
-use Rattle.elan_names.specs.declared.interface.Interface.{Interface}
+use Rattle.live_packets.specs.Below.elan_names.specs.declared.interface.Interface.{Interface}
 use Rattle.elan_types.specs.Eval.{World}
-use Rattle.live_tasks.specs.Below.units.specs.declared.unit.Compiled.{Compiled}
-use Rattle.live_tasks.specs.Below.units.specs.Library.{Library, IsInstalled}
-use Rattle.live_tasks.specs.Below.units.specs.Sound.{IsSoundUnit}
-use Rattle.live_tasks.specs.Below.source_machine.specs.Stores.{tidied}
-use Rattle.live_tasks.specs.Below.source_machine.specs.Tasks.{Command, Idle, Own, store_in, with_doing}
-use Rattle.live_tasks.specs.Below.source_machine.specs.Systems.{with_own}
-use Rattle.live_tasks.specs.Below.source_machine.specs.Monitor.{installed, with_packet}
+use Rattle.live_packets.specs.Below.units.specs.declared.unit.Compiled.{Compiled}
+use Rattle.live_packets.specs.Below.units.specs.Library.{Library, IsInstalled}
+use Rattle.live_packets.specs.Below.units.specs.Sound.{IsSoundUnit}
+use Rattle.live_packets.specs.Below.system_meaning.specs.Stores.{tidied}
+use Rattle.live_packets.specs.Below.system_meaning.specs.Tasks.{Command, Idle, Own, store_in, with_doing}
+use Rattle.live_packets.specs.Below.system_meaning.specs.Systems.{with_own}
+use Rattle.live_packets.specs.Below.system_meaning.specs.Monitor.{installed, with_packet}
 use Rattle.live_tasks.specs.Tasks.{Live, Stand, StandOver, AgreeBut}
 use Rattle.live_tasks.proofs.Zips.{found_other}
-use Rattle.live_tasks.specs.Below.source_machine.specs.Whole.{AreAllGiven, AreNumbered}
+use Rattle.live_packets.specs.Below.system_meaning.specs.Whole.{AreAllGiven, AreNumbered}
 use Rattle.live_packets.specs.Packets.{kinds_in}
 use Rattle.live_packets.proofs.Owns.{given_at}
 use Rattle.live_packets.proofs.PacketKinds.{kinds_before, kinds_new}

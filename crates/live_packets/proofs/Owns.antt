@@ -3,9 +3,9 @@ use Rattle.std.proofs.Common.{◌≡◌, ℕ, zero, suc, ◌+◌, ◌<◌, ◌�
 use Rattle.std.specs.Prelude.{slice_get}
 use Rattle.std.specs.List.{remove}
 use Rattle.std.proofs.lemmas.Option.{none-some, same_Some}
-use Rattle.live_tasks.specs.Below.source_machine.specs.Tasks.{Own}
-use Rattle.live_tasks.specs.Below.source_machine.specs.Systems.{with_own}
-use Rattle.live_tasks.specs.Below.source_machine.specs.Whole.{AreGiven, AreAllGiven}
+use Rattle.live_packets.specs.Below.system_meaning.specs.Tasks.{Own}
+use Rattle.live_packets.specs.Below.system_meaning.specs.Systems.{with_own}
+use Rattle.live_packets.specs.Below.system_meaning.specs.Whole.{AreGiven, AreAllGiven}
 
 pub length_with : (k : ℕ) (f : Own → Own) (owns : List Own) → length (with_own k f owns) ≡ length owns
 length_with k f [] = refl

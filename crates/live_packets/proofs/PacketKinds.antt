@@ -10,21 +10,21 @@ use Rattle.std.proofs.lemmas.Option.{none-some, same_Some}
 use Rattle.eu_base.specs.declared.value.Kind.{Kind}
 use Rattle.cell_kinds.specs.declared.packet.Packet.{Packet as Shown}
 use Rattle.cell_kinds.specs.Kinds.{packet_kinds}
-use Rattle.elan_names.specs.declared.interface.Interface.{Interface}
-use Rattle.elan_scope.specs.declared.env.Env.{Env}
+use Rattle.live_packets.specs.Below.elan_names.specs.declared.interface.Interface.{Interface}
+use Rattle.live_packets.specs.Below.elan_scope.specs.declared.env.Env.{Env}
 use Rattle.elan_types.specs.declared.core_phrase.Core.{Core}
-use Rattle.live_tasks.specs.Below.units.specs.Packets.{nothing, after}
-use Rattle.live_tasks.specs.Below.units.specs.Starts.{is_start, start_core, start_unit_of}
-use Rattle.live_tasks.specs.Below.units.specs.Library.{Live as Packet}
-use Rattle.live_tasks.specs.Below.units.specs.declared.unit.Compiled.{Compiled}
-use Rattle.live_tasks.specs.Below.units.specs.Library.{Library, has_number, live_as, behind, env_behind, env_of, released, started_at}
-use Rattle.live_tasks.specs.Below.packet_store.specs.Meaning.{Means, means}
-use Rattle.live_tasks.specs.Below.source_machine.specs.Tasks.{Own}
-use Rattle.live_tasks.specs.Below.source_machine.specs.Ends.{has_packet, released_unless, without_packets}
-use Rattle.live_tasks.specs.Below.source_machine.specs.Monitor.{installed}
+use Rattle.live_packets.specs.Below.units.specs.Packets.{nothing, after}
+use Rattle.live_packets.specs.Below.units.specs.Starts.{is_start, start_core, start_unit_of}
+use Rattle.live_packets.specs.Below.units.specs.Library.{Live as Packet}
+use Rattle.live_packets.specs.Below.units.specs.declared.unit.Compiled.{Compiled}
+use Rattle.live_packets.specs.Below.units.specs.Library.{Library, has_number, live_as, behind, env_behind, env_of, released, started_at}
+use Rattle.live_packets.specs.Below.packet_store.specs.Meaning.{Means, means}
+use Rattle.live_packets.specs.Below.system_meaning.specs.Tasks.{Own}
+use Rattle.live_packets.specs.Below.system_meaning.specs.Ends.{has_packet, released_unless, without_packets}
+use Rattle.live_packets.specs.Below.system_meaning.specs.Monitor.{installed}
 use Rattle.live_tasks.specs.Tasks.{Live, Stand}
 use Rattle.live_tasks.proofs.Standing.{same_kinds}
-use Rattle.live_tasks.specs.Below.source_machine.specs.Whole.{AreGiven, AreNumbered}
+use Rattle.live_packets.specs.Below.system_meaning.specs.Whole.{AreGiven, AreNumbered}
 use Rattle.live_packets.specs.Packets.{kinds_in}
 
 -- ---- the same packets live under these numbers

@@ -4,10 +4,10 @@ use Rattle.eu_base.specs.declared.stop.Stop.{Stop}
 use Rattle.eu_base.specs.declared.stop.Stop.TheVariants.{ManyPackets}
 use Rattle.eu_base.specs.declared.value.Kind.{Kind}
 use Rattle.cell_kinds.specs.Kinds.{packet_kinds}
-use Rattle.live_tasks.specs.Below.packet_store.specs.declared.error.CompileError.{CompileError}
-use Rattle.live_tasks.specs.Below.packet_store.specs.declared.error.CompileError.TheVariants.{NoMemory, Refused}
-use Rattle.live_tasks.specs.Below.units.specs.Library.{Library, env_of}
-use Rattle.live_tasks.specs.Below.units.specs.Refusals.{refusal_text}
+use Rattle.live_packets.specs.Below.packet_store.specs.declared.error.CompileError.{CompileError}
+use Rattle.live_packets.specs.Below.packet_store.specs.declared.error.CompileError.TheVariants.{NoMemory, Refused}
+use Rattle.live_packets.specs.Below.units.specs.Library.{Library, env_of}
+use Rattle.live_packets.specs.Below.units.specs.Refusals.{refusal_text}
 
 -- the kinds of the variables of the packets with these numbers
 abbrev pub kinds_in : Library → List ℕ → List Kind

@@ -4,16 +4,16 @@ ghost use Rattle.eu_base.specs.declared.value.Kind.{Kind};
 ghost use Rattle.eu_base.specs.Room.{cells_fit};
 ghost use Rattle.cell_kinds.specs.Kinds.{packet_kinds};
 ghost use Rattle.elan_types.specs.Eval.{World};
-ghost use Rattle.live_tasks.specs.Below.source_machine.specs.Stores.{Store, tidied};
-ghost use Rattle.live_tasks.specs.Below.source_machine.specs.Tasks.{Command, Own, Idle, own_variables, settled, store_in, with_doing};
-ghost use Rattle.live_tasks.specs.Below.source_machine.specs.Systems.{with_own};
-ghost use Rattle.live_tasks.specs.Below.source_machine.specs.Monitor.{with_packet};
+ghost use Rattle.live_packets.specs.Below.system_meaning.specs.Stores.{Store, tidied};
+ghost use Rattle.live_packets.specs.Below.system_meaning.specs.Tasks.{Command, Own, Idle, own_variables, settled, store_in, with_doing};
+ghost use Rattle.live_packets.specs.Below.system_meaning.specs.Systems.{with_own};
+ghost use Rattle.live_packets.specs.Below.system_meaning.specs.Monitor.{with_packet};
 ghost use Rattle.live_tasks.specs.Tasks.{Stand, StandOver, AgreeBut};
 
+use crate::below::of_packet_store::Loaded;
 use cell_kinds::{CellKinds, Packet};
 use eu_base::NoMemory;
 use live_tasks::Tasks;
-use packet_store::Loaded;
 use std::alloc::Global;
 
 /// A program of a task is over: the task is idle, and keeps what the program left.

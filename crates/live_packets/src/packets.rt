@@ -1,20 +1,20 @@
 //! The live packets, which can be asked whether there is room for one more.
 ghost use Rattle.std.specs.Prelude.{◌≡◌, ◌+◌, ◌<◌, ◌≤◌, ◌^◌, List, true, is_some, length, IfOk, IfErr, IfSome, IfNone, OnOk};
 ghost use Rattle.std.specs.List.{list_any};
-ghost use Rattle.live_tasks.specs.Below.elan_check.specs.Packets.{AreCompiled};
-ghost use Rattle.live_tasks.specs.Below.units.specs.Library as libraries;
-ghost use Rattle.live_tasks.specs.Below.packet_store.specs.Meaning.{IsCause};
-ghost use Rattle.live_tasks.specs.Below.packet_store.specs.Units.{IsUnitOf};
-ghost use Rattle.live_tasks.specs.Below.source_machine.specs.Tasks.{Own};
-ghost use Rattle.live_tasks.specs.Below.source_machine.specs.Ends.{has_packet, released_unless, without_packets};
-ghost use Rattle.live_tasks.specs.Below.source_machine.specs.Monitor.{is_full};
+ghost use Rattle.live_packets.specs.Below.elan_check.specs.Packets.{AreCompiled};
+ghost use Rattle.live_packets.specs.Below.units.specs.Library as libraries;
+ghost use Rattle.live_packets.specs.Below.packet_store.specs.Meaning.{IsCause};
+ghost use Rattle.live_packets.specs.Below.packet_store.specs.Units.{IsUnitOf};
+ghost use Rattle.live_packets.specs.Below.system_meaning.specs.Tasks.{Own};
+ghost use Rattle.live_packets.specs.Below.system_meaning.specs.Ends.{has_packet, released_unless, without_packets};
+ghost use Rattle.live_packets.specs.Below.system_meaning.specs.Monitor.{is_full};
 ghost use Rattle.live_packets.specs.Packets.{insertion_told};
 ghost use Rattle.live_packets.specs.Packets.{kinds_in};
 ghost use Rattle.live_tasks.specs.Tasks.{Stand};
 
+use crate::below::of_packet_store::{CompileError, Library, Loaded, PACKETS, Unit};
 use eu_base::{NoMemory, Stop};
 use live_tasks::Tasks;
-use packet_store::{CompileError, Library, Loaded, PACKETS, Unit};
 use std::alloc::Global;
 use std::marker::Model;
 
@@ -27,8 +27,8 @@ pub struct Packets {
 
 impl Model for Packets {
     ghost use Rattle.std.specs.Coded.{codes};
-    ghost use Rattle.live_tasks.specs.Below.packet_store.specs.contracts.library.Library as a_library;
-    ghost use Rattle.live_tasks.specs.Below.units.specs.Library as libraries;
+    ghost use Rattle.live_packets.specs.Below.packet_store.specs.contracts.library.Library as a_library;
+    ghost use Rattle.live_packets.specs.Below.units.specs.Library as libraries;
     ghost use Rattle.std.specs.Prelude.{◌≡◌};
 
     ghost Value = { libraries.Library };

@@ -1,10 +1,10 @@
 //! Where a task stands among all.
 ghost use Rattle.std.specs.Prelude.{◌≡◌, ◌<◌, ◌++◌, ◌∷◌, [], ℕ, List, length, Some, IfSome};
 ghost use Rattle.eu_base.specs.declared.value.Kind.{Kind};
-ghost use Rattle.live_tasks.specs.Below.units.specs.Library.{Library};
+ghost use Rattle.live_packets.specs.Below.units.specs.Library.{Library};
 ghost use Rattle.task_desk.specs.Desks.{system};
-ghost use Rattle.live_tasks.specs.Below.source_machine.specs.Tasks.{Own};
-ghost use Rattle.live_tasks.specs.Below.source_machine.specs.Systems.{place};
+ghost use Rattle.live_packets.specs.Below.system_meaning.specs.Tasks.{Own};
+ghost use Rattle.live_packets.specs.Below.system_meaning.specs.Systems.{place};
 ghost use Rattle.live_tasks.specs.Tasks.{Stand};
 
 use live_tasks::Tasks;

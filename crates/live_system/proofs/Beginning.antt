@@ -5,21 +5,21 @@ use Rattle.std.specs.Option.{option_map}
 use Rattle.std.proofs.lemmas.List.{length-append}
 use Rattle.std.proofs.lemmas.Option.{same_Some}
 use Rattle.eu_base.specs.declared.value.Kind.{Kind}
-use Rattle.cell_kinds.specs.declared.packet.Packet.{Packet}
-use Rattle.cell_kinds.specs.Kinds.{packet_kinds}
+use Rattle.live_system.specs.Below.cell_kinds.specs.declared.packet.Packet.{Packet}
+use Rattle.live_system.specs.Below.cell_kinds.specs.Kinds.{packet_kinds}
 use Rattle.task_numbers.specs.declared.number.TaskNo.{TaskNo}
 use Rattle.task_tree.specs.Tree as trees
 use Rattle.task_tree.specs.declared.task.Task.{Task}
-use Rattle.live_packets.specs.Below.units.specs.declared.unit.Compiled.{Compiled}
-use Rattle.live_packets.specs.Below.units.specs.Library.{Library, started_at}
-use Rattle.live_packets.specs.Below.task_desk.specs.Desks.{Desk, Makes, moment}
-use Rattle.live_packets.specs.Below.task_desk.specs.Desks as desks
-use Rattle.live_packets.specs.Below.source_machine.specs.Stores.{Store, heir}
-use Rattle.live_packets.specs.Below.source_machine.specs.Tasks.{Doing, Idle, Running, Own, now, starting, with_doing}
-use Rattle.live_packets.specs.Below.source_machine.specs.Systems.{System, Moment, kept, kept_by, packets, packets_of, with_own, back, on_system}
-use Rattle.live_packets.specs.Below.source_machine.specs.Ends.{next, begun}
-use Rattle.live_packets.specs.Below.source_machine.specs.Serving.{son_begins}
-use Rattle.live_packets.specs.Below.live_tasks.specs.Tasks.{Live, Stand}
+use Rattle.live_system.specs.Below.units.specs.declared.unit.Compiled.{Compiled}
+use Rattle.live_system.specs.Below.units.specs.Library.{Library, started_at}
+use Rattle.live_system.specs.Below.task_desk.specs.Desks.{Desk, Makes, moment}
+use Rattle.live_system.specs.Below.task_desk.specs.Desks as desks
+use Rattle.live_system.specs.Below.system_meaning.specs.Stores.{Store, heir}
+use Rattle.live_system.specs.Below.system_meaning.specs.Tasks.{Doing, Idle, Running, Own, now, starting, with_doing}
+use Rattle.live_system.specs.Below.system_meaning.specs.Systems.{System, Moment, kept, kept_by, packets, packets_of, with_own, back, on_system}
+use Rattle.live_system.specs.Below.system_meaning.specs.Ends.{next, begun}
+use Rattle.live_system.specs.Below.system_meaning.specs.Serving.{son_begins}
+use Rattle.live_system.specs.Below.live_tasks.specs.Tasks.{Live, Stand}
 use Rattle.live_system.specs.Machines.{Machine, StandsAt}
 use Rattle.live_packets.specs.Packets.{kinds_in}
 use Rattle.live_packets.proofs.Owns.{length_push, given_push, given_at, with_last, found_last}

@@ -11,16 +11,16 @@ use Rattle.task_tree.specs.declared.task.Task.{Task}
 use Rattle.task_tree.specs.Tree.{has_number, lives}
 use Rattle.task_tree.specs.Tree as trees
 use Rattle.task_tree.specs.Trees.{IsTree, IsYounger}
-use Rattle.terminals.specs.Channels.{channel_of}
-use Rattle.live_packets.specs.Below.units.specs.Library.{Library, none_live}
-use Rattle.live_packets.specs.Below.task_desk.specs.Desks.{Desk, Makes, moment, system}
-use Rattle.live_packets.specs.Below.task_desk.specs.Desks as desks
-use Rattle.live_packets.specs.Below.source_machine.specs.Tasks.{Own}
-use Rattle.live_packets.specs.Below.source_machine.specs.Systems.{Moment, place, packets_of, on_system, uncouple_at}
-use Rattle.live_packets.specs.Below.source_machine.specs.Ends.{without_packets, removed, removed_at}
-use Rattle.live_packets.specs.Below.live_tasks.specs.Tasks.{Live, Stand}
+use Rattle.live_system.specs.Below.terminals.specs.Channels.{channel_of}
+use Rattle.live_system.specs.Below.units.specs.Library.{Library, none_live}
+use Rattle.live_system.specs.Below.task_desk.specs.Desks.{Desk, Makes, moment, system}
+use Rattle.live_system.specs.Below.task_desk.specs.Desks as desks
+use Rattle.live_system.specs.Below.system_meaning.specs.Tasks.{Own}
+use Rattle.live_system.specs.Below.system_meaning.specs.Systems.{Moment, place, packets_of, on_system, uncouple_at}
+use Rattle.live_system.specs.Below.system_meaning.specs.Ends.{without_packets, removed, removed_at}
+use Rattle.live_system.specs.Below.live_tasks.specs.Tasks.{Live, Stand}
 use Rattle.live_system.specs.Machines.{Machine, StandsAt}
-use Rattle.live_packets.specs.Below.source_machine.specs.Whole.{AreAllGiven, AreNumbered}
+use Rattle.live_system.specs.Below.system_meaning.specs.Whole.{AreAllGiven, AreNumbered}
 use Rattle.live_packets.specs.Packets.{kinds_in}
 use Rattle.live_packets.proofs.Owns.{given_remove}
 use Rattle.live_packets.proofs.PacketKinds.{apart, without_numbered, without_last}

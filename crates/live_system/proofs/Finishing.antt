@@ -8,21 +8,21 @@ use Rattle.std.proofs.lemmas.Option.{none-some, same_Some}
 use Rattle.eu_base.specs.declared.stop.Stop.{Stop}
 use Rattle.eu_base.specs.declared.stop.Stop.TheVariants.{ManyPackets}
 use Rattle.eu_base.specs.declared.value.Kind.{Kind}
-use Rattle.elan_names.specs.declared.interface.Interface.{Interface}
+use Rattle.live_system.specs.Below.elan_names.specs.declared.interface.Interface.{Interface}
 use Rattle.eu_base.specs.Room.{cells_fit}
 use Rattle.elan_types.specs.Eval.{World}
 use Rattle.elan_types.specs.Typing.{all_packet_kinds}
-use Rattle.live_packets.specs.Below.units.specs.declared.unit.Compiled.{Compiled}
-use Rattle.live_packets.specs.Below.units.specs.Library.{Library}
-use Rattle.live_packets.specs.Below.task_desk.specs.Desks.{Desk, moment, system}
-use Rattle.live_packets.specs.Below.source_machine.specs.Stores.{Store, tidied}
-use Rattle.live_packets.specs.Below.source_machine.specs.Tasks.{Command, Idle, Own, now, store_in, own_variables, settled, with_doing}
-use Rattle.live_packets.specs.Below.source_machine.specs.Systems.{Moment, place, kept, kept_by, with_own, does, on_system}
-use Rattle.live_packets.specs.Below.source_machine.specs.Monitor.{settle, tidy, inserted, installed, with_packet, is_full}
-use Rattle.live_packets.specs.Below.live_tasks.specs.Tasks.{Live, Stand, StandOver}
-use Rattle.live_packets.specs.Below.live_tasks.proofs.Standing.{with_own_twice}
+use Rattle.live_system.specs.Below.units.specs.declared.unit.Compiled.{Compiled}
+use Rattle.live_system.specs.Below.units.specs.Library.{Library}
+use Rattle.live_system.specs.Below.task_desk.specs.Desks.{Desk, moment, system}
+use Rattle.live_system.specs.Below.system_meaning.specs.Stores.{Store, tidied}
+use Rattle.live_system.specs.Below.system_meaning.specs.Tasks.{Command, Idle, Own, now, store_in, own_variables, settled, with_doing}
+use Rattle.live_system.specs.Below.system_meaning.specs.Systems.{Moment, place, kept, kept_by, with_own, does, on_system}
+use Rattle.live_system.specs.Below.system_meaning.specs.Monitor.{settle, tidy, inserted, installed, with_packet, is_full}
+use Rattle.live_system.specs.Below.live_tasks.specs.Tasks.{Live, Stand, StandOver}
+use Rattle.live_system.specs.Below.live_tasks.proofs.Standing.{with_own_twice}
 use Rattle.live_system.specs.Machines.{Machine, IsMachine, StandsAt, StandsOverAt}
-use Rattle.live_packets.specs.Below.source_machine.specs.Whole.{AreGiven, AreAllGiven, AreNumbered}
+use Rattle.live_system.specs.Below.system_meaning.specs.Whole.{AreGiven, AreAllGiven, AreNumbered}
 use Rattle.live_packets.specs.Packets.{kinds_in}
 use Rattle.live_system.specs.Finishing.{insertion_leaves, leaves_by, finished, HasRoom, told_by}
 use Rattle.live_packets.specs.Packets.{insertion_told}

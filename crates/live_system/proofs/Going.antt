@@ -7,15 +7,15 @@ use Rattle.eu_base.specs.declared.stop.Stop.{Stop}
 use Rattle.eu_base.specs.declared.stop.Stop.TheVariants.{Halted}
 use Rattle.elan_types.specs.Eval.{World}
 use Rattle.elan_types.specs.Command.{Ending, Ended, Stopped, OutOfMarks, Asks}
-use Rattle.live_packets.specs.Below.units.specs.Library.{Library}
-use Rattle.live_packets.specs.Below.task_desk.specs.Desks.{Desk}
-use Rattle.live_packets.specs.Below.source_machine.specs.Tasks.{Command, Doing, Idle, Entering, Running, Own, ending, world_of, spent, command_of, with_doing}
-use Rattle.live_packets.specs.Below.source_machine.specs.Systems.{Moment, command, with_own, changed, on_system}
-use Rattle.live_packets.specs.Below.live_task.specs.declared.task.Went.{Went as Task}
-use Rattle.live_packets.specs.Below.live_task.specs.declared.task.Went.TheVariants as task
-use Rattle.live_packets.specs.Below.live_task.specs.Stands.{IsOver as EndsSo}
-use Rattle.live_packets.specs.Below.live_tasks.specs.Tasks.{Live, Stand, StandOver}
-use Rattle.live_packets.specs.Below.live_tasks.specs.Tasks as live_tasks
+use Rattle.live_system.specs.Below.units.specs.Library.{Library}
+use Rattle.live_system.specs.Below.task_desk.specs.Desks.{Desk}
+use Rattle.live_system.specs.Below.system_meaning.specs.Tasks.{Command, Doing, Idle, Entering, Running, Own, ending, world_of, spent, command_of, with_doing}
+use Rattle.live_system.specs.Below.system_meaning.specs.Systems.{Moment, command, with_own, changed, on_system}
+use Rattle.live_system.specs.Below.live_task.specs.declared.task.Went.{Went as Task}
+use Rattle.live_system.specs.Below.live_task.specs.declared.task.Went.TheVariants as task
+use Rattle.live_system.specs.Below.live_task.specs.Stands.{IsOver as EndsSo}
+use Rattle.live_system.specs.Below.live_tasks.specs.Tasks.{Live, Stand, StandOver}
+use Rattle.live_system.specs.Below.live_tasks.specs.Tasks as live_tasks
 use Rattle.live_system.specs.declared.runs.Went.{Went}
 use Rattle.live_system.specs.declared.runs.Went.TheVariants as went
 use Rattle.live_system.specs.declared.runs.Finished.{Finished}

@@ -5,10 +5,10 @@ use Rattle.std.proofs.lemmas.Bool.{false≢true, lt-ltb}
 use Rattle.std.proofs.lemmas.Option.{none-some}
 use Rattle.task_numbers.specs.declared.number.TaskNo.{TaskNo}
 use Rattle.task_tree.specs.Tree.{Tree, lives, has_number}
-use Rattle.live_packets.specs.Below.units.specs.Library.{Library}
-use Rattle.live_packets.specs.Below.task_desk.specs.Desks.{Desk}
-use Rattle.live_packets.specs.Below.source_machine.specs.Systems.{Moment}
-use Rattle.live_packets.specs.Below.live_tasks.specs.Tasks.{Live}
+use Rattle.live_system.specs.Below.units.specs.Library.{Library}
+use Rattle.live_system.specs.Below.task_desk.specs.Desks.{Desk}
+use Rattle.live_system.specs.Below.system_meaning.specs.Systems.{Moment}
+use Rattle.live_system.specs.Below.live_tasks.specs.Tasks.{Live}
 use Rattle.live_system.specs.Machines.{Machine, StandsAt}
 use Rattle.live_system.proofs.Moments.{machine, IsPlace, here, placed_in}
 

@@ -5,18 +5,18 @@ use Rattle.std.specs.Option.{option_map, option_and_then}
 use Rattle.std.proofs.lemmas.Option.{none-some, same_Some}
 use Rattle.eu_base.specs.declared.value.Kind.{Kind}
 use Rattle.task_numbers.specs.declared.number.TaskNo.{TaskNo}
-use Rattle.live_packets.specs.Below.units.specs.Library.{Library}
+use Rattle.live_system.specs.Below.units.specs.Library.{Library}
 use Rattle.task_tree.specs.Tree.{Tree}
 use Rattle.task_tree.specs.Trees.{IsTree}
-use Rattle.live_packets.specs.Below.task_desk.specs.Desks.{Desk, IsDesk, Makes, moment, system}
-use Rattle.slicer.specs.Rotation as rotation
-use Rattle.terminals.specs.Channels as channels
-use Rattle.live_packets.specs.Below.source_machine.specs.Tasks.{Doing, Own, is_running, with_doing}
-use Rattle.live_packets.specs.Below.source_machine.specs.Systems.{System, Moment, place, own, doing, changed, changed_at, with_own, on_system, on_ready, on_channels, does, runs, back, can_be_ready, couple, can_couple, tell, say_at}
-use Rattle.live_packets.specs.Below.live_tasks.specs.Tasks.{Live, Stand}
-use Rattle.live_packets.specs.Below.live_tasks.proofs.Standing.{as_long}
+use Rattle.live_system.specs.Below.task_desk.specs.Desks.{Desk, IsDesk, Makes, moment, system}
+use Rattle.live_system.specs.Below.slicer.specs.Rotation as rotation
+use Rattle.live_system.specs.Below.terminals.specs.Channels as channels
+use Rattle.live_system.specs.Below.system_meaning.specs.Tasks.{Doing, Own, is_running, with_doing}
+use Rattle.live_system.specs.Below.system_meaning.specs.Systems.{System, Moment, place, own, doing, changed, changed_at, with_own, on_system, on_ready, on_channels, does, runs, back, can_be_ready, couple, can_couple, tell, say_at}
+use Rattle.live_system.specs.Below.live_tasks.specs.Tasks.{Live, Stand}
+use Rattle.live_system.specs.Below.live_tasks.proofs.Standing.{as_long}
 use Rattle.live_system.specs.Machines.{Machine, IsMachine, StandsAt}
-use Rattle.live_packets.specs.Below.source_machine.specs.Whole.{AreGiven, IsSystem}
+use Rattle.live_system.specs.Below.system_meaning.specs.Whole.{AreGiven, IsSystem}
 use Rattle.live_packets.specs.Packets.{kinds_in}
 use Rattle.live_packets.proofs.Owns.{length_with, given_with, there_is}
 

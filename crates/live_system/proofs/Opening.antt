@@ -1,10 +1,10 @@
 -- The system begins.
 use Rattle.std.proofs.Common.{◌≡◌, [], ◌∷◌, refl, sym, subst}
-use Rattle.live_packets.specs.Below.units.specs.Library.{Library, none_live}
-use Rattle.live_packets.specs.Below.task_desk.specs.Desks.{Desk}
-use Rattle.live_packets.specs.Below.task_desk.specs.Desks as desks
-use Rattle.live_packets.specs.Below.source_machine.specs.Systems.{new_own, opening, at_event}
-use Rattle.live_packets.specs.Below.live_tasks.specs.Tasks.{Live, Stand}
+use Rattle.live_system.specs.Below.units.specs.Library.{Library, none_live}
+use Rattle.live_system.specs.Below.task_desk.specs.Desks.{Desk}
+use Rattle.live_system.specs.Below.task_desk.specs.Desks as desks
+use Rattle.live_system.specs.Below.system_meaning.specs.Systems.{new_own, opening, at_event}
+use Rattle.live_system.specs.Below.live_tasks.specs.Tasks.{Live, Stand}
 use Rattle.live_system.specs.Machines.{StandsAt}
 use Rattle.live_packets.specs.Packets.{kinds_in}
 use Rattle.live_system.proofs.Moments.{machine}

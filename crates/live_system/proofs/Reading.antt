@@ -3,23 +3,23 @@ use Rattle.std.proofs.Common.{◌≡◌, ℕ, Bool, List, Option, Some, None, re
 use Rattle.std.specs.Prelude.{slice_get}
 use Rattle.task_numbers.specs.declared.number.TaskNo.{TaskNo}
 use Rattle.eu_base.specs.declared.value.Kind.{Kind}
-use Rattle.cell_kinds.specs.declared.packet.Packet.{Packet}
-use Rattle.cell_kinds.specs.Kinds.{packet_kinds}
-use Rattle.elan_scope.specs.declared.env.Env.{Env}
-use Rattle.live_packets.specs.Below.elan_check.specs.Packets.{AreCompiled}
-use Rattle.live_packets.specs.Below.packet_store.specs.declared.error.CompileError.{CompileError}
-use Rattle.live_packets.specs.Below.packet_store.specs.declared.error.CompileError.TheVariants.{NoMemory, Refused}
-use Rattle.live_packets.specs.Below.units.specs.declared.unit.Compiled.{Compiled}
-use Rattle.live_packets.specs.Below.units.specs.Library.{Library, env_of}
-use Rattle.live_packets.specs.Below.packet_store.specs.Meaning.{IsCause}
-use Rattle.live_packets.specs.Below.packet_store.specs.Units.{IsUnitOf}
-use Rattle.live_packets.specs.Below.task_desk.specs.Desks.{Desk, Makes}
-use Rattle.live_packets.specs.Below.source_machine.specs.Stores.{Store}
-use Rattle.live_packets.specs.Below.source_machine.specs.Tasks.{Doing, Idle, Running, Own, starting, with_doing}
-use Rattle.live_packets.specs.Below.source_machine.specs.Systems.{Moment, doing, kept, kept_by, packets, packets_of, with_own, does, back, on_system}
-use Rattle.live_packets.specs.Below.source_machine.specs.Monitor.{Reading, Compiles, Refuses}
-use Rattle.live_packets.specs.Below.packet_store.specs.Readings.{ReadsSo, IsReading}
-use Rattle.live_packets.specs.Below.live_tasks.specs.Tasks.{Live, Stand}
+use Rattle.live_system.specs.Below.cell_kinds.specs.declared.packet.Packet.{Packet}
+use Rattle.live_system.specs.Below.cell_kinds.specs.Kinds.{packet_kinds}
+use Rattle.live_system.specs.Below.elan_scope.specs.declared.env.Env.{Env}
+use Rattle.live_system.specs.Below.elan_check.specs.Packets.{AreCompiled}
+use Rattle.live_system.specs.Below.packet_store.specs.declared.error.CompileError.{CompileError}
+use Rattle.live_system.specs.Below.packet_store.specs.declared.error.CompileError.TheVariants.{NoMemory, Refused}
+use Rattle.live_system.specs.Below.units.specs.declared.unit.Compiled.{Compiled}
+use Rattle.live_system.specs.Below.units.specs.Library.{Library, env_of}
+use Rattle.live_system.specs.Below.packet_store.specs.Meaning.{IsCause}
+use Rattle.live_system.specs.Below.packet_store.specs.Units.{IsUnitOf}
+use Rattle.live_system.specs.Below.task_desk.specs.Desks.{Desk, Makes}
+use Rattle.live_system.specs.Below.system_meaning.specs.Stores.{Store}
+use Rattle.live_system.specs.Below.system_meaning.specs.Tasks.{Doing, Idle, Running, Own, starting, with_doing}
+use Rattle.live_system.specs.Below.system_meaning.specs.Systems.{Moment, doing, kept, kept_by, packets, packets_of, with_own, does, back, on_system}
+use Rattle.live_system.specs.Below.system_meaning.specs.Monitor.{Reading, Compiles, Refuses}
+use Rattle.live_system.specs.Below.packet_store.specs.Readings.{ReadsSo, IsReading}
+use Rattle.live_system.specs.Below.live_tasks.specs.Tasks.{Live, Stand}
 use Rattle.live_system.specs.Machines.{Machine, StandsAt}
 use Rattle.live_packets.specs.Packets.{kinds_in}
 use Rattle.live_system.specs.Texts.{RunsText}

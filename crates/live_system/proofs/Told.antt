@@ -1,10 +1,10 @@
 -- The text of a space, as it is told.
 use Rattle.std.proofs.Common.{◌≡◌, ℕ, ◌<◌, ◌^◌, List, length, Option, Some, None, refl, subst}
-use Rattle.source_texts.specs.Spaces.{Space}
-use Rattle.source_texts.specs.Sources.{source_text}
-use Rattle.named_texts.specs.declared.look.Source.{Source}
-use Rattle.named_texts.specs.declared.look.Source.TheVariants as found
-use Rattle.named_texts.specs.Sources.{as_source, source_in, IsShort}
+use Rattle.live_system.specs.Below.source_texts.specs.Spaces.{Space}
+use Rattle.live_system.specs.Below.source_texts.specs.Sources.{source_text}
+use Rattle.live_system.specs.Below.named_texts.specs.declared.look.Source.{Source}
+use Rattle.live_system.specs.Below.named_texts.specs.declared.look.Source.TheVariants as found
+use Rattle.live_system.specs.Below.named_texts.specs.Sources.{as_source, source_in, IsShort}
 use Rattle.live_system.specs.declared.what.SourceText.{SourceText}
 use Rattle.live_system.specs.declared.what.SourceText.TheVariants as sources
 use Rattle.live_system.specs.Texts.{text_of_source, source_of, as_told}

@@ -10,14 +10,14 @@ use Rattle.eu_base.specs.Requests.{Answer}
 use Rattle.eu_base.specs.DataSpaces.{the_space, next_number}
 use Rattle.message_wait.specs.Rendezvous.{is_waiting, waiting_for, released}
 use Rattle.task_tree.specs.Tree.{lives, has_number, task}
-use Rattle.live_packets.specs.Below.units.specs.Library.{Library}
-use Rattle.live_packets.specs.Below.task_desk.specs.Desks.{Desk, system}
-use Rattle.live_packets.specs.Below.source_machine.specs.Stores.{Store}
-use Rattle.live_packets.specs.Below.source_machine.specs.Tasks.{Own, now, request_of, replied, with_doing}
-use Rattle.live_packets.specs.Below.source_machine.specs.Systems.{System, Moment, place, kept, kept_by, requested, given, woken, with_own, on_system, on_waits}
-use Rattle.live_packets.specs.Below.source_machine.specs.Ends.{freed_by, no_task}
-use Rattle.live_packets.specs.Below.source_machine.specs.Serving.{content, message, space_number}
-use Rattle.live_packets.specs.Below.live_tasks.specs.Tasks.{Live, Stand}
+use Rattle.live_system.specs.Below.units.specs.Library.{Library}
+use Rattle.live_system.specs.Below.task_desk.specs.Desks.{Desk, system}
+use Rattle.live_system.specs.Below.system_meaning.specs.Stores.{Store}
+use Rattle.live_system.specs.Below.system_meaning.specs.Tasks.{Own, now, request_of, replied, with_doing}
+use Rattle.live_system.specs.Below.system_meaning.specs.Systems.{System, Moment, place, kept, kept_by, requested, given, woken, with_own, on_system, on_waits}
+use Rattle.live_system.specs.Below.system_meaning.specs.Ends.{freed_by, no_task}
+use Rattle.live_system.specs.Below.system_meaning.specs.Serving.{content, message, space_number}
+use Rattle.live_system.specs.Below.live_tasks.specs.Tasks.{Live, Stand}
 use Rattle.live_packets.specs.Packets.{kinds_in}
 use Rattle.live_packets.proofs.Owns.{length_with, given_with}
 use Rattle.live_system.specs.Machines.{Machine, StandsAt}

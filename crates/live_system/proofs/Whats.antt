@@ -1,8 +1,8 @@
 -- What a task does, told apart.
 use Rattle.std.proofs.Common.{◌≡◌, true, false, Some, refl}
 use Rattle.std.proofs.lemmas.Bool.{false≢true}
-use Rattle.live_packets.specs.Below.source_machine.specs.Tasks.{Doing, Idle, Entering, Running}
-use Rattle.live_packets.specs.Below.task_texts.specs.Doings.{is_idle, is_entering}
+use Rattle.live_system.specs.Below.system_meaning.specs.Tasks.{Doing, Idle, Entering, Running}
+use Rattle.live_system.specs.Below.task_texts.specs.Doings.{is_idle, is_entering}
 use Rattle.live_system.specs.declared.what.What.TheVariants as whats
 use Rattle.live_system.specs.What.{what_of}
 

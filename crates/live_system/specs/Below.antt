@@ -1,6 +1,21 @@
--- The libraries below whose words a crate above reads here, so that its line in crates.txt stays short.
+-- The libraries below that the line in crates.txt need not list: this crate and those above read them here.
 pub use Rattle.live_packets as live_packets
-pub use Rattle.live_packets.specs.Below.source_machine as source_machine
-pub use Rattle.live_packets.specs.Below.packet_store as packet_store
-pub use Rattle.live_packets.specs.Below.units as units
+pub use Rattle.message_wait as message_wait
+pub use Rattle.task_tree as task_tree
+pub use Rattle.live_packets.specs.Below.cell_kinds as cell_kinds
 pub use Rattle.live_packets.specs.Below.elan_check as elan_check
+pub use Rattle.live_packets.specs.Below.elan_names as elan_names
+pub use Rattle.live_packets.specs.Below.elan_scope as elan_scope
+pub use Rattle.live_packets.specs.Below.live_task as live_task
+pub use Rattle.live_packets.specs.Below.live_tasks as live_tasks
+pub use Rattle.live_packets.specs.Below.named_texts as named_texts
+pub use Rattle.live_packets.specs.Below.packet_store as packet_store
+pub use Rattle.live_packets.specs.Below.session_text as session_text
+pub use Rattle.live_packets.specs.Below.slicer as slicer
+pub use Rattle.live_packets.specs.Below.source_texts as source_texts
+pub use Rattle.live_packets.specs.Below.system_meaning as system_meaning
+pub use Rattle.live_packets.specs.Below.task_desk as task_desk
+pub use Rattle.live_packets.specs.Below.task_job as task_job
+pub use Rattle.live_packets.specs.Below.task_texts as task_texts
+pub use Rattle.live_packets.specs.Below.terminals as terminals
+pub use Rattle.live_packets.specs.Below.units as units

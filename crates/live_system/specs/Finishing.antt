@@ -2,13 +2,13 @@
 use Rattle.std.specs.Prelude.{◌≡◌, Bool, true, false, length, Option, Some, None}
 use Rattle.task_numbers.specs.declared.number.TaskNo.{TaskNo}
 use Rattle.eu_base.specs.declared.stop.Stop.{Stop}
-use Rattle.elan_names.specs.declared.interface.Interface.{Interface}
+use Rattle.live_system.specs.Below.elan_names.specs.declared.interface.Interface.{Interface}
 use Rattle.eu_base.specs.Room.{cells_fit}
 use Rattle.elan_types.specs.Eval.{World}
 use Rattle.elan_types.specs.Typing.{all_packet_kinds}
-use Rattle.live_packets.specs.Below.source_machine.specs.Tasks.{Command, Idle, store_in, own_variables}
-use Rattle.live_packets.specs.Below.source_machine.specs.Systems.{Moment, does, on_system}
-use Rattle.live_packets.specs.Below.source_machine.specs.Monitor.{settle, tidy, inserted, is_full}
+use Rattle.live_system.specs.Below.system_meaning.specs.Tasks.{Command, Idle, store_in, own_variables}
+use Rattle.live_system.specs.Below.system_meaning.specs.Systems.{Moment, does, on_system}
+use Rattle.live_system.specs.Below.system_meaning.specs.Monitor.{settle, tidy, inserted, is_full}
 use Rattle.live_packets.specs.Packets.{insertion_told}
 
 -- a packet is installed, or its variables go

@@ -2,12 +2,12 @@
 use Rattle.std.specs.Prelude.{◌≡◌, ℕ, List, length, Some}
 use Rattle.task_numbers.specs.declared.number.TaskNo.{TaskNo}
 use Rattle.elan_types.specs.Eval.{World}
-use Rattle.live_packets.specs.Below.units.specs.Library.{Library}
-use Rattle.live_packets.specs.Below.task_desk.specs.Desks.{Desk, moment, system}
-use Rattle.live_packets.specs.Below.live_tasks.specs.Tasks.{Live, Stand, StandOver}
-use Rattle.live_packets.specs.Below.source_machine.specs.Tasks.{Command, Own}
-use Rattle.live_packets.specs.Below.source_machine.specs.Systems.{Moment, place}
-use Rattle.live_packets.specs.Below.source_machine.specs.Whole.{AreAllGiven, AreNumbered}
+use Rattle.live_system.specs.Below.units.specs.Library.{Library}
+use Rattle.live_system.specs.Below.task_desk.specs.Desks.{Desk, moment, system}
+use Rattle.live_system.specs.Below.live_tasks.specs.Tasks.{Live, Stand, StandOver}
+use Rattle.live_system.specs.Below.system_meaning.specs.Tasks.{Command, Own}
+use Rattle.live_system.specs.Below.system_meaning.specs.Systems.{Moment, place}
+use Rattle.live_system.specs.Below.system_meaning.specs.Whole.{AreAllGiven, AreNumbered}
 use Rattle.live_packets.specs.Packets.{kinds_in}
 
 -- what all tasks have together, the live packets, and all tasks over one pool

@@ -5,13 +5,13 @@ use Rattle.eu_base.specs.declared.stop.Stop.{Stop}
 use Rattle.eu_base.specs.declared.stop.Stop.TheVariants.{Halted}
 use Rattle.elan_types.specs.Eval.{World}
 use Rattle.elan_types.specs.Command.{Ending, Ended, Stopped, OutOfMarks, Asks}
-use Rattle.live_packets.specs.Below.units.specs.declared.unit.Compiled.{Compiled}
-use Rattle.live_packets.specs.Below.source_machine.specs.Tasks.{Command, Running, ending, world_of, spent}
-use Rattle.live_packets.specs.Below.source_machine.specs.Systems.{Moment, does, on_system, woken}
-use Rattle.live_packets.specs.Below.source_machine.specs.Ends.{next, no_task}
-use Rattle.live_packets.specs.Below.source_machine.specs.Serving.{son_begins}
-use Rattle.live_packets.specs.Below.live_task.specs.declared.task.Went.{Went as Task}
-use Rattle.live_packets.specs.Below.live_task.specs.declared.task.Went.TheVariants as task
+use Rattle.live_system.specs.Below.units.specs.declared.unit.Compiled.{Compiled}
+use Rattle.live_system.specs.Below.system_meaning.specs.Tasks.{Command, Running, ending, world_of, spent}
+use Rattle.live_system.specs.Below.system_meaning.specs.Systems.{Moment, does, on_system, woken}
+use Rattle.live_system.specs.Below.system_meaning.specs.Ends.{next, no_task}
+use Rattle.live_system.specs.Below.system_meaning.specs.Serving.{son_begins}
+use Rattle.live_system.specs.Below.live_task.specs.declared.task.Went.{Went as Task}
+use Rattle.live_system.specs.Below.live_task.specs.declared.task.Went.TheVariants as task
 use Rattle.live_system.specs.declared.runs.Went.{Went}
 use Rattle.live_system.specs.declared.runs.Went.TheVariants as went
 use Rattle.live_system.specs.declared.runs.Finished.{Finished}

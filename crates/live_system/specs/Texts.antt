@@ -1,13 +1,13 @@
 -- A text that is run or inserted, by its reading.
 use Rattle.std.specs.Prelude.{◌≡◌, ℕ, List, Option, Some, None}
 use Rattle.task_numbers.specs.declared.number.TaskNo.{TaskNo}
-use Rattle.live_packets.specs.Below.units.specs.Refusals.{refusal_text}
-use Rattle.named_texts.specs.declared.look.Source.{Source}
-use Rattle.named_texts.specs.declared.look.Source.TheVariants as found
-use Rattle.source_texts.specs.Spaces.{Space}
-use Rattle.source_texts.specs.Sources.{source_text}
-use Rattle.live_packets.specs.Below.source_machine.specs.Monitor.{Reading, Compiles, Refuses, started}
-use Rattle.live_packets.specs.Below.source_machine.specs.Systems.{Moment, on_system}
+use Rattle.live_system.specs.Below.units.specs.Refusals.{refusal_text}
+use Rattle.live_system.specs.Below.named_texts.specs.declared.look.Source.{Source}
+use Rattle.live_system.specs.Below.named_texts.specs.declared.look.Source.TheVariants as found
+use Rattle.live_system.specs.Below.source_texts.specs.Spaces.{Space}
+use Rattle.live_system.specs.Below.source_texts.specs.Sources.{source_text}
+use Rattle.live_system.specs.Below.system_meaning.specs.Monitor.{Reading, Compiles, Refuses, started}
+use Rattle.live_system.specs.Below.system_meaning.specs.Systems.{Moment, on_system}
 use Rattle.live_system.specs.declared.what.SourceText.{SourceText}
 use Rattle.live_system.specs.declared.what.SourceText.TheVariants as sources
 use Rattle.live_system.specs.Machines.{Machine, StandsAt}

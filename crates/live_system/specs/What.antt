@@ -2,7 +2,7 @@
 use Rattle.std.specs.Prelude.{Bool, true, false, Option, Some, None}
 use Rattle.eu_base.specs.declared.request.Request.{Request}
 use Rattle.eu_base.specs.declared.request.Request.TheVariants.{Input}
-use Rattle.live_packets.specs.Below.source_machine.specs.Tasks.{Doing, Idle, Entering, Running}
+use Rattle.live_system.specs.Below.system_meaning.specs.Tasks.{Doing, Idle, Entering, Running}
 use Rattle.live_system.specs.declared.what.What.{What}
 use Rattle.live_system.specs.declared.what.What.TheVariants as whats
 

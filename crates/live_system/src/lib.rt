@@ -1,6 +1,7 @@
 //! A system of tasks over one pool, step by step.
 #![tactic(auto)]
 
+pub mod below;
 mod commands;
 mod looks;
 mod messages;

@@ -8,9 +8,9 @@ ghost use Rattle.eu_base.specs.DataSpaces.{Forgets, heads_of, is_live, without_s
 ghost use Rattle.eu_base.specs.SpaceOperations.{room_refusal};
 ghost use Rattle.message_wait.specs.Rendezvous as rendezvous;
 ghost use Rattle.task_tree.specs.Tree as tree;
-ghost use Rattle.live_packets.specs.Below.source_machine.specs.Systems.{Moment, given, kept, on_system, on_waits, requested, woken};
-ghost use Rattle.live_packets.specs.Below.source_machine.specs.Ends.{freed_by, no_task};
-ghost use Rattle.live_packets.specs.Below.source_machine.specs.Serving.{content, message, space_number};
+ghost use Rattle.live_system.specs.Below.system_meaning.specs.Systems.{Moment, given, kept, on_system, on_waits, requested, woken};
+ghost use Rattle.live_system.specs.Below.system_meaning.specs.Ends.{freed_by, no_task};
+ghost use Rattle.live_system.specs.Below.system_meaning.specs.Serving.{content, message, space_number};
 ghost use Rattle.live_system.specs.Machines.{StandsAt};
 ghost use Rattle.live_system.specs.Steps.{woken_each};
 

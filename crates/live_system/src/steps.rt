@@ -1,11 +1,11 @@
 //! What changes of what all tasks have together, and replies.
 ghost use Rattle.std.specs.Prelude.{◌≡◌, ◌≤◌, true, drop, slice_get, OnOk, IfSome, length};
 ghost use Rattle.eu_base.specs.Requests.{plain, is_plain};
-ghost use Rattle.session_text.specs.Display.{close_all as closed};
-ghost use Rattle.slicer.specs.Rotation as rotation;
-ghost use Rattle.terminals.specs.Channels as channels;
-ghost use Rattle.live_packets.specs.Below.source_machine.specs.Systems.{Moment, on_system, on_display, on_ready, on_channels, back, couple, given, write, say, tell, uncouple};
-ghost use Rattle.live_packets.specs.Below.source_machine.specs.Monitor.{prompted};
+ghost use Rattle.live_system.specs.Below.session_text.specs.Display.{close_all as closed};
+ghost use Rattle.live_system.specs.Below.slicer.specs.Rotation as rotation;
+ghost use Rattle.live_system.specs.Below.terminals.specs.Channels as channels;
+ghost use Rattle.live_system.specs.Below.system_meaning.specs.Systems.{Moment, on_system, on_display, on_ready, on_channels, back, couple, given, write, say, tell, uncouple};
+ghost use Rattle.live_system.specs.Below.system_meaning.specs.Monitor.{prompted};
 ghost use Rattle.live_system.specs.Machines.{StandsAt};
 
 use crate::system::System;

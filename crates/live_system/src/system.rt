@@ -1,8 +1,8 @@
 //! The system.
 ghost use Rattle.std.specs.Prelude.{IfOk, OnOk, ◌≡◌, ◌++◌};
-ghost use Rattle.live_packets.specs.Below.source_machine.specs.Systems.{Moment, opening, at_event};
-ghost use Rattle.live_packets.specs.Below.source_machine.specs.Whole.{IsSystem};
-ghost use Rattle.session_text.specs.Display.{rendered};
+ghost use Rattle.live_system.specs.Below.system_meaning.specs.Systems.{Moment, opening, at_event};
+ghost use Rattle.live_system.specs.Below.system_meaning.specs.Whole.{IsSystem};
+ghost use Rattle.live_system.specs.Below.session_text.specs.Display.{rendered};
 ghost use Rattle.live_system.specs.Machines.{StandsAt};
 
 use eu_base::{Bytes, NoMemory};
@@ -21,8 +21,8 @@ pub struct System {
 
 impl Model for System {
     ghost use Rattle.std.specs.Coded.{codes};
-    ghost use Rattle.live_packets.specs.Below.task_desk.specs.contracts.desk.TaskDesk as desks;
-    ghost use Rattle.live_packets.specs.Below.live_tasks.specs.contracts.tasks.Tasks as all_tasks;
+    ghost use Rattle.live_system.specs.Below.task_desk.specs.contracts.desk.TaskDesk as desks;
+    ghost use Rattle.live_system.specs.Below.live_tasks.specs.contracts.tasks.Tasks as all_tasks;
     ghost use Rattle.live_packets.specs.contracts.packets.Packets as all_packets;
     ghost use Rattle.live_system.specs.Machines as spec;
 

@@ -1,19 +1,19 @@
 //! Texts that are entered, and the texts of spaces.
 ghost use Rattle.std.specs.Prelude.{◌≡◌, ◌≤◌, ◌<◌, ◌^◌, ◌++◌, ◌∷◌, [], ℕ, List, length, not, nat_le, false, None, Some, OnOk, IfOk};
-ghost use Rattle.source_texts.specs.Sources.{most_lines, source_space};
-ghost use Rattle.live_packets.specs.Below.source_machine.specs.Stores.{Store, entering_refusal, with_named, space_under};
-ghost use Rattle.live_packets.specs.Below.source_machine.specs.Tasks.{Idle, Entering};
-ghost use Rattle.live_packets.specs.Below.source_machine.specs.Systems.{Moment, on_system, does, doing, kept};
+ghost use Rattle.live_system.specs.Below.source_texts.specs.Sources.{most_lines, source_space};
+ghost use Rattle.live_system.specs.Below.system_meaning.specs.Stores.{Store, entering_refusal, with_named, space_under};
+ghost use Rattle.live_system.specs.Below.system_meaning.specs.Tasks.{Idle, Entering};
+ghost use Rattle.live_system.specs.Below.system_meaning.specs.Systems.{Moment, on_system, does, doing, kept};
 ghost use Rattle.live_system.specs.declared.what.SourceText.{SourceText};
 ghost use Rattle.live_system.specs.declared.what.SourceText.TheVariants as sources;
 ghost use Rattle.live_system.specs.Texts.{source_of, as_told};
 ghost use Rattle.live_system.specs.Machines.{StandsAt};
 
+use crate::below::of_named_texts::Source;
 use crate::system::System;
 use crate::what::SourceText;
 use eu_base::{Bytes, NoMemory};
 use live_packets::place_of;
-use named_texts::Source;
 use std::alloc::Global;
 use task_numbers::{LONGEST_LINE, TaskNo};
 

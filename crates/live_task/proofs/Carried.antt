@@ -8,18 +8,18 @@ use Rattle.eu_base.specs.declared.address.Area.TheVariants.{Run, Packets, Space}
 use Rattle.eu_base.specs.Spaces.{IsKept}
 use Rattle.eu_base.specs.Cells.{Cells}
 use Rattle.page_pool.specs.Pool.{Pages}
-use Rattle.page_table.specs.Entries.{Names}
-use Rattle.page_table.specs.Sharing.{occ}
-use Rattle.page_table.proofs.Framing.{named_first, named_later}
-use Rattle.text_heap.specs.Held.{HoldsCells}
-use Rattle.text_heap.proofs.Kept.{kept_held}
-use Rattle.space_memory.specs.Live.{the_space}
-use Rattle.space_memory.specs.Memories.{MemoryData, roots, is_there}
+use Rattle.live_task.specs.Below.page_table.specs.Entries.{Names}
+use Rattle.live_task.specs.Below.page_table.specs.Sharing.{occ}
+use Rattle.live_task.specs.Below.page_table.proofs.Framing.{named_first, named_later}
+use Rattle.live_task.specs.Below.text_heap.specs.Held.{HoldsCells}
+use Rattle.live_task.specs.Below.text_heap.proofs.Kept.{kept_held}
+use Rattle.live_task.specs.Below.space_memory.specs.Live.{the_space}
+use Rattle.live_task.specs.Below.space_memory.specs.Memories.{MemoryData, roots, is_there}
 use Rattle.task_job.specs.Here.{Knows, content_at, KeepsBytes, HoldsAll, bytes_in}
-use Rattle.space_memory.proofs.Areas.{root_among}
+use Rattle.live_task.specs.Below.space_memory.proofs.Areas.{root_among}
 use Rattle.elan_types.specs.Eval.{World}
-use Rattle.task_job.specs.Below.source_machine.specs.Stores.{Store}
-use Rattle.task_job.specs.Below.source_machine.specs.Tasks.{Command, Doing, Idle, Entering, Running, Own, store_in}
+use Rattle.live_task.specs.Below.system_meaning.specs.Stores.{Store}
+use Rattle.live_task.specs.Below.system_meaning.specs.Tasks.{Command, Doing, Idle, Entering, Running, Own, store_in}
 use Rattle.task_job.specs.Standing.{Keeps, Leaves, RunsFor}
 use Rattle.live_task.specs.Stands.{DoesAs, StandsFor, StandsOver}
 use Rattle.task_job.specs.declared.job.Job.{Job}

@@ -6,10 +6,10 @@ use Rattle.eu_base.specs.declared.request.Request.{Request}
 use Rattle.eu_base.specs.declared.request.Reply.{Reply}
 use Rattle.eu_base.specs.Requests.{Answer, plain, is_plain}
 use Rattle.page_pool.specs.Pool.{Pages}
-use Rattle.page_table.specs.Sharing.{occ}
+use Rattle.live_task.specs.Below.page_table.specs.Sharing.{occ}
 use Rattle.task_job.specs.Here.{Knows, content_at, KeepsBytes}
-use Rattle.space_memory.specs.Memories.{MemoryData, roots}
-use Rattle.task_job.specs.Below.source_machine.specs.Tasks.{Own, request_of}
+use Rattle.live_task.specs.Below.space_memory.specs.Memories.{MemoryData, roots}
+use Rattle.live_task.specs.Below.system_meaning.specs.Tasks.{Own, request_of}
 use Rattle.task_job.specs.Standing.{Receives}
 use Rattle.task_job.proofs.Standing.{receives_on}
 use Rattle.task_job.proofs.Receiving.{plain_received}

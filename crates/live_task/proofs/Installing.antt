@@ -4,8 +4,8 @@ use Rattle.eu_base.specs.declared.value.Kind.{Kind}
 use Rattle.eu_base.specs.Room.{cells_fit}
 use Rattle.page_pool.specs.Pool.{Pages}
 use Rattle.elan_types.specs.Eval.{World}
-use Rattle.task_job.specs.Below.source_machine.specs.Tasks.{Command, Idle, Own, store_in, with_doing}
-use Rattle.task_job.specs.Below.source_machine.specs.Monitor.{with_packet}
+use Rattle.live_task.specs.Below.system_meaning.specs.Tasks.{Command, Idle, Own, store_in, with_doing}
+use Rattle.live_task.specs.Below.system_meaning.specs.Monitor.{with_packet}
 use Rattle.task_job.specs.Standing.{Keeps}
 use Rattle.live_task.specs.Stands.{StandsFor, StandsOver}
 use Rattle.live_task.specs.declared.task.Task.{Task}

@@ -3,10 +3,10 @@ use Rattle.std.proofs.Common.{◌≡◌, ◌≤◌, length, Option, sym, ap, ◌
 use Rattle.eu_base.specs.DataSpaces.{Heads}
 use Rattle.eu_base.proofs.Heads.{long_heads}
 use Rattle.page_pool.specs.Pool.{Pages}
-use Rattle.page_table.specs.Entries.{Names}
+use Rattle.live_task.specs.Below.page_table.specs.Entries.{Names}
 use Rattle.eu_base.specs.declared.stop.Stop.{Stop}
-use Rattle.space_names.specs.Directory as directory
-use Rattle.space_memory.specs.Memories.{MemoryData, StandsWhole, memory_heads, head_of, most_roots}
+use Rattle.live_task.specs.Below.space_names.specs.Directory as directory
+use Rattle.live_task.specs.Below.space_memory.specs.Memories.{MemoryData, StandsWhole, memory_heads, head_of, most_roots}
 use Rattle.task_job.specs.Here.{Frames, MemoryFrames}
 use Rattle.task_job.proofs.Here.{frames_before, memory_frames_then}
 use Rattle.live_task.specs.Stands.{IsSoundDoing, IsSound, EndsAs}

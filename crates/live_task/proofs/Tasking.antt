@@ -7,21 +7,21 @@ use Rattle.eu_base.specs.declared.stop.Stop.TheVariants.{Halted}
 use Rattle.eu_base.specs.declared.request.Request.{Request}
 use Rattle.eu_base.specs.Requests.{Answer}
 use Rattle.page_pool.specs.Pool.{Pages}
-use Rattle.cell_kinds.specs.Kinds.{packet_kinds}
+use Rattle.live_task.specs.Below.cell_kinds.specs.Kinds.{packet_kinds}
 use Rattle.eu_base.specs.declared.address.Area.TheVariants.{Run, Packets}
 use Rattle.eu_base.specs.Cells.{Free}
 use Rattle.eu_base.specs.DataSpaces.{no_spaces}
-use Rattle.text_heap.specs.Held.{HoldsCells}
-use Rattle.space_memory.specs.Live.{no_space}
-use Rattle.space_memory.specs.Memories.{MemoryData, roots, new_memory}
+use Rattle.live_task.specs.Below.text_heap.specs.Held.{HoldsCells}
+use Rattle.live_task.specs.Below.space_memory.specs.Live.{no_space}
+use Rattle.live_task.specs.Below.space_memory.specs.Memories.{MemoryData, roots, new_memory}
 use Rattle.task_job.specs.Here.{content_at, KeepsBytes, HoldsAll}
 use Rattle.code_form.specs.declared.halt.Halt.{Halt}
 use Rattle.code_form.specs.declared.halt.Halt.TheVariants as halts
 use Rattle.code_form.specs.Runs.{asked}
 use Rattle.elan_types.specs.Eval.{World}
 use Rattle.elan_types.specs.Command.{Ending, Ended, Stopped, OutOfMarks, Asks}
-use Rattle.task_job.specs.Below.source_machine.specs.Stores.{Store, new_store}
-use Rattle.task_job.specs.Below.source_machine.specs.Tasks.{Command, Doing, Idle, Entering, Running, Own, ending, world_of, store_in, own_variables, request_of, with_reply, with_reply_to, replied, with_doing}
+use Rattle.live_task.specs.Below.system_meaning.specs.Stores.{Store, new_store}
+use Rattle.live_task.specs.Below.system_meaning.specs.Tasks.{Command, Doing, Idle, Entering, Running, Own, ending, world_of, store_in, own_variables, request_of, with_reply, with_reply_to, replied, with_doing}
 use Rattle.task_job.specs.Standing.{KeepsSpaces, Keeps, Left, Leaves, RunsFor, RestsFor, IsSoundJob}
 use Rattle.live_task.specs.Stands.{DoesAs, StandsFor, StandsOver, IsOver, EndsAs, WentAs, WentOn, HaltedAs, IsSoundDoing, IsSound, IsWhole}
 use Rattle.task_job.specs.declared.job.Job.{Job}

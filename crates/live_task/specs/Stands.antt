@@ -6,17 +6,17 @@ use Rattle.eu_base.specs.declared.request.Request.{Request}
 use Rattle.eu_base.specs.Requests.{Answer}
 use Rattle.eu_base.specs.declared.stop.Stop.{Stop}
 use Rattle.eu_base.specs.declared.stop.Stop.TheVariants.{Halted}
-use Rattle.cell_kinds.specs.Kinds.{packet_kinds}
+use Rattle.live_task.specs.Below.cell_kinds.specs.Kinds.{packet_kinds}
 use Rattle.page_pool.specs.Pool.{Pages}
-use Rattle.space_names.specs.Directory as directory
-use Rattle.space_memory.specs.Memories.{MemoryData}
+use Rattle.live_task.specs.Below.space_names.specs.Directory as directory
+use Rattle.live_task.specs.Below.space_memory.specs.Memories.{MemoryData}
 use Rattle.elan_types.specs.Eval.{World}
 use Rattle.elan_types.specs.Command.{Ending, Ended, Stopped, OutOfMarks, Asks}
-use Rattle.task_job.specs.Below.packet_store.specs.Units.{IsUnit}
-use Rattle.source_texts.specs.declared.shape.TheConstants.{LONGEST_LINE}
-use Rattle.source_texts.specs.Sources.{most_lines}
-use Rattle.task_job.specs.Below.source_machine.specs.Stores.{Store, most_live, last_number}
-use Rattle.task_job.specs.Below.source_machine.specs.Tasks.{Command, Doing, Idle, Entering, Running, Own, ending, world_of, store_in, own_variables, spent, request_of, with_doing}
+use Rattle.live_task.specs.Below.packet_store.specs.Units.{IsUnit}
+use Rattle.live_task.specs.Below.source_texts.specs.declared.shape.TheConstants.{LONGEST_LINE}
+use Rattle.live_task.specs.Below.source_texts.specs.Sources.{most_lines}
+use Rattle.live_task.specs.Below.system_meaning.specs.Stores.{Store, most_live, last_number}
+use Rattle.live_task.specs.Below.system_meaning.specs.Tasks.{Command, Doing, Idle, Entering, Running, Own, ending, world_of, store_in, own_variables, spent, request_of, with_doing}
 use Rattle.task_job.specs.Standing.{Keeps, Left, Leaves, RunsFor, Receives, IsSoundJob}
 use Rattle.task_job.specs.declared.job.Job.{Job}
 use Rattle.live_task.specs.declared.task.Task.{Task}

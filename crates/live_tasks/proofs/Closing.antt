@@ -2,12 +2,12 @@
 use Rattle.std.proofs.Common.{◌≡◌, ℕ, ◌+◌, ◌≤◌, List, ◌∷◌, length, set, Option, None, Some, sym, ap, subst, arith}
 use Rattle.std.specs.Prelude.{slice_get, Result, Ok, Err, OnOk, OnErr}
 use Rattle.page_pool.specs.Pool.{Pages}
-use Rattle.page_table.proofs.Framing.{agree_same}
-use Rattle.space_memory.specs.Memories.{MemoryData, roots, most_roots}
-use Rattle.task_tidy.specs.Below.task_job.specs.Here.{Frames, MemoryFrames}
-use Rattle.task_tidy.specs.Below.task_job.proofs.Here.{frames_before, memory_frames_none}
-use Rattle.task_tidy.specs.Below.live_task.specs.declared.task.Task.{Task}
-use Rattle.task_tidy.specs.Below.live_task.specs.Stands.{IsSound}
+use Rattle.live_tasks.specs.Below.page_table.proofs.Framing.{agree_same}
+use Rattle.live_tasks.specs.Below.space_memory.specs.Memories.{MemoryData, roots, most_roots}
+use Rattle.live_tasks.specs.Below.task_job.specs.Here.{Frames, MemoryFrames}
+use Rattle.live_tasks.specs.Below.task_job.proofs.Here.{frames_before, memory_frames_none}
+use Rattle.live_tasks.specs.Below.live_task.specs.declared.task.Task.{Task}
+use Rattle.live_tasks.specs.Below.live_task.specs.Stands.{IsSound}
 use Rattle.live_tasks.specs.Tasks.{IsFit, task_roots}
 use Rattle.live_tasks.proofs.Owning.{joined, agrees_nil}
 use Rattle.live_tasks.proofs.Standing.{low, roots_fit, fits_with, call_fits}

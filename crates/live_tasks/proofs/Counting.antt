@@ -4,8 +4,8 @@ use Rattle.std.specs.Prelude.{slice_get}
 use Rattle.std.proofs.lemmas.List.{take_all}
 use Rattle.std.proofs.lemmas.List.Sums.{sum-map, sum_by_more}
 use Rattle.std.proofs.lemmas.Option.{slice_get_within, get_or_from_slice_get}
-use Rattle.task_tidy.specs.Below.source_machine.specs.Tasks.{Doing, Idle, Entering, Running, is_running}
-use Rattle.task_tidy.specs.Below.task_texts.specs.Doings.{is_idle, is_entering}
+use Rattle.live_tasks.specs.Below.system_meaning.specs.Tasks.{Doing, Idle, Entering, Running, is_running}
+use Rattle.live_tasks.specs.Below.task_texts.specs.Doings.{is_idle, is_entering}
 
 -- the sum of what the first items have, with one item more
 pub sum_more : {A : Type 0} (f : A → ℕ) (xs : List A) (i : ℕ) (x : A) → slice_get xs i ≡ Some x

@@ -4,11 +4,11 @@ use Rattle.std.proofs.lemmas.List.{length-map}
 use Rattle.eu_base.specs.DataSpaces.{Heads}
 use Rattle.eu_base.proofs.Heads.{long_heads}
 use Rattle.page_pool.specs.Pool.{Pages}
-use Rattle.data_space.specs.Data.{SpaceData}
-use Rattle.space_memory.specs.Memories.{head_of}
-use Rattle.task_tidy.specs.Below.source_machine.specs.Systems.{new_own}
-use Rattle.task_tidy.specs.Below.live_task.specs.declared.task.Task.{Task}
-use Rattle.task_tidy.specs.Below.live_task.specs.Stands.{StandsFor}
+use Rattle.live_tasks.specs.Below.data_space.specs.Data.{SpaceData}
+use Rattle.live_tasks.specs.Below.space_memory.specs.Memories.{head_of}
+use Rattle.live_tasks.specs.Below.system_meaning.specs.Systems.{new_own}
+use Rattle.live_tasks.specs.Below.live_task.specs.declared.task.Task.{Task}
+use Rattle.live_tasks.specs.Below.live_task.specs.Stands.{StandsFor}
 use Rattle.live_tasks.specs.Tasks.{task_roots}
 
 -- it has two spaces, without bytes

@@ -4,14 +4,14 @@ use Rattle.std.specs.Prelude.{slice_get}
 use Rattle.std.proofs.lemmas.Option.{same_Some, slice_get_within}
 use Rattle.eu_base.specs.declared.value.Kind.{Kind}
 use Rattle.page_pool.specs.Pool.{Pages}
-use Rattle.task_tidy.specs.Below.task_job.specs.Here.{MemoryFrames}
+use Rattle.live_tasks.specs.Below.task_job.specs.Here.{MemoryFrames}
 use Rattle.elan_types.specs.Eval.{World}
 use Rattle.elan_types.specs.Command.{Ending, Ended, Stopped, OutOfMarks, Asks}
-use Rattle.task_tidy.specs.Below.source_machine.specs.Tasks.{Command, Doing, Idle, Entering, Running, Own, ending, spent, with_doing}
-use Rattle.task_tidy.specs.Below.live_task.specs.declared.task.Task.{Task}
-use Rattle.task_tidy.specs.Below.live_task.specs.declared.task.Went.{Went}
-use Rattle.task_tidy.specs.Below.live_task.specs.Stands.{StandsOver}
-use Rattle.task_tidy.specs.Below.live_task.specs.Stands as one
+use Rattle.live_tasks.specs.Below.system_meaning.specs.Tasks.{Command, Doing, Idle, Entering, Running, Own, ending, spent, with_doing}
+use Rattle.live_tasks.specs.Below.live_task.specs.declared.task.Task.{Task}
+use Rattle.live_tasks.specs.Below.live_task.specs.declared.task.Went.{Went}
+use Rattle.live_tasks.specs.Below.live_task.specs.Stands.{StandsOver}
+use Rattle.live_tasks.specs.Below.live_task.specs.Stands as one
 use Rattle.live_tasks.specs.Tasks.{Live, IsFit, StandIn, StandOver, WentAs, WentOn, HaltedAs, task_roots}
 use Rattle.live_tasks.proofs.Standing.{call_but, call_set, call_same}
 use Rattle.live_tasks.proofs.Zips.{found_set}

@@ -11,25 +11,25 @@ use Rattle.task_numbers.specs.declared.number.SpaceNo.{SpaceNo}
 use Rattle.eu_base.specs.declared.value.Kind.{Kind}
 use Rattle.eu_base.specs.Requests.{Answer}
 use Rattle.page_pool.specs.Pool.{Pages}
-use Rattle.page_table.specs.Entries.{Names}
-use Rattle.page_table.specs.Frames.{Stands}
-use Rattle.page_table.specs.Sharing.{occ, Agree, most_spaces}
-use Rattle.page_table.proofs.Framing.{Same, agree_same, stands_of}
-use Rattle.data_space.specs.Data.{SpaceData}
-use Rattle.space_memory.specs.Memories.{MemoryData, most_roots, forgotten, with_new}
-use Rattle.task_tidy.specs.Below.task_job.specs.Here.{Knows, content_at, Frames, MemoryFrames}
-use Rattle.task_tidy.specs.Below.task_job.proofs.Here.{agree_after}
-use Rattle.task_tidy.specs.Below.source_machine.specs.Tasks.{Own, replied, with_doing}
-use Rattle.task_tidy.specs.Below.source_machine.specs.Systems.{with_own}
-use Rattle.task_tidy.specs.Below.live_task.specs.declared.task.Task.{Task}
-use Rattle.task_tidy.specs.Below.live_task.specs.declared.task.Doing.{Doing as Does}
-use Rattle.task_tidy.specs.Below.live_task.specs.declared.task.Doing.TheVariants as does
-use Rattle.task_tidy.specs.Below.live_task.specs.Stands.{StandsFor, Due, IsSound, IsSoundDoing}
-use Rattle.task_tidy.specs.Below.live_task.proofs.Carried.{stands_carried}
-use Rattle.task_tidy.specs.Below.live_task.proofs.Dues.{due_carried}
-use Rattle.task_tidy.specs.Below.task_messages.specs.Passing.{does_run}
+use Rattle.live_tasks.specs.Below.page_table.specs.Entries.{Names}
+use Rattle.live_tasks.specs.Below.page_table.specs.Frames.{Stands}
+use Rattle.live_tasks.specs.Below.page_table.specs.Sharing.{occ, Agree, most_spaces}
+use Rattle.live_tasks.specs.Below.page_table.proofs.Framing.{Same, agree_same, stands_of}
+use Rattle.live_tasks.specs.Below.data_space.specs.Data.{SpaceData}
+use Rattle.live_tasks.specs.Below.space_memory.specs.Memories.{MemoryData, most_roots, forgotten, with_new}
+use Rattle.live_tasks.specs.Below.task_job.specs.Here.{Knows, content_at, Frames, MemoryFrames}
+use Rattle.live_tasks.specs.Below.task_job.proofs.Here.{agree_after}
+use Rattle.live_tasks.specs.Below.system_meaning.specs.Tasks.{Own, replied, with_doing}
+use Rattle.live_tasks.specs.Below.system_meaning.specs.Systems.{with_own}
+use Rattle.live_tasks.specs.Below.live_task.specs.declared.task.Task.{Task}
+use Rattle.live_tasks.specs.Below.live_task.specs.declared.task.Doing.{Doing as Does}
+use Rattle.live_tasks.specs.Below.live_task.specs.declared.task.Doing.TheVariants as does
+use Rattle.live_tasks.specs.Below.live_task.specs.Stands.{StandsFor, Due, IsSound, IsSoundDoing}
+use Rattle.live_tasks.specs.Below.live_task.proofs.Carried.{stands_carried}
+use Rattle.live_tasks.specs.Below.live_task.proofs.Dues.{due_carried}
+use Rattle.live_tasks.specs.Below.task_messages.specs.Passing.{does_run}
 use Rattle.live_tasks.specs.Tasks.{Live, IsFit, StandIn, task_roots, all_roots}
-use Rattle.space_memory.specs.Live.{IsLive}
+use Rattle.live_tasks.specs.Below.space_memory.specs.Live.{IsLive}
 use Rattle.live_tasks.specs.Handing.{CanGo, Owed, paid, owing, StandsOrDue, handing}
 use Rattle.live_tasks.proofs.Owning.{joined, split, others_stand, room_memory}
 use Rattle.live_tasks.proofs.Standing.{roots_fit, call_small, call_sound, with_own_is}

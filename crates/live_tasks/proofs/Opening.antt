@@ -5,13 +5,13 @@ use Rattle.std.proofs.lemmas.List.{length-append}
 use Rattle.std.proofs.lemmas.List.Elements.{All-from_recursion}
 use Rattle.eu_base.specs.declared.value.Kind.{Kind}
 use Rattle.page_pool.specs.Pool.{Pages}
-use Rattle.task_tidy.specs.Below.task_job.specs.Here.{Knows, Frames}
-use Rattle.page_table.specs.Sharing.{Agree}
-use Rattle.page_table.proofs.Framing.{nil_agree}
-use Rattle.space_memory.specs.Memories.{most_roots}
-use Rattle.task_tidy.specs.Below.live_task.specs.declared.task.Task.{Task}
-use Rattle.task_tidy.specs.Below.live_task.specs.Stands.{StandsFor, IsSound}
-use Rattle.task_tidy.specs.Below.source_machine.specs.Systems.{new_own}
+use Rattle.live_tasks.specs.Below.task_job.specs.Here.{Knows, Frames}
+use Rattle.live_tasks.specs.Below.page_table.specs.Sharing.{Agree}
+use Rattle.live_tasks.specs.Below.page_table.proofs.Framing.{nil_agree}
+use Rattle.live_tasks.specs.Below.space_memory.specs.Memories.{most_roots}
+use Rattle.live_tasks.specs.Below.live_task.specs.declared.task.Task.{Task}
+use Rattle.live_tasks.specs.Below.live_task.specs.Stands.{StandsFor, IsSound}
+use Rattle.live_tasks.specs.Below.system_meaning.specs.Systems.{new_own}
 use Rattle.live_tasks.specs.Tasks.{IsFit, StandIn, task_roots}
 
 -- a pool that was just made

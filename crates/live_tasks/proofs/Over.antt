@@ -6,19 +6,19 @@ use Rattle.std.proofs.lemmas.Option.{slice_get_within}
 use Rattle.eu_base.specs.declared.value.Kind.{Kind}
 use Rattle.eu_base.specs.Room.{cells_fit}
 use Rattle.page_pool.specs.Pool.{Pages}
-use Rattle.page_table.specs.Entries.{Names}
-use Rattle.space_memory.specs.Memories.{most_roots}
-use Rattle.task_tidy.specs.Below.task_job.specs.Here.{MemoryFrames}
-use Rattle.task_tidy.specs.Below.task_job.proofs.Here.{memory_frames_none}
+use Rattle.live_tasks.specs.Below.page_table.specs.Entries.{Names}
+use Rattle.live_tasks.specs.Below.space_memory.specs.Memories.{most_roots}
+use Rattle.live_tasks.specs.Below.task_job.specs.Here.{MemoryFrames}
+use Rattle.live_tasks.specs.Below.task_job.proofs.Here.{memory_frames_none}
 use Rattle.elan_types.specs.Eval.{World}
-use Rattle.task_tidy.specs.Below.source_machine.specs.Tasks.{Command, Own, Idle, store_in, with_doing}
-use Rattle.task_tidy.specs.Below.source_machine.specs.Systems.{with_own}
-use Rattle.task_tidy.specs.Below.source_machine.specs.Monitor.{with_packet}
-use Rattle.task_tidy.specs.Below.live_task.specs.declared.task.Task.{Task}
-use Rattle.task_tidy.specs.Below.live_task.specs.Stands.{StandsFor, StandsOver}
-use Rattle.task_tidy.specs.Below.live_task.proofs.Installing.{program_over}
-use Rattle.task_tidy.specs.Below.units.specs.declared.unit.Compiled.{Compiled}
-use Rattle.task_tidy.specs.Below.units.specs.Sound.{IsSoundUnit}
+use Rattle.live_tasks.specs.Below.system_meaning.specs.Tasks.{Command, Own, Idle, store_in, with_doing}
+use Rattle.live_tasks.specs.Below.system_meaning.specs.Systems.{with_own}
+use Rattle.live_tasks.specs.Below.system_meaning.specs.Monitor.{with_packet}
+use Rattle.live_tasks.specs.Below.live_task.specs.declared.task.Task.{Task}
+use Rattle.live_tasks.specs.Below.live_task.specs.Stands.{StandsFor, StandsOver}
+use Rattle.live_tasks.specs.Below.live_task.proofs.Installing.{program_over}
+use Rattle.live_tasks.specs.Below.units.specs.declared.unit.Compiled.{Compiled}
+use Rattle.live_tasks.specs.Below.units.specs.Sound.{IsSoundUnit}
 use Rattle.live_tasks.specs.Tasks.{Live, IsFit, Stand, StandIn, StandBut, StandOver, AgreeBut, task_roots}
 use Rattle.live_tasks.proofs.Standing.{For, call_puts, with_own_is}
 use Rattle.live_tasks.proofs.Zips.{found_other, set_same, zip_set, zip_change}

@@ -8,15 +8,15 @@ use Rattle.std.proofs.lemmas.List.Elements.{All-head, All-tail}
 use Rattle.std.proofs.lemmas.Option.{none-some, same_Some}
 use Rattle.std.proofs.Math.Logic.{∥∥₁_map}
 use Rattle.page_pool.specs.Pool.{Pages}
-use Rattle.page_table.specs.Entries.{Names}
-use Rattle.page_table.specs.Frames.{Stands}
-use Rattle.page_table.specs.Sharing.{occ, Agree, most_spaces}
-use Rattle.page_table.proofs.Counting.{occ-append, names_same}
-use Rattle.page_table.proofs.Moving.{in_like, equal}
-use Rattle.page_table.proofs.Framing.{Same, same_self, reorder, agree_same, stands_of}
-use Rattle.space_memory.specs.Memories.{most_roots, StandsWhole}
-use Rattle.task_tidy.specs.Below.task_job.specs.Here.{Knows, content_at, Frames, MemoryFrames}
-use Rattle.task_tidy.specs.Below.task_job.proofs.Here.{agree_after}
+use Rattle.live_tasks.specs.Below.page_table.specs.Entries.{Names}
+use Rattle.live_tasks.specs.Below.page_table.specs.Frames.{Stands}
+use Rattle.live_tasks.specs.Below.page_table.specs.Sharing.{occ, Agree, most_spaces}
+use Rattle.live_tasks.specs.Below.page_table.proofs.Counting.{occ-append, names_same}
+use Rattle.live_tasks.specs.Below.page_table.proofs.Moving.{in_like, equal}
+use Rattle.live_tasks.specs.Below.page_table.proofs.Framing.{Same, same_self, reorder, agree_same, stands_of}
+use Rattle.live_tasks.specs.Below.space_memory.specs.Memories.{most_roots, StandsWhole}
+use Rattle.live_tasks.specs.Below.task_job.specs.Here.{Knows, content_at, Frames, MemoryFrames}
+use Rattle.live_tasks.specs.Below.task_job.proofs.Here.{agree_after}
 use Rattle.task_ends.specs.Refused.{RoomFrames, Refused}
 use Rattle.live_tasks.proofs.Zips.{remove_set, found_set, zip_others}
 

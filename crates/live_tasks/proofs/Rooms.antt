@@ -12,10 +12,10 @@ use Rattle.eu_base.specs.DataSpaces.{Heads, head_of, heads_of, is_live, without_
 use Rattle.eu_base.specs.SpaceOperations.{room_refusal}
 use Rattle.eu_base.proofs.Heads.{long_heads}
 use Rattle.page_pool.specs.Pool.{Pages}
-use Rattle.task_tidy.specs.Below.source_machine.specs.Tasks.{Own, now}
-use Rattle.task_tidy.specs.Below.live_task.specs.declared.task.Task.{Task}
-use Rattle.task_tidy.specs.Below.live_task.specs.Stands.{StandsFor}
-use Rattle.task_tidy.specs.Below.task_texts.proofs.Seen.{heads_now, many_spaces}
+use Rattle.live_tasks.specs.Below.system_meaning.specs.Tasks.{Own, now}
+use Rattle.live_tasks.specs.Below.live_task.specs.declared.task.Task.{Task}
+use Rattle.live_tasks.specs.Below.live_task.specs.Stands.{StandsFor}
+use Rattle.live_tasks.specs.Below.task_texts.proofs.Seen.{heads_now, many_spaces}
 
 -- by how many live, and the last number
 abbrev pub refusal_of : ℕ → ℕ → Option Stop

@@ -9,20 +9,20 @@ use Rattle.std.proofs.lemmas.Option.{none-some, same_Some, slice_get_read, slice
 use Rattle.std.proofs.lemmas.Slice.Zip.{AllZip-long, all_zipped_more}
 use Rattle.eu_base.specs.declared.value.Kind.{Kind}
 use Rattle.page_pool.specs.Pool.{Pages}
-use Rattle.page_table.specs.Entries.{Names}
-use Rattle.page_table.specs.Frames.{Stands}
-use Rattle.space_memory.specs.Memories.{most_roots, StandsWhole}
-use Rattle.task_tidy.specs.Below.task_job.specs.Here.{Knows, content_at, Frames, MemoryFrames}
-use Rattle.task_tidy.specs.Below.task_job.proofs.Here.{frames_before, agree_after}
-use Rattle.page_table.specs.Sharing.{occ, Agree, most_spaces}
-use Rattle.page_table.proofs.Framing.{agree_same}
-use Rattle.page_table.proofs.Moving.{equal}
-use Rattle.task_tidy.specs.Below.source_machine.specs.Tasks.{Own}
-use Rattle.task_tidy.specs.Below.source_machine.specs.Systems.{with_own}
-use Rattle.task_tidy.specs.Below.source_machine.specs.Ends.{has_packet}
-use Rattle.task_tidy.specs.Below.live_task.specs.declared.task.Task.{Task}
-use Rattle.task_tidy.specs.Below.live_task.specs.Stands.{StandsFor, IsSound}
-use Rattle.task_tidy.specs.Below.live_task.proofs.Carried.{stands_carried}
+use Rattle.live_tasks.specs.Below.page_table.specs.Entries.{Names}
+use Rattle.live_tasks.specs.Below.page_table.specs.Frames.{Stands}
+use Rattle.live_tasks.specs.Below.space_memory.specs.Memories.{most_roots, StandsWhole}
+use Rattle.live_tasks.specs.Below.task_job.specs.Here.{Knows, content_at, Frames, MemoryFrames}
+use Rattle.live_tasks.specs.Below.task_job.proofs.Here.{frames_before, agree_after}
+use Rattle.live_tasks.specs.Below.page_table.specs.Sharing.{occ, Agree, most_spaces}
+use Rattle.live_tasks.specs.Below.page_table.proofs.Framing.{agree_same}
+use Rattle.live_tasks.specs.Below.page_table.proofs.Moving.{equal}
+use Rattle.live_tasks.specs.Below.system_meaning.specs.Tasks.{Own}
+use Rattle.live_tasks.specs.Below.system_meaning.specs.Systems.{with_own}
+use Rattle.live_tasks.specs.Below.system_meaning.specs.Ends.{has_packet}
+use Rattle.live_tasks.specs.Below.live_task.specs.declared.task.Task.{Task}
+use Rattle.live_tasks.specs.Below.live_task.specs.Stands.{StandsFor, IsSound}
+use Rattle.live_tasks.specs.Below.live_task.proofs.Carried.{stands_carried}
 use Rattle.task_ends.specs.Refused.{RoomFrames, Refused}
 use Rattle.live_tasks.specs.Tasks.{Live, IsFit, StandIn, Stand, StandBut, task_roots, all_roots, most_tasks}
 use Rattle.live_tasks.proofs.Owning.{room_frames, room_memory, joined, grown, not_many, split, stands, whole, agrees, others_same, agrees_refused, all_carried, others_stand}

@@ -4,12 +4,12 @@ use Rattle.std.specs.List.{AllZip}
 use Rattle.eu_base.specs.declared.value.Kind.{Kind}
 use Rattle.eu_base.specs.Requests.{Answer}
 use Rattle.page_pool.specs.Pool.{Pages}
-use Rattle.space_memory.specs.Live.{IsLive}
+use Rattle.live_tasks.specs.Below.space_memory.specs.Live.{IsLive}
 use Rattle.task_numbers.specs.declared.number.SpaceNo.{SpaceNo}
-use Rattle.task_tidy.specs.Below.source_machine.specs.Tasks.{Own}
-use Rattle.task_tidy.specs.Below.live_task.specs.declared.task.Task.{Task}
-use Rattle.task_tidy.specs.Below.live_task.specs.Stands.{StandsFor, Due}
-use Rattle.task_tidy.specs.Below.task_messages.specs.Passing.{does_run}
+use Rattle.live_tasks.specs.Below.system_meaning.specs.Tasks.{Own}
+use Rattle.live_tasks.specs.Below.live_task.specs.declared.task.Task.{Task}
+use Rattle.live_tasks.specs.Below.live_task.specs.Stands.{StandsFor, Due}
+use Rattle.live_tasks.specs.Below.task_messages.specs.Passing.{does_run}
 use Rattle.live_tasks.specs.Tasks.{Live}
 
 -- ---- answers that are due

@@ -4,17 +4,17 @@ use Rattle.std.specs.List.{All, AllZip, flat_map, remove}
 use Rattle.eu_base.specs.declared.value.Kind.{Kind}
 use Rattle.eu_base.specs.declared.stop.Stop.TheVariants.{Halted}
 use Rattle.page_pool.specs.Pool.{Pages}
-use Rattle.page_table.specs.Entries.{Names}
-use Rattle.page_table.specs.Sharing.{Agree}
-use Rattle.space_memory.specs.Memories.{roots, most_roots}
+use Rattle.live_tasks.specs.Below.page_table.specs.Entries.{Names}
+use Rattle.live_tasks.specs.Below.page_table.specs.Sharing.{Agree}
+use Rattle.live_tasks.specs.Below.space_memory.specs.Memories.{roots, most_roots}
 use Rattle.elan_types.specs.Eval.{World}
 use Rattle.elan_types.specs.Command.{Ending, Ended, Stopped, OutOfMarks, Asks}
-use Rattle.task_tidy.specs.Below.source_machine.specs.Tasks.{Command, Doing, Idle, Entering, Running, Own, ending, world_of, spent, with_doing}
-use Rattle.task_tidy.specs.Below.source_machine.specs.Systems.{with_own}
-use Rattle.task_tidy.specs.Below.live_task.specs.declared.task.Task.{Task}
-use Rattle.task_tidy.specs.Below.live_task.specs.declared.task.Went.{Went}
-use Rattle.task_tidy.specs.Below.live_task.specs.declared.task.Went.TheVariants as went
-use Rattle.task_tidy.specs.Below.live_task.specs.Stands.{StandsFor, StandsOver, IsSound, IsOver}
+use Rattle.live_tasks.specs.Below.system_meaning.specs.Tasks.{Command, Doing, Idle, Entering, Running, Own, ending, world_of, spent, with_doing}
+use Rattle.live_tasks.specs.Below.system_meaning.specs.Systems.{with_own}
+use Rattle.live_tasks.specs.Below.live_task.specs.declared.task.Task.{Task}
+use Rattle.live_tasks.specs.Below.live_task.specs.declared.task.Went.{Went}
+use Rattle.live_tasks.specs.Below.live_task.specs.declared.task.Went.TheVariants as went
+use Rattle.live_tasks.specs.Below.live_task.specs.Stands.{StandsFor, StandsOver, IsSound, IsOver}
 
 -- the pages of the pool, and the tasks in the order of the tree
 pub record Live : Type 0 where

@@ -1,6 +1,7 @@
 //! All tasks over one pool.
 #![tactic(auto)]
 
+pub mod below;
 mod looks;
 mod messages;
 mod tasks;

@@ -2,13 +2,13 @@
 ghost use Rattle.std.specs.Prelude.{◌≡◌, ◌<◌, ◌≤◌, ◌*◌, ℕ, List as Lists, length, map, sum, nat_le, not, Some, IfOk, slice_get};
 ghost use Rattle.eu_base.specs.declared.value.Kind.{Kind};
 ghost use Rattle.page_pool.specs.Pool.{Pages};
-ghost use Rattle.source_texts.specs.Sources.{most_lines};
-ghost use Rattle.named_texts.specs.Sources.{source_in, IsShort};
-ghost use Rattle.task_tidy.specs.Below.source_machine.specs.Stores.{Store, entering_refusal, space_under};
-ghost use Rattle.task_tidy.specs.Below.source_machine.specs.Tasks.{Own, Entering as Enters, now, is_running};
-ghost use Rattle.task_tidy.specs.Below.source_machine.specs.Monitor.{directory_of};
-ghost use Rattle.task_tidy.specs.Below.source_machine.specs.Supervisor.{spaces_of, state_of};
-ghost use Rattle.task_tidy.specs.Below.task_texts.specs.Doings.{is_idle, is_entering};
+ghost use Rattle.live_tasks.specs.Below.source_texts.specs.Sources.{most_lines};
+ghost use Rattle.live_tasks.specs.Below.named_texts.specs.Sources.{source_in, IsShort};
+ghost use Rattle.live_tasks.specs.Below.system_meaning.specs.Stores.{Store, entering_refusal, space_under};
+ghost use Rattle.live_tasks.specs.Below.system_meaning.specs.Tasks.{Own, Entering as Enters, now, is_running};
+ghost use Rattle.live_tasks.specs.Below.system_meaning.specs.Monitor.{directory_of};
+ghost use Rattle.live_tasks.specs.Below.system_meaning.specs.Supervisor.{spaces_of, state_of};
+ghost use Rattle.live_tasks.specs.Below.task_texts.specs.Doings.{is_idle, is_entering};
 ghost use Rattle.live_tasks.specs.Tasks.{Stand, StandIn, most_tasks};
 
 use crate::tasks::Tasks;

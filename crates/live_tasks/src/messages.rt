@@ -9,8 +9,8 @@ ghost use Rattle.eu_base.specs.Requests.{Answer, plain, sent_by};
 ghost use Rattle.eu_base.specs.declared.request.Reply.TheVariants as replies;
 ghost use Rattle.eu_base.specs.DataSpaces.{Forgets, heads_of, is_live, the_space, without_space, next_number, most_live, last_number};
 ghost use Rattle.eu_base.specs.SpaceOperations.{room_refusal};
-ghost use Rattle.task_tidy.specs.Below.source_machine.specs.Tasks.{Own, now, request_of, replied, with_doing};
-ghost use Rattle.task_tidy.specs.Below.source_machine.specs.Systems.{with_own};
+ghost use Rattle.live_tasks.specs.Below.system_meaning.specs.Tasks.{Own, now, request_of, replied, with_doing};
+ghost use Rattle.live_tasks.specs.Below.system_meaning.specs.Systems.{with_own};
 ghost use Rattle.live_tasks.specs.Tasks.{Stand};
 ghost use Rattle.live_tasks.specs.Handing.{Owed, StandOrDue, CanGo, handing, owing, paid};
 

@@ -5,16 +5,16 @@ ghost use Rattle.eu_base.specs.declared.value.Kind.{Kind};
 ghost use Rattle.eu_base.specs.Requests.{plain, is_plain};
 ghost use Rattle.eu_base.specs.Room.{cells_fit};
 ghost use Rattle.cell_kinds.specs.Kinds.{packet_kinds};
-ghost use Rattle.code_gen.specs.Codes.{IsCodeOf};
+ghost use Rattle.live_tasks.specs.Below.code_gen.specs.Codes.{IsCodeOf};
 ghost use Rattle.elan_types.specs.Eval.{World};
-ghost use Rattle.task_tidy.specs.Below.packet_store.specs.Units.{IsUnit};
-ghost use Rattle.task_tidy.specs.Below.units.specs.Sound.{IsSoundUnit};
-ghost use Rattle.task_tidy.specs.Below.source_machine.specs.Stores.{Store, heir, tidied};
-ghost use Rattle.task_tidy.specs.Below.source_machine.specs.Tasks.{Command, Own, Idle as Idles, Running as Runs, now, starting, request_of, replied, own_variables, settled, store_in, with_doing};
-ghost use Rattle.task_tidy.specs.Below.source_machine.specs.Systems.{with_own, new_own};
-ghost use Rattle.task_tidy.specs.Below.source_machine.specs.Ends.{has_packet};
-ghost use Rattle.task_tidy.specs.Below.source_machine.specs.Monitor.{with_packet};
-ghost use Rattle.task_tidy.specs.Below.live_task.specs.Stands.{IsWhole};
+ghost use Rattle.live_tasks.specs.Below.packet_store.specs.Units.{IsUnit};
+ghost use Rattle.live_tasks.specs.Below.units.specs.Sound.{IsSoundUnit};
+ghost use Rattle.live_tasks.specs.Below.system_meaning.specs.Stores.{Store, heir, tidied};
+ghost use Rattle.live_tasks.specs.Below.system_meaning.specs.Tasks.{Command, Own, Idle as Idles, Running as Runs, now, starting, request_of, replied, own_variables, settled, store_in, with_doing};
+ghost use Rattle.live_tasks.specs.Below.system_meaning.specs.Systems.{with_own, new_own};
+ghost use Rattle.live_tasks.specs.Below.system_meaning.specs.Ends.{has_packet};
+ghost use Rattle.live_tasks.specs.Below.system_meaning.specs.Monitor.{with_packet};
+ghost use Rattle.live_tasks.specs.Below.live_task.specs.Stands.{IsWhole};
 ghost use Rattle.task_tidy.specs.Tidied.{kinds_with};
 ghost use Rattle.live_tasks.specs.Tasks.{Stand, StandOver, AgreeBut, WentOn, HaltedAs, most_tasks};
 
@@ -36,7 +36,7 @@ pub struct Tasks {
 impl Model for Tasks {
     ghost use Rattle.std.specs.Coded.{codes};
     ghost use Rattle.page_pool.specs.contracts.pool.Pool as pools;
-    ghost use Rattle.task_tidy.specs.Below.live_task.specs.contracts.task.Task as one_task;
+    ghost use Rattle.live_tasks.specs.Below.live_task.specs.contracts.task.Task as one_task;
     ghost use Rattle.live_tasks.specs.Tasks.{Live, IsFit};
 
     ghost Value = { Live };

@@ -1,18 +1,18 @@
 //! Texts of one of the tasks.
 ghost use Rattle.std.specs.Prelude.{◌≡◌, ◌<◌, ◌≤◌, ◌++◌, ℕ, List as Lists, [], ◌∷◌, length, nat_le, false, Some, None, OnOk, slice_get};
 ghost use Rattle.eu_base.specs.declared.value.Kind.{Kind};
-ghost use Rattle.space_memory.specs.Memories.{roots, most_roots};
-ghost use Rattle.source_texts.specs.declared.shape.TheConstants.{LONGEST_LINE};
-ghost use Rattle.source_texts.specs.Sources.{most_lines, source_space};
-ghost use Rattle.task_tidy.specs.Below.source_machine.specs.Stores.{Store, entering_refusal, with_named};
-ghost use Rattle.task_tidy.specs.Below.source_machine.specs.Tasks.{Own, Idle as Idles, Entering as Enters, with_doing};
-ghost use Rattle.task_tidy.specs.Below.source_machine.specs.Systems.{with_own};
-ghost use Rattle.task_tidy.specs.Below.task_texts.specs.Doings.{is_entering};
+ghost use Rattle.live_tasks.specs.Below.space_memory.specs.Memories.{roots, most_roots};
+ghost use Rattle.live_tasks.specs.Below.source_texts.specs.declared.shape.TheConstants.{LONGEST_LINE};
+ghost use Rattle.live_tasks.specs.Below.source_texts.specs.Sources.{most_lines, source_space};
+ghost use Rattle.live_tasks.specs.Below.system_meaning.specs.Stores.{Store, entering_refusal, with_named};
+ghost use Rattle.live_tasks.specs.Below.system_meaning.specs.Tasks.{Own, Idle as Idles, Entering as Enters, with_doing};
+ghost use Rattle.live_tasks.specs.Below.system_meaning.specs.Systems.{with_own};
+ghost use Rattle.live_tasks.specs.Below.task_texts.specs.Doings.{is_entering};
 ghost use Rattle.live_tasks.specs.Tasks.{Stand};
 
+use crate::below::of_space_memory::SpaceMemory;
 use crate::tasks::Tasks;
 use eu_base::{Bytes, NoMemory};
-use space_memory::SpaceMemory;
 use std::alloc::Global;
 
 impl Tasks {

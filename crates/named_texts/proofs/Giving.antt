@@ -5,15 +5,15 @@ use Rattle.std.specs.Prelude.{OnOk, OnErr, is_some}
 use Rattle.std.specs.List.{AllByRecursion}
 use Rattle.eu_base.specs.Spaces.{IsKept}
 use Rattle.task_numbers.specs.declared.number.SpaceNo.{SpaceNo}
-use Rattle.page_table.specs.Entries.{Names}
-use Rattle.page_table.specs.Frames.{Over as Pages, Knows, content_at, Frames, Stands}
-use Rattle.page_table.proofs.Framing.{frames_nil, frames_more, frames_then, stands_after}
+use Rattle.named_texts.specs.Below.page_table.specs.Entries.{Names}
+use Rattle.named_texts.specs.Below.page_table.specs.Frames.{Over as Pages, Knows, content_at, Frames, Stands}
+use Rattle.named_texts.specs.Below.page_table.proofs.Framing.{frames_nil, frames_more, frames_then, stands_after}
 use Rattle.data_space.specs.Data.{SpaceData}
 use Rattle.source_texts.specs.Spaces.{HoldsSpace}
 use Rattle.source_texts.specs.Sources.{source_space}
 use Rattle.space_memory.specs.Live.{IsLive, space_at}
 use Rattle.space_memory.specs.Kept.{KeepsBytes}
-use Rattle.space_names.specs.Directory as directory
+use Rattle.named_texts.specs.Below.space_names.specs.Directory as directory
 use Rattle.space_memory.specs.Memories.{MemoryData, roots, with_new, forgotten}
 use Rattle.space_memory.proofs.Framed.{beside_keep, taken_same, given_same, roots_long}
 use Rattle.named_texts.specs.Texts.{without_named, named_last, KeepsText}

@@ -4,7 +4,7 @@ use Rattle.std.proofs.lemmas.List.{map-append}
 use Rattle.std.proofs.lemmas.Option.{none-some, same_Some}
 use Rattle.std.specs.Prelude.{slice_get}
 use Rattle.page_pool.specs.Pool.{Pages}
-use Rattle.page_table.specs.Frames.{Stands}
+use Rattle.named_texts.specs.Below.page_table.specs.Frames.{Stands}
 use Rattle.data_space.specs.Data.{SpaceData}
 use Rattle.space_memory.specs.Live.{space_at}
 use Rattle.space_memory.proofs.Roots.{one_stands}

@@ -1,13 +1,13 @@
 -- Texts that a memory keeps under names.
 use Rattle.std.specs.Prelude.{◌≡◌, ℕ, List, Option, None, Some, option_and_then}
 use Rattle.task_numbers.specs.declared.number.SpaceNo.{SpaceNo}
-use Rattle.page_table.specs.Frames.{Over as Pages, Knows}
+use Rattle.named_texts.specs.Below.page_table.specs.Frames.{Over as Pages, Knows}
 use Rattle.data_space.specs.Data.{SpaceData}
 use Rattle.source_texts.specs.Spaces.{HoldsSpace}
 use Rattle.source_texts.specs.Sources.{source_space}
 use Rattle.space_memory.specs.Live.{space_at}
 use Rattle.space_memory.specs.Kept.{KeepsBytes}
-use Rattle.space_names.specs.Directory as directory
+use Rattle.named_texts.specs.Below.space_names.specs.Directory as directory
 use Rattle.space_memory.specs.Memories.{MemoryData, roots, with_new, forgotten}
 
 abbrev pub without_named : Option SpaceNo → MemoryData → MemoryData

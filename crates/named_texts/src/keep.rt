@@ -3,9 +3,9 @@ ghost use Rattle.std.specs.Prelude.{◌≡◌, ◌+◌, ◌<◌, ◌≤◌, ◌�
 ghost use Rattle.std.specs.List.{All};
 ghost use Rattle.eu_base.specs.Cells.{HasFaultCause};
 ghost use Rattle.page_pool.specs.Pool.{Tell, Backed};
-ghost use Rattle.page_table.specs.Frames.{over, Frames, Stands};
+ghost use Rattle.named_texts.specs.Below.page_table.specs.Frames.{over, Frames, Stands};
 ghost use Rattle.space_memory.specs.Kept.{KeepsBytes};
-ghost use Rattle.space_names.specs.Directory as directory;
+ghost use Rattle.named_texts.specs.Below.space_names.specs.Directory as directory;
 ghost use Rattle.space_memory.specs.Memories.{roots, with_new};
 ghost use Rattle.named_texts.specs.Texts.{KeepsText, named_last, without_named};
 

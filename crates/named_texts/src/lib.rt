@@ -1,6 +1,7 @@
 //! Source texts under names, in the memory of a task.
 #![tactic(auto)]
 
+pub mod below;
 mod keep;
 mod look;
 

@@ -2,8 +2,8 @@
 ghost use Rattle.std.specs.Prelude.{◌≡◌, map, option_copied, Some, IfOk};
 ghost use Rattle.eu_base.specs.Cells.{HasFaultCause};
 ghost use Rattle.page_pool.specs.Pool.{Backed};
-ghost use Rattle.page_table.specs.Entries.{Names};
-ghost use Rattle.page_table.specs.Frames.{over, Frames, Stands};
+ghost use Rattle.named_texts.specs.Below.page_table.specs.Entries.{Names};
+ghost use Rattle.named_texts.specs.Below.page_table.specs.Frames.{over, Frames, Stands};
 ghost use Rattle.source_texts.specs.Spaces.{Space, HoldsSpace};
 ghost use Rattle.space_memory.specs.Live.{space_at};
 ghost use Rattle.data_space.specs.Data.{SpaceData};

@@ -1,7 +1,7 @@
 -- What a unit stands behind was compiled in order, and so was what stands behind it where it is a packet.
 use Rattle.std.proofs.Common.{◌≡◌, ℕ, Option, Some, None, Result, Ok, Err, sym, subst}
 use Rattle.std.specs.Prelude.{option_map, IfOk}
-use Rattle.elan_names.specs.declared.interface.Interface.{Interface}
+use Rattle.packet_store.specs.Below.elan_names.specs.declared.interface.Interface.{Interface}
 use Rattle.elan_types.specs.declared.core_phrase.Core.{Core}
 use Rattle.elan_scope.specs.declared.env.Env.{Env}
 use Rattle.units.specs.Packets.{after}

@@ -6,29 +6,29 @@ use Rattle.elan_tree.specs.declared.token.Token.{Token}
 use Rattle.elan_tree.specs.declared.tree.Tree.{Tree}
 use Rattle.elan_lexer.specs.declared.error.LexError.TheVariants as lex
 use Rattle.elan_lexer.specs.Tokens.{tokens_of, most_tokens, limited}
-use Rattle.elan_grammar.specs.Rule.{Outcome}
-use Rattle.elan_grammar.specs.Reads as grammar
-use Rattle.elan_grammar.specs.Reads.{Reads}
-use Rattle.elan_grammar.specs.Place.{place_of}
-use Rattle.elan_grammar.proofs.GrammarLaws.{is_read, refused_run, some_left}
-use Rattle.elan_grammar.proofs.PlaceLaws.{some_place}
+use Rattle.packet_store.specs.Below.elan_grammar.specs.Rule.{Outcome}
+use Rattle.packet_store.specs.Below.elan_grammar.specs.Reads as grammar
+use Rattle.packet_store.specs.Below.elan_grammar.specs.Reads.{Reads}
+use Rattle.packet_store.specs.Below.elan_grammar.specs.Place.{place_of}
+use Rattle.packet_store.specs.Below.elan_grammar.proofs.GrammarLaws.{is_read, refused_run, some_left}
+use Rattle.packet_store.specs.Below.elan_grammar.proofs.PlaceLaws.{some_place}
 use Rattle.elan_types.specs.declared.core_phrase.Core.{Core}
 use Rattle.elan_types.specs.declared.core_phrase.Action.{Action}
 use Rattle.elan_types.specs.declared.core_phrase.Body.{Body}
-use Rattle.elan_meant.specs.declared.meant.Meant.{Meant}
-use Rattle.elan_meant.specs.declared.meant.Meant.TheVariants.{Level}
-use Rattle.elan_meant.specs.Parts.{actions_of}
+use Rattle.packet_store.specs.Below.elan_meant.specs.declared.meant.Meant.{Meant}
+use Rattle.packet_store.specs.Below.elan_meant.specs.declared.meant.Meant.TheVariants.{Level}
+use Rattle.packet_store.specs.Below.elan_meant.specs.Parts.{actions_of}
 use Rattle.elan_scope.specs.declared.env.Env.{Env}
 use Rattle.elan_scope.specs.declared.known.Known.{Known}
 use Rattle.elan_scope.specs.Ruled.{Fault, Ruled, gives, breaks, hangs}
 use Rattle.elan_scope.specs.Phrase as form
 use Rattle.elan_scope.specs.Phrase.{plain, Phrase, phrase, all_of}
-use Rattle.elan_rules.specs.Units.{bodies_of}
-use Rattle.elan_rules.specs.Rules.{ruled}
-use Rattle.elan_rules.specs.Meaning.{judged, judged_all}
-use Rattle.elan_rules.proofs.First.{bind_gives, gives_is}
-use Rattle.elan_judge.specs.Level.{text_parts}
-use Rattle.type_names.specs.Faults.{first_fault}
+use Rattle.packet_store.specs.Below.elan_rules.specs.Units.{bodies_of}
+use Rattle.packet_store.specs.Below.elan_rules.specs.Rules.{ruled}
+use Rattle.packet_store.specs.Below.elan_rules.specs.Meaning.{judged, judged_all}
+use Rattle.packet_store.specs.Below.elan_rules.proofs.First.{bind_gives, gives_is}
+use Rattle.packet_store.specs.Below.elan_judge.specs.Level.{text_parts}
+use Rattle.packet_store.specs.Below.type_names.specs.Faults.{first_fault}
 use Rattle.elan_check.specs.declared.error.CheckError.TheVariants as check
 use Rattle.elan_check.specs.Packets.{AreCompiled}
 use Rattle.elan_check.specs.Text.{Answers, bodies_known, judged_text, earliest, faults, core_of}

@@ -1,7 +1,7 @@
 -- A text has one reading behind packets.
 use Rattle.std.proofs.Common.{◌≡◌, ℕ, Bool, List, Option, sym, ap, ◌∙◌}
 use Rattle.elan_scope.specs.declared.env.Env.{Env}
-use Rattle.elan_names.specs.declared.interface.Interface.{Interface}
+use Rattle.packet_store.specs.Below.elan_names.specs.declared.interface.Interface.{Interface}
 use Rattle.elan_types.specs.declared.core_phrase.Core.{Core}
 use Rattle.units.specs.declared.error.Refusal.{Refusal}
 use Rattle.units.specs.declared.unit.Source.{Source}

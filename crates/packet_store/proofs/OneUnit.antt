@@ -1,7 +1,6 @@
 -- A text has one unit.
 use Rattle.std.proofs.Common.{◌≡◌, ℕ, Bool, List, sym, ap, ◌∙◌}
 use Rattle.elan_scope.specs.declared.env.Env.{Env}
-use Rattle.elan_types.specs.declared.core_phrase.Core.{Core}
 use Rattle.units.specs.declared.unit.Compiled.{Compiled}
 use Rattle.packet_store.specs.Units.{IsUnitOf, shown_by}
 use Rattle.packet_store.proofs.Unique.{Laws, one_meaning, the_tree}

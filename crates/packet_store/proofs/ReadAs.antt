@@ -4,8 +4,8 @@ use Rattle.std.specs.Prelude.{is_some}
 use Rattle.elan_tree.specs.declared.token.Token.{Token}
 use Rattle.elan_tree.specs.declared.tree.Tree.{Tree}
 use Rattle.elan_tree.specs.declared.tree.Tree.TheVariants as tree
-use Rattle.elan_grammar.specs.Reads.{Reads}
-use Rattle.elan_grammar.specs.Grammar.{program, packet}
+use Rattle.packet_store.specs.Below.elan_grammar.specs.Reads.{Reads}
+use Rattle.packet_store.specs.Below.elan_grammar.specs.Grammar.{program, packet}
 use Rattle.elan_types.specs.declared.core_phrase.Core.{Core}
 use Rattle.elan_scope.specs.declared.env.Env.{Env}
 use Rattle.elan_check.specs.Text.{Means}

@@ -8,10 +8,9 @@ use Rattle.elan_lexer.specs.declared.error.LexError.TheVariants as lex
 use Rattle.elan_lexer.specs.Tokens.{Answers}
 use Rattle.elan_parser.specs.declared.error.ParseError.{ParseError}
 use Rattle.elan_parser.specs.declared.error.ParseError.TheVariants as syntactic
-use Rattle.elan_grammar.specs.Reads.{Reads}
-use Rattle.elan_grammar.specs.Place.{IsPlace, place_of}
+use Rattle.packet_store.specs.Below.elan_grammar.specs.Reads.{Reads}
+use Rattle.packet_store.specs.Below.elan_grammar.specs.Place.{IsPlace, place_of}
 use Rattle.elan_scope.specs.declared.env.Env.{Env}
-use Rattle.elan_types.specs.declared.core_phrase.Core.{Core}
 use Rattle.elan_check.specs.declared.error.CheckError.{CheckError}
 use Rattle.elan_check.specs.declared.error.CheckError.TheVariants as semantic
 use Rattle.elan_check.specs.Text as tree

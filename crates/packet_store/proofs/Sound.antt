@@ -5,9 +5,9 @@ use Rattle.std.proofs.lemmas.Option.{none-some, same_Some}
 use Rattle.elan_tree.specs.declared.token.Token.{Token}
 use Rattle.elan_tree.specs.declared.tree.Tree.{Tree}
 use Rattle.elan_tree.specs.declared.tree.Tree.TheVariants as trees
-use Rattle.elan_grammar.specs.Reads.{Reads}
-use Rattle.elan_grammar.proofs.GrammarLaws.{one_tree}
-use Rattle.elan_names.specs.declared.interface.Interface.{Interface}
+use Rattle.packet_store.specs.Below.elan_grammar.specs.Reads.{Reads}
+use Rattle.packet_store.specs.Below.elan_grammar.proofs.GrammarLaws.{one_tree}
+use Rattle.packet_store.specs.Below.elan_names.specs.declared.interface.Interface.{Interface}
 use Rattle.elan_types.specs.declared.core_phrase.Core.{Core}
 use Rattle.elan_types.specs.Typing.{IsWellTyped}
 use Rattle.elan_scope.specs.declared.env.Env.{Env}

@@ -1,15 +1,15 @@
 -- Packets stand in later texts, and behind further packets, as they were compiled.
 use Rattle.std.proofs.Common.{◌≡◌, ℕ, ◌-◌, length, Bool, List, [], ◌∷◌, ◌++◌, sym, ap, ◌∙◌, append_assoc, append-nil}
 use Rattle.std.specs.Prelude.{slice_get}
-use Rattle.cell_kinds.specs.declared.packet.Packet.{Packet}
-use Rattle.place_gen.proofs.Cells.{get_left}
-use Rattle.elan_names.specs.declared.interface.Interface.{Interface}
+use Rattle.packet_store.specs.Below.cell_kinds.specs.declared.packet.Packet.{Packet}
+use Rattle.packet_store.specs.Below.place_gen.proofs.Cells.{get_left}
+use Rattle.packet_store.specs.Below.elan_names.specs.declared.interface.Interface.{Interface}
 use Rattle.elan_types.specs.declared.core_phrase.Core.{Core}
 use Rattle.elan_types.specs.declared.core_phrase.Body.{Body}
 use Rattle.elan_scope.specs.declared.env.Env.{Env}
 use Rattle.units.specs.Packets.{after}
 use Rattle.packet_store.specs.Meaning.{Means, means}
-use Rattle.packet_store.specs.Units.{HasPacket, Grows, none, more, Keeps, BodiesKeepTheirNumbers}
+use Rattle.packet_store.specs.Units.{HasPacket, none, more, Keeps, BodiesKeepTheirNumbers}
 
 pub standing : (env : Env) (i : Interface) (c : Core) (n : ℕ) {packet : Bool} {text : List ℕ} {later : Core} → Means (after env i c n) packet text later
     → HasPacket env c n later

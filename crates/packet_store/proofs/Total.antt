@@ -6,11 +6,11 @@ use Rattle.elan_tree.specs.declared.token.Token.{Token}
 use Rattle.elan_tree.specs.declared.tree.Tree.{Tree}
 use Rattle.elan_lexer.specs.declared.error.LexError.TheVariants as lex
 use Rattle.elan_lexer.specs.Tokens.{tokens_of, most_tokens, limited}
-use Rattle.elan_grammar.specs.Rule.{Outcome}
-use Rattle.elan_grammar.specs.Reads as grammar
-use Rattle.elan_grammar.specs.Reads.{Reads}
-use Rattle.elan_grammar.proofs.GrammarLaws.{is_read, refused_run, some_left}
-use Rattle.elan_grammar.proofs.PlaceLaws.{some_place}
+use Rattle.packet_store.specs.Below.elan_grammar.specs.Rule.{Outcome}
+use Rattle.packet_store.specs.Below.elan_grammar.specs.Reads as grammar
+use Rattle.packet_store.specs.Below.elan_grammar.specs.Reads.{Reads}
+use Rattle.packet_store.specs.Below.elan_grammar.proofs.GrammarLaws.{is_read, refused_run, some_left}
+use Rattle.packet_store.specs.Below.elan_grammar.proofs.PlaceLaws.{some_place}
 use Rattle.elan_scope.specs.declared.env.Env.{Env}
 use Rattle.elan_check.specs.Text as tree
 use Rattle.packet_store.specs.Meaning.{HasTokens, means, no_token, too_many, no_tree, no_meaning, HasOutcome, meaning, refusal}

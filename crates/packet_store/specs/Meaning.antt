@@ -7,8 +7,8 @@ use Rattle.elan_lexer.specs.declared.error.LexError.TheVariants as lex
 use Rattle.elan_lexer.specs.Tokens.{tokens_of, limited}
 use Rattle.elan_parser.specs.declared.error.ParseError.{ParseError}
 use Rattle.elan_parser.specs.declared.error.ParseError.TheVariants as syntactic
-use Rattle.elan_grammar.specs.Reads.{Reads}
-use Rattle.elan_grammar.specs.Place.{IsPlace, place_of}
+use Rattle.packet_store.specs.Below.elan_grammar.specs.Reads.{Reads}
+use Rattle.packet_store.specs.Below.elan_grammar.specs.Place.{IsPlace, place_of}
 use Rattle.elan_scope.specs.declared.env.Env.{Env}
 use Rattle.elan_types.specs.declared.core_phrase.Core.{Core}
 use Rattle.elan_types.specs.declared.why.Why.{Why}

@@ -1,8 +1,8 @@
 -- What a text, or a start procedure, is compiled to.
 use Rattle.std.specs.Prelude.{◌≡◌, ℕ, ◌-◌, Bool, length, List, [], ◌∷◌, ◌++◌, Option, Some, None, is_some, slice_get}
-use Rattle.cell_kinds.specs.declared.packet.Packet.{Packet}
+use Rattle.packet_store.specs.Below.cell_kinds.specs.declared.packet.Packet.{Packet}
 use Rattle.elan_types.specs.Typing.{IsWellTyped}
-use Rattle.elan_names.specs.declared.interface.Interface.{Interface}
+use Rattle.packet_store.specs.Below.elan_names.specs.declared.interface.Interface.{Interface}
 use Rattle.elan_types.specs.declared.core_phrase.Core.{Core}
 use Rattle.elan_types.specs.declared.core_phrase.Body.{Body}
 use Rattle.elan_scope.specs.declared.env.Env.{Env}
@@ -14,7 +14,7 @@ use Rattle.elan_check.specs.Packets.{AreCompiled, IsPacket, interface}
 pub use Rattle.units.specs.Starts.{start_unit_of, start_unit}
 use Rattle.units.specs.declared.unit.Source.TheVariants.{Text}
 use Rattle.units.specs.declared.unit.Compiled.{Compiled}
-use Rattle.elan_grammar.specs.Reads.{Reads}
+use Rattle.packet_store.specs.Below.elan_grammar.specs.Reads.{Reads}
 use Rattle.packet_store.specs.Meaning.{HasTokens, Means}
 
 -- A packet shows what later texts see of it, and a program nothing.

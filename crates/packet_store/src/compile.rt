@@ -3,18 +3,18 @@
 ghost use Rattle.std.specs.Prelude.{◌≡◌, ◌<◌, ◌^◌, Bool, List, length, IfOk, IfErr};
 ghost use Rattle.elan_types.specs.Typing.{IsWellTyped};
 ghost use Rattle.elan_tree.specs.declared.token.Token.{Token as Spelled};
-ghost use Rattle.elan_grammar.specs.Reads.{Reads};
+ghost use Rattle.packet_store.specs.Below.elan_grammar.specs.Reads.{Reads};
 ghost use Rattle.elan_scope.specs.declared.env.Env.{Env as Behind};
 ghost use Rattle.elan_check.specs.Packets.{AreCompiled};
 ghost use Rattle.packet_store.specs.Meaning.{HasTokens, IsCause};
 ghost use Rattle.packet_store.specs.Units as spec;
 
+use crate::below::of_elan_names::interface::Interface;
 use crate::error::CompileError;
 use crate::unit::Unit;
 use code_gen::code_of;
 use elan_check::{check, interface_of, started};
 use elan_lexer::tokens;
-use elan_names::interface::Interface;
 use elan_parser::parse;
 use elan_scope::env::Env;
 use elan_tree::{Token, Tree};

@@ -3,9 +3,9 @@
 
 ghost use Rattle.std.specs.Prelude.{◌≡◌, ℕ, Bool, List};
 ghost use Rattle.elan_types.specs.declared.core_phrase.Core.{Core};
-ghost use Rattle.code_form.specs.Program.{Program};
+ghost use Rattle.packet_store.specs.Below.code_form.specs.Program.{Program};
 ghost use Rattle.elan_scope.specs.declared.env.Env.{Env};
-ghost use Rattle.elan_names.specs.declared.interface.Interface.{Interface};
+ghost use Rattle.packet_store.specs.Below.elan_names.specs.declared.interface.Interface.{Interface};
 ghost use Rattle.units.specs.Packets.{after};
 ghost use Rattle.elan_check.specs.Packets.{AreCompiled};
 ghost use Rattle.units.specs.declared.error.Refusal.{Refusal};

@@ -1,6 +1,7 @@
 //! Packets by their numbers, and what texts mean behind them.
 #![tactic(auto)]
 
+pub mod below;
 mod compile;
 mod error;
 mod law;

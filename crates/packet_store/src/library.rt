@@ -2,7 +2,7 @@
 
 ghost use Rattle.std.specs.List.{list_any};
 ghost use Rattle.std.specs.Prelude.{◌≡◌, ◌==◌, ◌+◌, ◌<◌, ◌^◌, ◌↔◌, ◌++◌, ◌∷◌, [], true, Err, Some, length, option_map, is_some, IfErr, IfOk, OnErr, OnOk};
-ghost use Rattle.elan_names.specs.declared.interface.Interface as interfaces;
+ghost use Rattle.packet_store.specs.Below.elan_names.specs.declared.interface.Interface as interfaces;
 ghost use Rattle.units.specs.Packets.{after};
 ghost use Rattle.elan_check.specs.Packets.{AreCompiled};
 ghost use Rattle.packet_store.specs.declared.error.InstallError.TheVariants as install_errors;
@@ -10,10 +10,10 @@ ghost use Rattle.packet_store.specs.Meaning.{IsCause};
 ghost use Rattle.packet_store.specs.Units.{IsUnitOf};
 ghost use Rattle.units.specs.Library as spec;
 
+use crate::below::of_cell_kinds::Packet;
 use crate::compile::{compile_behind, start_behind};
 use crate::error::{CompileError, InstallError};
 use crate::unit::{Loaded, Unit};
-use cell_kinds::Packet;
 use elan_check::{no_packets, packets_after};
 use elan_scope::env::Env;
 use eu_base::{NoMemory, Shared};
@@ -41,7 +41,7 @@ impl Model for Live {
     ghost use Rattle.units.specs.Library as spec;
     ghost use Rattle.elan_check.specs.Packets.{AreCompiled};
     ghost use Rattle.std.specs.Coded.{codes};
-    ghost use Rattle.elan_names.specs.contracts.interface.Interface as interfaces;
+    ghost use Rattle.packet_store.specs.Below.elan_names.specs.contracts.interface.Interface as interfaces;
     ghost use Rattle.elan_scope.specs.contracts.env.Env as envs;
     ghost use Rattle.elan_types.specs.contracts.core_phrase.Core as cores;
 
@@ -57,7 +57,7 @@ impl Model for Live {
 impl Model for Library {
     ghost use Rattle.units.specs.Library as spec;
     ghost use Rattle.std.specs.Coded.{codes};
-    ghost use Rattle.elan_names.specs.contracts.interface.Interface as interfaces;
+    ghost use Rattle.packet_store.specs.Below.elan_names.specs.contracts.interface.Interface as interfaces;
     ghost use Rattle.elan_scope.specs.contracts.env.Env as envs;
     ghost use Rattle.elan_types.specs.contracts.core_phrase.Core as cores;
 

@@ -5,7 +5,7 @@ ghost use Rattle.code_gen.specs.Codes.{IsCodeOf};
 ghost use Rattle.packet_store.specs.Units as spec;
 ghost use Rattle.units.specs.Sound.{IsSoundUnit};
 
-use code_form::Code;
+use crate::below::of_code_form::Code;
 use std::marker::Model;
 use std::mem;
 use units::Compiled;
@@ -27,7 +27,7 @@ pub struct Unit {
 impl Model for Loaded {
     ghost use Rattle.units.specs.declared.unit.Compiled.{Compiled};
     ghost use Rattle.std.specs.Coded.{codes};
-    ghost use Rattle.elan_names.specs.contracts.interface.Interface as interfaces;
+    ghost use Rattle.packet_store.specs.Below.elan_names.specs.contracts.interface.Interface as interfaces;
     ghost use Rattle.elan_scope.specs.contracts.env.Env as envs;
     ghost use Rattle.elan_types.specs.contracts.core_phrase.Core as cores;
     ghost use Rattle.packet_store.specs.Units.{IsUnit};
@@ -45,7 +45,7 @@ impl Model for Unit {
     ghost use Rattle.code_gen.specs.Codes.{IsCodeOf};
     ghost use Rattle.units.specs.declared.unit.Compiled.{Compiled};
     ghost use Rattle.std.specs.Coded.{codes};
-    ghost use Rattle.elan_names.specs.contracts.interface.Interface as interfaces;
+    ghost use Rattle.packet_store.specs.Below.elan_names.specs.contracts.interface.Interface as interfaces;
     ghost use Rattle.elan_scope.specs.contracts.env.Env as envs;
     ghost use Rattle.elan_types.specs.contracts.core_phrase.Core as cores;
     ghost use Rattle.packet_store.specs.Units.{IsUnit};

@@ -2,3 +2,4 @@ pub mod Lines
 pub mod Reading
 pub mod Serving
 pub mod Sessions
+pub mod Below

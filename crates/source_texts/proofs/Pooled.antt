@@ -5,12 +5,12 @@ use Rattle.std.proofs.lemmas.List.{get_or-replicate, get_or_past, length-replica
 use Rattle.std.specs.Option.{ForSome}
 use Rattle.eu_base.specs.Spaces.{IsKept}
 use Rattle.page_pool.specs.Pool.{Pages, Tell}
-use Rattle.page_table.specs.Entries.{Names}
-use Rattle.page_table.specs.Frames.{Over, over, content_at, Frames, Stands}
-use Rattle.page_table.specs.Sharing.{occ}
+use Rattle.source_texts.specs.Below.page_table.specs.Entries.{Names}
+use Rattle.source_texts.specs.Below.page_table.specs.Frames.{Over, over, content_at, Frames, Stands}
+use Rattle.source_texts.specs.Below.page_table.specs.Sharing.{occ}
 use Rattle.data_space.specs.Data.{SpaceData}
 use Rattle.source_texts.specs.Spaces.{Space, HoldsSpace}
-use Rattle.page_table.proofs.Framing.{frames_nil, frames_then, frames_more, stands_after, beside}
+use Rattle.source_texts.specs.Below.page_table.proofs.Framing.{frames_nil, frames_then, frames_more, stands_after, beside}
 
 -- a space without pages is one of zeros
 zeros : (n i : ℕ) → let zero_byte : ℕ = 0 in get_or (replicate n zero_byte) i zero_byte ≡ zero_byte

@@ -18,7 +18,7 @@ use Rattle.eu_base.specs.Spaces.{Content}
 use Rattle.eu_base.specs.Values.{number_in}
 use Rattle.eu_base.specs.Values as base
 use Rattle.cell_layout.specs.Layout.{cell_in}
-use Rattle.page_table.specs.Frames.{Over as Pages, content_at}
+use Rattle.source_texts.specs.Below.page_table.specs.Frames.{Over as Pages, content_at}
 use Rattle.data_space.specs.Data.{SpaceData}
 use Rattle.text_heap.specs.Blocks.{text_in}
 use Rattle.text_heap.specs.Held.{text_of, HoldsCells}

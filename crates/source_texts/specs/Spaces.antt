@@ -6,7 +6,7 @@ use Rattle.eu_base.specs.Cells.{Cell, Cells}
 use Rattle.eu_base.specs.SpaceCells.{value_cell}
 pub use Rattle.eu_base.specs.DataSpaces.{Space}
 pub use Rattle.eu_base.specs.SoundSpaces.{shape_kinds, AreOf, none, one}
-use Rattle.page_table.specs.Frames.{Over as Pages, Knows, content_at}
+use Rattle.source_texts.specs.Below.page_table.specs.Frames.{Over as Pages, Knows, content_at}
 use Rattle.text_heap.specs.Held.{HoldsCells}
 use Rattle.data_space.specs.Data.{SpaceData}
 

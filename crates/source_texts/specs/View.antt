@@ -2,9 +2,9 @@
 use Rattle.std.specs.Prelude.{◌≡◌, [], refl}
 use Rattle.std.proofs.Common.{◌∙◌, arith}
 use Rattle.eu_base.specs.declared.backing.Backing as backing
-use Rattle.page_table.specs.Entries.{Names}
-use Rattle.page_table.specs.Frames.{Over, over, Knows, Frames}
-use Rattle.page_table.proofs.Framing.{frames_none, frames_then}
+use Rattle.source_texts.specs.Below.page_table.specs.Entries.{Names}
+use Rattle.source_texts.specs.Below.page_table.specs.Frames.{Over, over, Knows, Frames}
+use Rattle.source_texts.specs.Below.page_table.proofs.Framing.{frames_none, frames_then}
 use Rattle.source_texts.specs.declared.view.ReadSpace.{ReadSpace}
 
 module _ {B : Type 0} (g : backing.Ghosts B) where

@@ -2,8 +2,8 @@
 ghost use Rattle.std.specs.Prelude.{◌≡◌, ◌+◌, ◌≤◌, ◌++◌, [], ◌∷◌, IfOk, OnOk, option_map};
 ghost use Rattle.eu_base.specs.Cells.{HasFaultCause};
 ghost use Rattle.page_pool.specs.Pool.{Backed};
-ghost use Rattle.page_table.specs.Entries.{Names};
-ghost use Rattle.page_table.specs.Frames.{over, Frames, Stands};
+ghost use Rattle.source_texts.specs.Below.page_table.specs.Entries.{Names};
+ghost use Rattle.source_texts.specs.Below.page_table.specs.Frames.{over, Frames, Stands};
 ghost use Rattle.source_texts.specs.Spaces as spaces;
 ghost use Rattle.units.specs.Sources.{joined, source_text};
 ghost use Rattle.source_texts.specs.Lines.{lines_at, line_count, line_end, text_at};

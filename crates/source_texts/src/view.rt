@@ -1,7 +1,7 @@
 //! A space that is lent to be read.
 ghost use Rattle.std.specs.Prelude.{◌≡◌, [], ◌∷◌};
 ghost use Rattle.page_pool.specs.Pool.{Backed};
-ghost use Rattle.page_table.specs.Frames.{Stands};
+ghost use Rattle.source_texts.specs.Below.page_table.specs.Frames.{Stands};
 
 use data_space::DataSpace;
 use eu_base::{MemFault, Space};
@@ -42,7 +42,7 @@ pub(crate) fn view<'a, B: Backing>(
 }
 
 impl<'a, B: Backing> Space for ReadSpace<'a, B> {
-    ghost use Rattle.page_table.specs.Frames.{content_at, Knows};
+    ghost use Rattle.source_texts.specs.Below.page_table.specs.Frames.{content_at, Knows};
     ghost use Rattle.source_texts.specs.View.{pages_of, ReadFollows, read_known, read_reflexive, read_transitive};
 
     ghost content = { λ view. content_at (pages_of ⟦<B as Backing>⟧ view) view.space.now.root };

@@ -4,7 +4,7 @@ ghost use Rattle.std.specs.List.{All};
 ghost use Rattle.eu_base.specs.declared.address.Area.TheVariants.{Run};
 ghost use Rattle.eu_base.specs.Cells.{HasFaultCause};
 ghost use Rattle.page_pool.specs.Pool.{Known, Backed};
-ghost use Rattle.page_table.specs.Frames.{over, content_at, Frames, Stands};
+ghost use Rattle.source_texts.specs.Below.page_table.specs.Frames.{over, content_at, Frames, Stands};
 ghost use Rattle.text_heap.specs.Held.{HoldsCells};
 ghost use Rattle.source_texts.specs.Spaces.{HoldsSpace, cells_of};
 ghost use Rattle.units.specs.Sources.{source_space};

@@ -23,8 +23,8 @@ use Rattle.eu_base.specs.DataSpaces.{Head, Heads, SpaceChange, Fills, is_live, I
 use Rattle.eu_base.specs.SpaceCells.{IsThere, blank_cells, cells_by}
 use Rattle.eu_base.specs.SpacePlaces.{shaped_kinds, kinds_of, begin_with, lies_in}
 use Rattle.eu_base.specs.SpaceOperations.{Plan, unless, for_one, life_refusal, fitting_plan, bind_plan}
-use Rattle.code_form.specs.declared.operand.Operand.{Operand}
-use Rattle.code_form.specs.Machine.{Mem, Position, Move, Halts, Unknown, goes, is_free, takes_number, with_cells, mem_by, mem_after, are_unknown, can_all_change, fills, keeps_space, binds}
+use Rattle.space_calls.specs.Below.code_form.specs.declared.operand.Operand.{Operand}
+use Rattle.space_calls.specs.Below.code_form.specs.Machine.{Mem, Position, Move, Halts, Unknown, goes, is_free, takes_number, with_cells, mem_by, mem_after, are_unknown, can_all_change, fills, keeps_space, binds}
 use Rattle.zero_state.specs.declared.next.Next.{Next}
 use Rattle.zero_state.specs.Stepping.{mem_of}
 use Rattle.zero_state.proofs.Blocks.{number_bare}

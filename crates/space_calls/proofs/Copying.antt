@@ -15,8 +15,8 @@ use Rattle.eu_base.specs.SpaceCells.{IsThere, cells_from, cells_by}
 use Rattle.eu_base.specs.Room.{cells_fit}
 use Rattle.eu_base.specs.SpacePlaces.{lies_in, is_in}
 use Rattle.eu_base.specs.SpaceOperations.{Plan, unless, copy_refusal, room_refusal, copy_plan, forgetting}
-use Rattle.code_form.specs.declared.operand.Operand.{Operand}
-use Rattle.code_form.specs.Machine.{Mem, Position, Move, Halts, Unknown, goes, if_there, on_word, takes_number, with_cells, mem_by, mem_after, changes, keeps_space, without_held, copies}
+use Rattle.space_calls.specs.Below.code_form.specs.declared.operand.Operand.{Operand}
+use Rattle.space_calls.specs.Below.code_form.specs.Machine.{Mem, Position, Move, Halts, Unknown, goes, if_there, on_word, takes_number, with_cells, mem_by, mem_after, changes, keeps_space, without_held, copies}
 use Rattle.zero_state.specs.declared.next.Next.{Next}
 use Rattle.zero_state.specs.Stepping.{mem_of}
 use Rattle.zero_state.proofs.Blocks.{number_bare}

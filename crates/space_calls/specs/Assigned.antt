@@ -5,8 +5,8 @@ use Rattle.eu_base.specs.Cells.{Cells}
 use Rattle.eu_base.specs.declared.shape.Shape.{Shape}
 use Rattle.eu_base.specs.Shapes.{same_shape}
 use Rattle.eu_base.specs.DataSpaces.{Heads}
-use Rattle.code_form.specs.declared.operand.Operand.{Operand}
-use Rattle.code_form.specs.Machine.{Mem, Position, Move, Halts, Unknown, goes}
+use Rattle.space_calls.specs.Below.code_form.specs.declared.operand.Operand.{Operand}
+use Rattle.space_calls.specs.Below.code_form.specs.Machine.{Mem, Position, Move, Halts, Unknown, goes}
 use Rattle.zero_state.specs.declared.next.Next.{Next}
 use Rattle.zero_state.specs.Stepping.{mem_of}
 use Rattle.space_calls.specs.Planned.{IsStop}

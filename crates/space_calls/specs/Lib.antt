@@ -1,3 +1,4 @@
 pub mod Kinds
 pub mod Planned
 pub mod Assigned
+pub mod Below

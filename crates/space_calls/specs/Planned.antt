@@ -4,8 +4,8 @@ use Rattle.eu_base.specs.declared.stop.Stop.{Stop}
 use Rattle.eu_base.specs.Cells.{Cells}
 use Rattle.eu_base.specs.DataSpaces.{Heads, SpaceChange, heads_after}
 use Rattle.eu_base.specs.SpaceOperations.{Plan}
-use Rattle.code_form.specs.declared.halt.Halt.TheVariants as halts
-use Rattle.code_form.specs.Machine.{mem_after}
+use Rattle.space_calls.specs.Below.code_form.specs.declared.halt.Halt.TheVariants as halts
+use Rattle.space_calls.specs.Below.code_form.specs.Machine.{mem_after}
 use Rattle.zero_state.specs.declared.next.Next.{Next}
 use Rattle.zero_state.specs.Stepping.{mem_of, halt_of}
 

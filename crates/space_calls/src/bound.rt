@@ -6,7 +6,7 @@ ghost use Rattle.eu_base.specs.Shapes.{cell_kinds, same_shape};
 ghost use Rattle.eu_base.specs.Cells.{IsCell, HasFaultCause};
 ghost use Rattle.eu_base.specs.DataSpaces.{IsLive, the_head};
 ghost use Rattle.eu_base.specs.SpacePlaces.{lies_in};
-ghost use Rattle.code_form.specs.Machine.{binds};
+ghost use Rattle.space_calls.specs.Below.code_form.specs.Machine.{binds};
 ghost use Rattle.space_calls.specs.Assigned.{Assigned, Assigns, Shaped};
 
 use crate::are_there;

@@ -3,7 +3,7 @@ ghost use Rattle.std.specs.Prelude.{◌≡◌, IfOk};
 ghost use Rattle.eu_base.specs.Cells.{Cells, IsCell, HasFaultCause};
 ghost use Rattle.eu_base.specs.DataSpaces.{heads_after};
 ghost use Rattle.eu_base.specs.SpaceOperations.{forgetting};
-ghost use Rattle.code_form.specs.Machine.{copies};
+ghost use Rattle.space_calls.specs.Below.code_form.specs.Machine.{copies};
 ghost use Rattle.space_calls.specs.Planned.{cells_after};
 ghost use Rattle.space_calls.specs.Assigned.{Assigns};
 

@@ -11,7 +11,7 @@ use Rattle.eu_base.specs.Spaces.{IsKept}
 use Rattle.eu_base.specs.DataSpaces.{Head, heads_in}
 use Rattle.eu_base.specs.SpaceCells.{IsThere}
 use Rattle.eu_base.proofs.Heads.{live_there}
-use Rattle.page_table.specs.Frames.{Over as Pages, content_at, Frames}
+use Rattle.space_memory.specs.Below.page_table.specs.Frames.{Over as Pages, content_at, Frames}
 use Rattle.data_space.specs.Data.{SpaceData}
 use Rattle.space_memory.specs.Kept.{KeepsBytes, IsOfKind}
 use Rattle.space_memory.specs.Live.{space_at, IsLive, no_space, the_space, without, with_space, space_roots}

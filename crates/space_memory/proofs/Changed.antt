@@ -17,8 +17,8 @@ use Rattle.eu_base.specs.DataSpaces as data_spaces
 use Rattle.eu_base.specs.SpaceCells.{with_area, cells_from, blank_or, blank_cells, cells_by}
 use Rattle.eu_base.proofs.Heads.{append_heads, remove_head, set_head, head_there, live_there, long_heads}
 use Rattle.eu_base.proofs.Places.{same_area_is, same_area_self}
-use Rattle.page_table.specs.Frames.{Over as Pages, Knows}
-use Rattle.page_table.specs.Frames.{content_at}
+use Rattle.space_memory.specs.Below.page_table.specs.Frames.{Over as Pages, Knows}
+use Rattle.space_memory.specs.Below.page_table.specs.Frames.{content_at}
 use Rattle.cell_layout.specs.Layout.{cell_in}
 use Rattle.cell_layout.proofs.Counts.{kinds_counted}
 use Rattle.text_heap.specs.Held.{HoldsCells}

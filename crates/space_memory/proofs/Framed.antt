@@ -4,11 +4,11 @@ use Rattle.std.specs.Map.{lookup, set_value}
 use Rattle.std.specs.Option.{IfSome}
 use Rattle.eu_base.specs.Spaces.{IsKept}
 use Rattle.page_pool.specs.Pool.{Pages}
-use Rattle.page_table.specs.Entries.{Names}
-use Rattle.page_table.specs.Frames.{Over, over, content_at, Frames, Stands}
-use Rattle.page_table.specs.Sharing.{Agree}
-use Rattle.page_table.proofs.Framing.{Same, same_self, frames_same, frames_more, frames_nil, frames_none, frames_then, stands_same, stands_first, stands_after, beside}
-use Rattle.page_table.proofs.Counting.{occ-append}
+use Rattle.space_memory.specs.Below.page_table.specs.Entries.{Names}
+use Rattle.space_memory.specs.Below.page_table.specs.Frames.{Over, over, content_at, Frames, Stands}
+use Rattle.space_memory.specs.Below.page_table.specs.Sharing.{Agree}
+use Rattle.space_memory.specs.Below.page_table.proofs.Framing.{Same, same_self, frames_same, frames_more, frames_nil, frames_none, frames_then, stands_same, stands_first, stands_after, beside}
+use Rattle.space_memory.specs.Below.page_table.proofs.Counting.{occ-append}
 use Rattle.std.proofs.lemmas.List.{length-append, append-nil}
 use Rattle.std.proofs.lemmas.Map.{length-set_value}
 use Rattle.space_memory.specs.Kept.{KeepsBytes, IsOfKind}

@@ -3,8 +3,8 @@ use Rattle.std.proofs.Common.{◌≡◌, ℕ, ◌%◌, [], ◌∷◌, None, get_
 use Rattle.std.specs.Option.{is_some}
 use Rattle.std.proofs.lemmas.Bool.{cases_lt}
 use Rattle.std.proofs.lemmas.List.{get_or-replicate, get_or_past, length-replicate}
-use Rattle.page_table.specs.Frames.{Over as Pages, Knows, content_at, Stands}
-use Rattle.page_table.proofs.Framing.{nil_agree, stands_of}
+use Rattle.space_memory.specs.Below.page_table.specs.Frames.{Over as Pages, Knows, content_at, Stands}
+use Rattle.space_memory.specs.Below.page_table.proofs.Framing.{nil_agree, stands_of}
 use Rattle.eu_base.specs.declared.address.Area.{Area}
 use Rattle.eu_base.specs.declared.address.Area.TheVariants.{Run, Packets, Space}
 use Rattle.eu_base.specs.Cells.{Free}

@@ -11,8 +11,8 @@ use Rattle.eu_base.specs.DataSpaces as data_spaces
 use Rattle.eu_base.specs.SpaceCells.{value_cell, content_cells, cells_by}
 use Rattle.eu_base.proofs.Heads.{append_heads}
 use Rattle.eu_base.proofs.Places.{same_area_is}
-use Rattle.page_table.specs.Frames.{Over as Pages}
-use Rattle.page_table.specs.Frames.{content_at}
+use Rattle.space_memory.specs.Below.page_table.specs.Frames.{Over as Pages}
+use Rattle.space_memory.specs.Below.page_table.specs.Frames.{content_at}
 use Rattle.text_heap.specs.Held.{HoldsCells}
 use Rattle.text_heap.proofs.Kept.{moved_held}
 use Rattle.data_space.specs.Data.{SpaceData}

@@ -10,7 +10,7 @@ use Rattle.eu_base.specs.Spaces.{Content}
 use Rattle.eu_base.specs.Room.{most_blocks}
 use Rattle.eu_base.specs.Cells.{Cell, Word, Letters, Cells, IsCell, area_cell, same_area, written, cell_blocks, area_blocks, HasText, Puts}
 use Rattle.eu_base.proofs.Places.{same_area_is}
-use Rattle.page_table.specs.Frames.{Over as Pages, Knows}
+use Rattle.space_memory.specs.Below.page_table.specs.Frames.{Over as Pages, Knows}
 use Rattle.cell_layout.specs.Layout.{cell_in, HoldsIn, IsKeptBut}
 use Rattle.text_heap.specs.Texts.{Texts, Holds, Sets, KeepsCells}
 use Rattle.text_heap.specs.Texts as heap

@@ -7,13 +7,13 @@ use Rattle.std.specs.Map.{lookup, remove_entry, set_value}
 use Rattle.std.specs.Option.{ForSome}
 use Rattle.eu_base.specs.Spaces.{IsKept}
 use Rattle.page_pool.specs.Pool.{Pages}
-use Rattle.page_table.specs.Entries.{Names}
-use Rattle.page_table.specs.Changes.{FreesOnly}
-use Rattle.page_table.specs.Frames.{Over, content_at, Frames, Stands}
-use Rattle.page_table.specs.Sharing.{hit, occ}
-use Rattle.page_table.proofs.Counting.{hit_some}
-use Rattle.page_table.proofs.Framing.{Same, same_self, frames_same, frames_more, stands_same, stands_first, beside, named_first, named_later}
-use Rattle.page_table.proofs.Moving.{stays_then}
+use Rattle.space_memory.specs.Below.page_table.specs.Entries.{Names}
+use Rattle.space_memory.specs.Below.page_table.specs.Changes.{FreesOnly}
+use Rattle.space_memory.specs.Below.page_table.specs.Frames.{Over, content_at, Frames, Stands}
+use Rattle.space_memory.specs.Below.page_table.specs.Sharing.{hit, occ}
+use Rattle.space_memory.specs.Below.page_table.proofs.Counting.{hit_some}
+use Rattle.space_memory.specs.Below.page_table.proofs.Framing.{Same, same_self, frames_same, frames_more, stands_same, stands_first, beside, named_first, named_later}
+use Rattle.space_memory.specs.Below.page_table.proofs.Moving.{stays_then}
 use Rattle.data_space.specs.Data.{SpaceData}
 use Rattle.space_memory.specs.Kept.{KeepsBytes}
 use Rattle.space_memory.specs.Live.{space_roots}

@@ -4,11 +4,11 @@ use Rattle.std.proofs.Common.{◌∙◌, arith}
 use Rattle.std.proofs.lemmas.List.{length-append}
 use Rattle.eu_base.specs.declared.address.Area.{Area}
 use Rattle.eu_base.specs.Cells.{same_area}
-use Rattle.page_table.specs.Entries.{Names}
+use Rattle.space_memory.specs.Below.page_table.specs.Entries.{Names}
 use Rattle.data_space.specs.Data.{SpaceData}
-use Rattle.page_table.specs.Frames.{Over as Pages, Knows, Frames}
-use Rattle.page_table.proofs.Framing.{frames_none}
-use Rattle.page_table.proofs.Moving.{homes_then}
+use Rattle.space_memory.specs.Below.page_table.specs.Frames.{Over as Pages, Knows, Frames}
+use Rattle.space_memory.specs.Below.page_table.proofs.Framing.{frames_none}
+use Rattle.space_memory.specs.Below.page_table.proofs.Moving.{homes_then}
 use Rattle.space_memory.specs.Kept.{KeepsBytes, IsOfKind}
 use Rattle.space_memory.specs.Live.{the_space, without, space_roots}
 use Rattle.space_memory.specs.Memories.{MemoryData, MemoryFrames, KeepsSpace, changed, is_there, most_roots, memory_heads, roots, space_in}

@@ -4,8 +4,8 @@ use Rattle.std.specs.List.{AllByRecursion}
 use Rattle.eu_base.specs.declared.shape.Shape.{Shape}
 use Rattle.eu_base.specs.Shapes.{cell_count, cell_kinds}
 use Rattle.eu_base.specs.Spaces.{IsKept}
-use Rattle.page_table.specs.Entries.{Names}
-use Rattle.page_table.specs.Frames.{Over as Pages, Knows, content_at}
+use Rattle.space_memory.specs.Below.page_table.specs.Entries.{Names}
+use Rattle.space_memory.specs.Below.page_table.specs.Frames.{Over as Pages, Knows, content_at}
 use Rattle.cell_layout.specs.Layout.{IsBlankFrom, IsKeptBut}
 use Rattle.data_space.specs.Data.{SpaceData}
 

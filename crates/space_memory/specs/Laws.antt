@@ -6,7 +6,7 @@ use Rattle.eu_base.specs.declared.address.Addr.{Addr}
 use Rattle.eu_base.specs.Room.{most_blocks, total}
 use Rattle.eu_base.specs.Cells.{Cell, Free, Word, Letters, Cells, IsCell, area_cell, same_area, written, cell_blocks, area_blocks, Within}
 use Rattle.eu_base.proofs.Places.{same_area_is}
-use Rattle.page_table.specs.Frames.{Over as Pages}
+use Rattle.space_memory.specs.Below.page_table.specs.Frames.{Over as Pages}
 use Rattle.text_heap.specs.Held.{HoldsCells}
 use Rattle.text_heap.proofs.Kept.{other_held, fewer_held, empty_held, room_held}
 use Rattle.space_memory.specs.Memories.{MemoryData, HoldsAll, is_there, bytes_in}

@@ -2,7 +2,7 @@
 use Rattle.std.specs.Prelude.{◌≡◌, refl}
 use Rattle.std.proofs.Common.{◌∙◌}
 use Rattle.eu_base.specs.declared.backing.Backing as backing
-use Rattle.page_table.specs.Frames.{Over, over}
+use Rattle.space_memory.specs.Below.page_table.specs.Frames.{Over, over}
 use Rattle.space_memory.specs.Kept.{IsOfKind}
 use Rattle.space_memory.specs.declared.lent.Lent.{Lent}
 use Rattle.space_memory.specs.Changes.{kind_none, kind_then, memory_frames_none, memory_frames_then}

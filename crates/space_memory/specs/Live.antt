@@ -2,7 +2,7 @@
 use Rattle.std.specs.Prelude.{◌+◌, ◌<◌, ◌≤◌, ℕ, List, [], ◌∷◌, ◌++◌, length, map, nat_eq, Option, None, pos}
 use Rattle.std.specs.Map.{lookup, remove_entry, set_value}
 use Rattle.std.specs.Option.{unwrap_or, IsSome}
-use Rattle.page_table.specs.Entries.{Names}
+use Rattle.space_memory.specs.Below.page_table.specs.Entries.{Names}
 use Rattle.data_space.specs.Data.{SpaceData}
 
 -- the spaces with their numbers, and the last number that was given

@@ -8,9 +8,9 @@ use Rattle.eu_base.specs.Cells.{Free, Cells, area_cell}
 use Rattle.eu_base.specs.Spaces.{Content, IsKept}
 use Rattle.eu_base.specs.DataSpaces.{Head, Heads, heads_in}
 use Rattle.page_pool.specs.Pool.{Pages}
-use Rattle.page_table.specs.Entries.{Names}
-use Rattle.page_table.specs.Frames.{Over, Knows, content_at, Stands, KeepsHomes, Framed}
-use Rattle.page_table.specs.Sharing.{most_spaces, Agree}
+use Rattle.space_memory.specs.Below.page_table.specs.Entries.{Names}
+use Rattle.space_memory.specs.Below.page_table.specs.Frames.{Over, Knows, content_at, Stands, KeepsHomes, Framed}
+use Rattle.space_memory.specs.Below.page_table.specs.Sharing.{most_spaces, Agree}
 use Rattle.text_heap.specs.Held.{HoldsCells}
 use Rattle.data_space.specs.Data.{SpaceData}
 use Rattle.space_memory.specs.Live.{no_space, space_at, the_space, IsLive, without, with_space, space_roots}

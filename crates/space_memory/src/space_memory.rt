@@ -2,9 +2,9 @@
 ghost use Rattle.std.specs.Prelude.{◌≡◌, ◌+◌, ◌≤◌, ◌++◌, [], IfOk, OnErr};
 ghost use Rattle.eu_base.specs.Cells.{Free};
 ghost use Rattle.page_pool.specs.Pool.{used_of, Tell};
-ghost use Rattle.page_table.specs.Changes.{ChangesOnly, FreesOnly};
-ghost use Rattle.page_table.specs.Frames.{Over, over, Knows, content_at, Frames, Stands};
-ghost use Rattle.page_table.specs.Sharing.{Agree};
+ghost use Rattle.space_memory.specs.Below.page_table.specs.Changes.{ChangesOnly, FreesOnly};
+ghost use Rattle.space_memory.specs.Below.page_table.specs.Frames.{Over, over, Knows, content_at, Frames, Stands};
+ghost use Rattle.space_memory.specs.Below.page_table.specs.Sharing.{Agree};
 ghost use Rattle.text_heap.specs.Held.{HoldsCells};
 ghost use Rattle.space_memory.specs.Kept.{KeepsBytes};
 ghost use Rattle.space_memory.specs.Live.{no_space};

@@ -4,7 +4,7 @@ ghost use Rattle.eu_base.specs.declared.cells.MemFault.TheVariants.{NoMemory};
 ghost use Rattle.eu_base.specs.Cells.{HasFaultCause};
 ghost use Rattle.eu_base.specs.Spaces.{IsKept};
 ghost use Rattle.page_pool.specs.Pool.{Known, Backed};
-ghost use Rattle.page_table.specs.Frames.{over, content_at, Frames, Stands};
+ghost use Rattle.space_memory.specs.Below.page_table.specs.Frames.{over, content_at, Frames, Stands};
 ghost use Rattle.cell_layout.specs.Layout.{cell_in, HoldsIn, IsKeptBut};
 ghost use Rattle.text_heap.specs.Texts.{Texts, Holds, Sets, KeepsCells, blocks_in};
 ghost use Rattle.space_memory.specs.Memories.{roots};

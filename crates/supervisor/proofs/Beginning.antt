@@ -11,11 +11,11 @@ use Rattle.task_tree.specs.declared.task.Task.{Task}
 use Rattle.task_tree.specs.declared.refusal.BeginError.{BeginError}
 use Rattle.task_tree.specs.Tree.{Tree, number_of, has_number, has_name}
 use Rattle.task_tree.specs.Tree as tree
-use Rattle.task_lines.specs.Below.source_machine.specs.Stores.{is_name}
-use Rattle.task_lines.specs.Below.source_machine.specs.Systems.{System, Moment}
-use Rattle.task_lines.specs.Below.source_machine.specs.Ends.{as_stop}
-use Rattle.task_lines.specs.Below.source_machine.specs.Supervisor.{begin_refusal, father_refusal, begin_unless, begin_under}
-use Rattle.task_lines.specs.Below.live_system.specs.Machines.{Machine, StandsAt}
+use Rattle.supervisor.specs.Below.system_meaning.specs.Stores.{is_name}
+use Rattle.supervisor.specs.Below.system_meaning.specs.Systems.{System, Moment}
+use Rattle.supervisor.specs.Below.system_meaning.specs.Ends.{as_stop}
+use Rattle.supervisor.specs.Below.system_meaning.specs.Supervisor.{begin_refusal, father_refusal, begin_unless, begin_under}
+use Rattle.supervisor.specs.Below.live_system.specs.Machines.{Machine, StandsAt}
 
 -- a number that was found is that of one of the tasks
 found_lives : (p : Task → Bool) (tasks : List Task) → is_nil (number_of (find p tasks)) ≡ false

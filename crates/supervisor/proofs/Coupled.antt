@@ -2,14 +2,14 @@
 use Rattle.std.proofs.Common.{◌≡◌, ℕ, Bool, true, false, List, Option, Some, None, refl, subst}
 use Rattle.std.specs.Prelude.{if◌then◌else◌}
 use Rattle.task_numbers.specs.declared.number.TaskNo.{TaskNo}
-use Rattle.terminals.specs.Channels as channels
-use Rattle.task_lines.specs.Below.source_machine.specs.Stores.{Store}
-use Rattle.task_lines.specs.Below.source_machine.specs.Tasks.{Command, Doing, Idle, Entering, Running}
-use Rattle.task_lines.specs.Below.source_machine.specs.Systems.{System, Moment, doing, can_couple, couple, on_channels}
-use Rattle.task_lines.specs.Below.source_machine.specs.Supervisor.{coupling_refusal, unless}
-use Rattle.task_lines.specs.Below.live_system.specs.declared.what.What.TheVariants as whats
-use Rattle.task_lines.specs.Below.live_system.specs.What.{what_of}
-use Rattle.task_lines.specs.Below.live_system.specs.Machines.{Machine, StandsAt}
+use Rattle.supervisor.specs.Below.terminals.specs.Channels as channels
+use Rattle.supervisor.specs.Below.system_meaning.specs.Stores.{Store}
+use Rattle.supervisor.specs.Below.system_meaning.specs.Tasks.{Command, Doing, Idle, Entering, Running}
+use Rattle.supervisor.specs.Below.system_meaning.specs.Systems.{System, Moment, doing, can_couple, couple, on_channels}
+use Rattle.supervisor.specs.Below.system_meaning.specs.Supervisor.{coupling_refusal, unless}
+use Rattle.supervisor.specs.Below.live_system.specs.declared.what.What.TheVariants as whats
+use Rattle.supervisor.specs.Below.live_system.specs.What.{what_of}
+use Rattle.supervisor.specs.Below.live_system.specs.Machines.{Machine, StandsAt}
 
 -- what a task does stays, wherever another is coupled
 pub doing_couple : (c : ℕ) (t u : TaskNo) (s : System) → doing t (couple c u s) ≡ doing t s

@@ -3,11 +3,11 @@ use Rattle.std.proofs.Common.{◌≡◌, Option, Some, None, subst}
 use Rattle.std.specs.Prelude.{option_and_then}
 use Rattle.task_numbers.specs.declared.number.TaskNo.{TaskNo}
 use Rattle.eu_base.specs.declared.stop.Stop.TheVariants.{Halted}
-use Rattle.task_lines.specs.Below.source_machine.specs.Tasks.{Command, Doing, Running, command_of, ending, world_of}
-use Rattle.task_lines.specs.Below.source_machine.specs.Systems.{Moment}
-use Rattle.task_lines.specs.Below.live_system.specs.declared.runs.Finished.{Finished}
-use Rattle.task_lines.specs.Below.live_system.specs.Machines.{Machine, StandsOverAt}
-use Rattle.task_lines.specs.Below.live_system.specs.Steps.{HaltedAs}
+use Rattle.supervisor.specs.Below.system_meaning.specs.Tasks.{Command, Doing, Running, command_of, ending, world_of}
+use Rattle.supervisor.specs.Below.system_meaning.specs.Systems.{Moment}
+use Rattle.supervisor.specs.Below.live_system.specs.declared.runs.Finished.{Finished}
+use Rattle.supervisor.specs.Below.live_system.specs.Machines.{Machine, StandsOverAt}
+use Rattle.supervisor.specs.Below.live_system.specs.Steps.{HaltedAs}
 
 -- it is over where it stands
 pub halted_over : (middle : Machine) (finished : Finished) (t : TaskNo) (c : Command) (d : Option Doing) (m : Moment) → d ≡ Some (Running c)

@@ -2,13 +2,13 @@
 use Rattle.std.proofs.Common.{◌≡◌, ℕ, Bool, List, Option, Some, None, sym, subst}
 use Rattle.task_numbers.specs.declared.number.TaskNo.{TaskNo}
 use Rattle.elan_tree.specs.declared.token.Word.{Word}
-use Rattle.elan_scope.specs.declared.env.Env.{Env}
+use Rattle.supervisor.specs.Below.elan_scope.specs.declared.env.Env.{Env}
 use Rattle.monitor.specs.declared.commands.Command.{Command}
-use Rattle.task_lines.specs.Below.source_machine.specs.Systems.{Moment}
-use Rattle.task_lines.specs.Below.source_machine.specs.Monitor.{Reading}
+use Rattle.supervisor.specs.Below.system_meaning.specs.Systems.{Moment}
+use Rattle.supervisor.specs.Below.system_meaning.specs.Monitor.{Reading}
 use Rattle.task_tree.specs.Tree as tree
-use Rattle.task_lines.specs.Below.source_machine.specs.Supervisor.{supervised, worded, begin_under, continued, coupling_refusal, unless}
-use Rattle.task_lines.specs.Below.live_system.specs.Machines.{Machine, StandsAt}
+use Rattle.supervisor.specs.Below.system_meaning.specs.Supervisor.{supervised, worded, begin_under, continued, coupling_refusal, unless}
+use Rattle.supervisor.specs.Below.live_system.specs.Machines.{Machine, StandsAt}
 use Rattle.supervisor.specs.Lines.{command_in}
 
 -- a line is served as its command is

@@ -5,7 +5,7 @@ use Rattle.eu_base.specs.declared.request.Request.{Request}
 use Rattle.eu_base.specs.declared.request.Request.TheVariants.{Out}
 use Rattle.eu_base.specs.declared.request.Reply.TheVariants.{Done}
 use Rattle.eu_base.specs.Requests.{plain}
-use Rattle.task_lines.specs.Below.source_machine.specs.Systems.{Moment, on_system, woken, write}
+use Rattle.supervisor.specs.Below.system_meaning.specs.Systems.{Moment, on_system, woken, write}
 
 -- the bytes that a request is to write, and whether they end the line
 abbrev pub output_of : Option Request → Option (List ℕ × Bool)

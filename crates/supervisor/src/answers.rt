@@ -1,8 +1,8 @@
 //! What is said at a channel.
 ghost use Rattle.std.specs.Prelude.{◌≤◌, OnOk};
-ghost use Rattle.task_lines.specs.Below.source_machine.specs.Systems.{Moment, say, prompt, supervisor_prompt};
-ghost use Rattle.task_lines.specs.Below.source_machine.specs.Supervisor.{refused, told};
-ghost use Rattle.task_lines.specs.Below.live_system.specs.Machines.{StandsAt};
+ghost use Rattle.supervisor.specs.Below.system_meaning.specs.Systems.{Moment, say, prompt, supervisor_prompt};
+ghost use Rattle.supervisor.specs.Below.system_meaning.specs.Supervisor.{refused, told};
+ghost use Rattle.supervisor.specs.Below.live_system.specs.Machines.{StandsAt};
 
 use eu_base::{Bytes, NoMemory};
 use task_lines::System;

@@ -2,9 +2,9 @@
 ghost use Rattle.std.specs.Prelude.{◌≡◌, ◌≤◌, true, None, OnOk, IfOk};
 ghost use Rattle.task_numbers.specs.Numbers.{is_nil};
 ghost use Rattle.task_tree.specs.Tree as tree;
-ghost use Rattle.task_lines.specs.Below.source_machine.specs.Systems.{Moment};
-ghost use Rattle.task_lines.specs.Below.source_machine.specs.Supervisor as spec;
-ghost use Rattle.task_lines.specs.Below.live_system.specs.Machines.{StandsAt};
+ghost use Rattle.supervisor.specs.Below.system_meaning.specs.Systems.{Moment};
+ghost use Rattle.supervisor.specs.Below.system_meaning.specs.Supervisor as spec;
+ghost use Rattle.supervisor.specs.Below.live_system.specs.Machines.{StandsAt};
 
 use crate::answers::{refused, say_prompt};
 use eu_base::{Bytes, NoMemory, Stop, is_name};

@@ -1,14 +1,14 @@
 //! The supervisor's commands, and its call.
 ghost use Rattle.std.specs.Prelude.{◌≡◌, ◌≤◌, ℕ, List, Bool, IfOk, OnOk};
-ghost use Rattle.elan_scope.specs.declared.env.Env.{Env};
+ghost use Rattle.supervisor.specs.Below.elan_scope.specs.declared.env.Env.{Env};
 ghost use Rattle.monitor.specs.Commands.{command_of};
 ghost use Rattle.monitor.specs.Words.{words};
-ghost use Rattle.terminals.specs.Channels as channels;
-ghost use Rattle.task_lines.specs.Below.source_machine.specs.Systems.{Moment};
-ghost use Rattle.task_lines.specs.Below.source_machine.specs.Monitor.{Reading, words_of};
-ghost use Rattle.task_lines.specs.Below.packet_store.specs.Readings.{IsReading};
-ghost use Rattle.task_lines.specs.Below.source_machine.specs.Supervisor as spec;
-ghost use Rattle.task_lines.specs.Below.live_system.specs.Machines.{StandsAt};
+ghost use Rattle.supervisor.specs.Below.terminals.specs.Channels as channels;
+ghost use Rattle.supervisor.specs.Below.system_meaning.specs.Systems.{Moment};
+ghost use Rattle.supervisor.specs.Below.system_meaning.specs.Monitor.{Reading, words_of};
+ghost use Rattle.supervisor.specs.Below.packet_store.specs.Readings.{IsReading};
+ghost use Rattle.supervisor.specs.Below.system_meaning.specs.Supervisor as spec;
+ghost use Rattle.supervisor.specs.Below.live_system.specs.Machines.{StandsAt};
 ghost use Rattle.supervisor.specs.Lines.{command_in};
 
 use crate::answers::{refused, say_supervisor_prompt};

@@ -1,9 +1,9 @@
 //! `continue`: a task is coupled, and goes on.
 ghost use Rattle.std.specs.Prelude.{◌≡◌, ◌≤◌, option_map, OnOk};
 ghost use Rattle.task_tree.specs.Tree as tree;
-ghost use Rattle.task_lines.specs.Below.source_machine.specs.Systems.{Moment, doing, requested};
-ghost use Rattle.task_lines.specs.Below.source_machine.specs.Supervisor as spec;
-ghost use Rattle.task_lines.specs.Below.live_system.specs.Machines.{StandsAt};
+ghost use Rattle.supervisor.specs.Below.system_meaning.specs.Systems.{Moment, doing, requested};
+ghost use Rattle.supervisor.specs.Below.system_meaning.specs.Supervisor as spec;
+ghost use Rattle.supervisor.specs.Below.live_system.specs.Machines.{StandsAt};
 ghost use Rattle.supervisor.specs.Waiting as waiting;
 
 use crate::answers::{refused, say_prompt};

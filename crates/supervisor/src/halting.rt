@@ -1,17 +1,17 @@
 //! `halt`: the last task is coupled, and its command stops.
 ghost use Rattle.std.specs.Prelude.{◌≡◌, ◌≤◌, ℕ, List, Bool, Some, OnOk};
 ghost use Rattle.eu_base.specs.declared.stop.Stop.TheVariants.{Halted};
-ghost use Rattle.elan_scope.specs.declared.env.Env.{Env};
-ghost use Rattle.message_wait.specs.Rendezvous.{left};
-ghost use Rattle.slicer.specs.Rotation as rotation;
-ghost use Rattle.terminals.specs.Channels as channels;
-ghost use Rattle.task_lines.specs.Below.source_machine.specs.Tasks.{Command, Running, ending, world_of};
-ghost use Rattle.task_lines.specs.Below.source_machine.specs.Systems.{Moment, doing, on_ready, on_waits, on_system};
-ghost use Rattle.task_lines.specs.Below.source_machine.specs.Monitor.{Reading};
-ghost use Rattle.task_lines.specs.Below.source_machine.specs.Monitor as monitor;
-ghost use Rattle.task_lines.specs.Below.packet_store.specs.Readings.{IsReading};
-ghost use Rattle.task_lines.specs.Below.source_machine.specs.Supervisor as spec;
-ghost use Rattle.task_lines.specs.Below.live_system.specs.Machines.{StandsAt};
+ghost use Rattle.supervisor.specs.Below.elan_scope.specs.declared.env.Env.{Env};
+ghost use Rattle.supervisor.specs.Below.message_wait.specs.Rendezvous.{left};
+ghost use Rattle.supervisor.specs.Below.slicer.specs.Rotation as rotation;
+ghost use Rattle.supervisor.specs.Below.terminals.specs.Channels as channels;
+ghost use Rattle.supervisor.specs.Below.system_meaning.specs.Tasks.{Command, Running, ending, world_of};
+ghost use Rattle.supervisor.specs.Below.system_meaning.specs.Systems.{Moment, doing, on_ready, on_waits, on_system};
+ghost use Rattle.supervisor.specs.Below.system_meaning.specs.Monitor.{Reading};
+ghost use Rattle.supervisor.specs.Below.system_meaning.specs.Monitor as monitor;
+ghost use Rattle.supervisor.specs.Below.packet_store.specs.Readings.{IsReading};
+ghost use Rattle.supervisor.specs.Below.system_meaning.specs.Supervisor as spec;
+ghost use Rattle.supervisor.specs.Below.live_system.specs.Machines.{StandsAt};
 
 use crate::answers::{refused, say_prompt};
 use eu_base::NoMemory;

@@ -1,9 +1,9 @@
 //! `task info` and `storage info`.
 ghost use Rattle.std.specs.Prelude.{◌≡◌, ◌≤◌, ◌*◌, ◌∷◌, ◌++◌, replicate, IfOk, OnOk};
 ghost use Rattle.std.specs.Fmt.{decimal};
-ghost use Rattle.task_lines.specs.Below.source_machine.specs.Systems.{Moment, say, supervisor_prompt};
-ghost use Rattle.task_lines.specs.Below.source_machine.specs.Supervisor as spec;
-ghost use Rattle.task_lines.specs.Below.live_system.specs.Machines.{StandsAt};
+ghost use Rattle.supervisor.specs.Below.system_meaning.specs.Systems.{Moment, say, supervisor_prompt};
+ghost use Rattle.supervisor.specs.Below.system_meaning.specs.Supervisor as spec;
+ghost use Rattle.supervisor.specs.Below.live_system.specs.Machines.{StandsAt};
 
 use crate::answers::{refused, say_supervisor_prompt, told};
 use eu_base::{Bytes, List, NoMemory};

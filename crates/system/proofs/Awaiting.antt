@@ -5,11 +5,11 @@ use Rattle.eu_base.specs.declared.request.Request.{Request}
 use Rattle.eu_base.specs.declared.request.Request.TheVariants.{Input}
 use Rattle.eu_base.specs.declared.request.Reply.{Reply}
 use Rattle.eu_base.specs.Requests.{Answer, plain}
-use Rattle.task_requests.specs.Below.source_machine.specs.Systems.{Moment, woken, on_system}
-use Rattle.task_requests.specs.Below.source_machine.specs.Serving.{Served, Replies, Rests, input}
-use Rattle.task_requests.specs.Below.source_machine.specs.Events.{answered, awaited}
-use Rattle.task_requests.specs.Below.live_system.specs.What.{is_input}
-use Rattle.task_requests.specs.Below.live_system.specs.Machines.{Machine, StandsAt}
+use Rattle.system.specs.Below.system_meaning.specs.Systems.{Moment, woken, on_system}
+use Rattle.system.specs.Below.system_meaning.specs.Serving.{Served, Replies, Rests, input}
+use Rattle.system.specs.Below.system_meaning.specs.Events.{answered, awaited}
+use Rattle.system.specs.Below.live_system.specs.What.{is_input}
+use Rattle.system.specs.Below.live_system.specs.Machines.{Machine, StandsAt}
 use Rattle.task_requests.specs.Served.{ServedAs}
 
 module _ (new : Machine) (t : TaskNo) where

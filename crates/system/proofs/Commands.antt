@@ -1,16 +1,16 @@
 -- Commands that a run stands for: what a request of one costs.
 use Rattle.std.proofs.Common.{◌≡◌, ℕ, ◌+◌, ◌≤◌, [], refl, subst, arith}
 use Rattle.eu_base.specs.declared.request.Request.{Request}
-use Rattle.code_form.specs.declared.halt.Halt.TheVariants as halts
-use Rattle.code_form.specs.declared.waits.Waits.{Waits}
-use Rattle.code_form.specs.declared.waits.Waits.TheVariants.{Nothing, Asked, Given, Refused}
-use Rattle.code_form.specs.Program.{Program}
-use Rattle.code_form.specs.Machine.{Control, Mem, Rest}
-use Rattle.code_form.specs.Runs.{Rests}
-use Rattle.place_gen.specs.Correct.{RestsAs, Shows}
+use Rattle.system.specs.Below.code_form.specs.declared.halt.Halt.TheVariants as halts
+use Rattle.system.specs.Below.code_form.specs.declared.waits.Waits.{Waits}
+use Rattle.system.specs.Below.code_form.specs.declared.waits.Waits.TheVariants.{Nothing, Asked, Given, Refused}
+use Rattle.system.specs.Below.code_form.specs.Program.{Program}
+use Rattle.system.specs.Below.code_form.specs.Machine.{Control, Mem, Rest}
+use Rattle.system.specs.Below.code_form.specs.Runs.{Rests}
+use Rattle.system.specs.Below.place_gen.specs.Correct.{RestsAs, Shows}
 use Rattle.elan_types.specs.Eval.{World}
 use Rattle.elan_types.specs.Command.{Ending, Asks}
-use Rattle.system.specs.Below.source_machine.specs.Tasks.{Command, ending}
+use Rattle.system.specs.Below.system_meaning.specs.Tasks.{Command, ending}
 use Rattle.system.specs.Below.task_job.specs.Runs.{Reaches}
 use Rattle.system.specs.Below.task_job.proofs.Reaching.{next, shows}
 use Rattle.system.proofs.Paying.{owed, RestsAsking, asks_pay}

@@ -5,22 +5,22 @@ use Rattle.task_numbers.specs.declared.number.TaskNo.{TaskNo}
 use Rattle.eu_base.specs.declared.request.Request.{Request}
 use Rattle.eu_base.specs.declared.stop.Stop.TheVariants.{CellRoom}
 use Rattle.eu_base.specs.Room.{cells_fit}
-use Rattle.elan_scope.specs.declared.env.Env.{Env}
+use Rattle.system.specs.Below.elan_scope.specs.declared.env.Env.{Env}
 use Rattle.elan_types.specs.Eval.{World}
 use Rattle.elan_types.specs.Eval as outcomes
 use Rattle.elan_types.specs.Typing.{all_packet_kinds}
 use Rattle.elan_types.specs.Command.{Ending, Ended, Stopped, OutOfMarks, Asks, start_kinds, at_start, start_fits, run_from}
 use Rattle.elan_types.specs.Command.{ending as command_ending}
-use Rattle.task_requests.specs.Below.source_machine.specs.Tasks.{Command, Running, ending, spent}
-use Rattle.task_requests.specs.Below.source_machine.specs.Systems.{Moment, command, does, given, on_system, back}
-use Rattle.task_requests.specs.Below.source_machine.specs.Serving.{Served, Replies, Rests, serve}
-use Rattle.task_requests.specs.Below.source_machine.specs.Monitor.{Reading, over}
-use Rattle.task_requests.specs.Below.source_machine.specs.Turns.{served, went, went_on}
-use Rattle.task_requests.specs.Below.live_system.specs.declared.runs.Finished.{Finished}
-use Rattle.task_requests.specs.Below.live_system.specs.declared.runs.Went.TheVariants as hows
-use Rattle.task_requests.specs.Below.live_system.specs.Steps.{WentAs, WentOn}
-use Rattle.task_requests.specs.Below.live_system.specs.Finishing.{HasRoom}
-use Rattle.task_requests.specs.Below.live_system.specs.Machines.{Machine, StandsAt, StandsOverAt}
+use Rattle.system.specs.Below.system_meaning.specs.Tasks.{Command, Running, ending, spent}
+use Rattle.system.specs.Below.system_meaning.specs.Systems.{Moment, command, does, given, on_system, back}
+use Rattle.system.specs.Below.system_meaning.specs.Serving.{Served, Replies, Rests, serve}
+use Rattle.system.specs.Below.system_meaning.specs.Monitor.{Reading, over}
+use Rattle.system.specs.Below.system_meaning.specs.Turns.{served, went, went_on}
+use Rattle.system.specs.Below.live_system.specs.declared.runs.Finished.{Finished}
+use Rattle.system.specs.Below.live_system.specs.declared.runs.Went.TheVariants as hows
+use Rattle.system.specs.Below.live_system.specs.Steps.{WentAs, WentOn}
+use Rattle.system.specs.Below.live_system.specs.Finishing.{HasRoom}
+use Rattle.system.specs.Below.live_system.specs.Machines.{Machine, StandsAt, StandsOverAt}
 use Rattle.task_requests.specs.Served.{IsAsking, GoesAs}
 use Rattle.system.specs.Keeping.{KeptBy, KeepsTurn}
 use Rattle.system.specs.Leading.{Leads, TurnGoes}

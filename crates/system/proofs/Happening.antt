@@ -2,13 +2,13 @@
 use Rattle.std.proofs.Common.{◌≡◌, ℕ, ◌≤◌, Bool, false, List, ◌++◌, length, append_assoc, sym, subst}
 use Rattle.task_numbers.specs.declared.limits.TheConstants.{LONGEST_LINE}
 use Rattle.task_numbers.specs.declared.number.TaskNo.{TaskNo}
-use Rattle.elan_scope.specs.declared.env.Env.{Env}
+use Rattle.system.specs.Below.elan_scope.specs.declared.env.Env.{Env}
 use Rattle.session_text.specs.declared.events.Event.{Event}
-use Rattle.terminals.specs.Channels as channels
-use Rattle.task_requests.specs.Below.source_machine.specs.Systems.{System, Moment}
-use Rattle.task_requests.specs.Below.source_machine.specs.Monitor.{Reading, taken}
-use Rattle.task_requests.specs.Below.source_machine.specs.Events.{line_for, line_at, happens, whole, after}
-use Rattle.task_requests.specs.Below.live_system.specs.Machines.{Machine, StandsAt}
+use Rattle.system.specs.Below.terminals.specs.Channels as channels
+use Rattle.system.specs.Below.system_meaning.specs.Systems.{System, Moment}
+use Rattle.system.specs.Below.system_meaning.specs.Monitor.{Reading, taken}
+use Rattle.system.specs.Below.system_meaning.specs.Events.{line_for, line_at, happens, whole, after}
+use Rattle.system.specs.Below.live_system.specs.Machines.{Machine, StandsAt}
 use Rattle.system.specs.Systems.{Stands, StandsFor, IsShort}
 
 module _ (read : Env → Bool → List ℕ → Reading) (new : Machine) where

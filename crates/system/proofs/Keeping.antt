@@ -9,11 +9,11 @@ use Rattle.turn_laws.specs.Steady.{AreSteady}
 use Rattle.turn_laws.specs.Waits.{AreOrderly, HasTurn, GoesOn}
 use Rattle.turn_laws.proofs.Orders.{asks_spent}
 use Rattle.turn_laws.proofs.Beside.{runs_it, does_so}
-use Rattle.message_wait.specs.Rendezvous.{is_waiting}
-use Rattle.task_requests.specs.Below.source_machine.specs.Tasks.{Command, Own, Running, ending, spent, request_in, request_of, with_doing}
-use Rattle.task_requests.specs.Below.source_machine.specs.Systems.{System, Shared, Moment, place, command, requested, changed_at, does, on_ready}
-use Rattle.task_requests.specs.Below.source_machine.specs.Serving.{Served, Replies, Rests, serve}
-use Rattle.task_requests.specs.Below.source_machine.specs.Whole.{IsSystem, AreWaits}
+use Rattle.system.specs.Below.message_wait.specs.Rendezvous.{is_waiting}
+use Rattle.system.specs.Below.system_meaning.specs.Tasks.{Command, Own, Running, ending, spent, request_in, request_of, with_doing}
+use Rattle.system.specs.Below.system_meaning.specs.Systems.{System, Shared, Moment, place, command, requested, changed_at, does, on_ready}
+use Rattle.system.specs.Below.system_meaning.specs.Serving.{Served, Replies, Rests, serve}
+use Rattle.system.specs.Below.system_meaning.specs.Whole.{IsSystem, AreWaits}
 use Rattle.task_requests.proofs.Living.{asked_lives}
 use Rattle.system.specs.Keeping.{TurnBegins, KeptBy, AsksRightly, evaluated}
 

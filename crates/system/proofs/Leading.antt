@@ -1,12 +1,12 @@
 -- Turns and evaluations, one after another.
 use Rattle.std.proofs.Common.{◌≡◌, ℕ, suc, Bool, true, false, List, sym, ap, ◌∙◌, subst}
 use Rattle.task_numbers.specs.declared.number.TaskNo.{TaskNo}
-use Rattle.elan_scope.specs.declared.env.Env.{Env}
+use Rattle.system.specs.Below.elan_scope.specs.declared.env.Env.{Env}
 use Rattle.turn_laws.specs.Waits.{AreOrderly, HasTurn}
-use Rattle.task_requests.specs.Below.source_machine.specs.Systems.{Moment, command}
-use Rattle.task_requests.specs.Below.source_machine.specs.Monitor.{Reading}
-use Rattle.task_requests.specs.Below.source_machine.specs.Turns.{went_on, slice, turn, turns}
-use Rattle.task_requests.specs.Below.live_system.specs.Machines.{Machine, StandsAt}
+use Rattle.system.specs.Below.system_meaning.specs.Systems.{Moment, command}
+use Rattle.system.specs.Below.system_meaning.specs.Monitor.{Reading}
+use Rattle.system.specs.Below.system_meaning.specs.Turns.{went_on, slice, turn, turns}
+use Rattle.system.specs.Below.live_system.specs.Machines.{Machine, StandsAt}
 use Rattle.system.specs.Systems.{Stands}
 use Rattle.system.specs.Leading.{Leads, TurnGoes}
 

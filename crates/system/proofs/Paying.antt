@@ -3,14 +3,14 @@ use Rattle.std.proofs.Common.{◌≡◌, ℕ, zero, suc, ◌+◌, ◌≤◌, Lis
 use Rattle.std.specs.Prelude.{slice_get}
 use Rattle.eu_base.specs.declared.request.Request.{Request}
 use Rattle.eu_base.specs.Requests.{Answer}
-use Rattle.code_form.specs.declared.halt.Halt.TheVariants as halts
-use Rattle.code_form.specs.declared.waits.Waits.{Waits}
-use Rattle.code_form.specs.declared.waits.Waits.TheVariants.{Nothing, Asked, Given, Refused}
-use Rattle.code_form.specs.Program.{Program, instr_of}
-use Rattle.code_form.specs.Machine.{Position, Control, After, To, Stops, Unsaid, Move, Goes, Spends, Halts, Refuses, Ends, Unknown, Stuck, Mem, Scene, Rest, step}
-use Rattle.code_form.specs.Machine.{free, given, answered, answered_by, takes_reply, Stage, On, Over, Lost}
-use Rattle.code_form.specs.Machine.{after_stage, mark_stage, move_stage, reply_stage, stage_at, advance, carry_on, exec, rest_at}
-use Rattle.code_form.specs.Machine as machine
+use Rattle.system.specs.Below.code_form.specs.declared.halt.Halt.TheVariants as halts
+use Rattle.system.specs.Below.code_form.specs.declared.waits.Waits.{Waits}
+use Rattle.system.specs.Below.code_form.specs.declared.waits.Waits.TheVariants.{Nothing, Asked, Given, Refused}
+use Rattle.system.specs.Below.code_form.specs.Program.{Program, instr_of}
+use Rattle.system.specs.Below.code_form.specs.Machine.{Position, Control, After, To, Stops, Unsaid, Move, Goes, Spends, Halts, Refuses, Ends, Unknown, Stuck, Mem, Scene, Rest, step}
+use Rattle.system.specs.Below.code_form.specs.Machine.{free, given, answered, answered_by, takes_reply, Stage, On, Over, Lost}
+use Rattle.system.specs.Below.code_form.specs.Machine.{after_stage, mark_stage, move_stage, reply_stage, stage_at, advance, carry_on, exec, rest_at}
+use Rattle.system.specs.Below.code_form.specs.Machine as machine
 
 -- a request that waits for its reply has cost a mark
 abbrev pub owed : Waits → ℕ

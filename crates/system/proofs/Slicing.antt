@@ -9,17 +9,17 @@ use Rattle.eu_base.specs.declared.request.Request.TheVariants as requests
 use Rattle.eu_base.specs.declared.request.Reply.{Reply}
 use Rattle.eu_base.specs.declared.request.Reply.TheVariants.{Taken}
 use Rattle.eu_base.specs.Requests.{Answer, then_asked}
-use Rattle.elan_scope.specs.declared.env.Env.{Env}
+use Rattle.system.specs.Below.elan_scope.specs.declared.env.Env.{Env}
 use Rattle.elan_types.specs.Eval.{World, after_answer}
 use Rattle.elan_types.specs.Command.{Ending, Ended, Stopped, OutOfMarks, Asks, evaluate}
-use Rattle.task_tree.specs.Tree as tree
-use Rattle.task_tree.specs.Trees.{IsTree}
-use Rattle.system.specs.Below.source_machine.specs.Tasks.{Command, Doing, Running, Own, ending, spent, with_reply, command_of, with_doing, replied}
-use Rattle.system.specs.Below.source_machine.specs.Systems.{System, Moment, own, doing, command, does, given, on_system}
-use Rattle.system.specs.Below.source_machine.specs.Serving.{Served, Replies, Rests, serve}
-use Rattle.system.specs.Below.source_machine.specs.Turns.{served, went, went_on, slice}
-use Rattle.system.specs.Below.source_machine.specs.Monitor.{Reading}
-use Rattle.system.specs.Below.source_machine.specs.Whole.{IsSystem}
+use Rattle.system.specs.Below.task_tree.specs.Tree as tree
+use Rattle.system.specs.Below.task_tree.specs.Trees.{IsTree}
+use Rattle.system.specs.Below.system_meaning.specs.Tasks.{Command, Doing, Running, Own, ending, spent, with_reply, command_of, with_doing, replied}
+use Rattle.system.specs.Below.system_meaning.specs.Systems.{System, Moment, own, doing, command, does, given, on_system}
+use Rattle.system.specs.Below.system_meaning.specs.Serving.{Served, Replies, Rests, serve}
+use Rattle.system.specs.Below.system_meaning.specs.Turns.{served, went, went_on, slice}
+use Rattle.system.specs.Below.system_meaning.specs.Monitor.{Reading}
+use Rattle.system.specs.Below.system_meaning.specs.Whole.{IsSystem}
 use Rattle.turn_laws.specs.Own.{own_of}
 use Rattle.turn_laws.specs.Told.{asked, asked_served, asked_by, asked_on}
 use Rattle.turn_laws.specs.Steady.{AreSteady}

@@ -4,14 +4,14 @@ use Rattle.std.specs.Option.{option_and_then}
 use Rattle.std.specs.Prelude.{slice_get}
 use Rattle.std.proofs.lemmas.Option.{none-some}
 use Rattle.task_numbers.specs.declared.number.TaskNo.{TaskNo}
-use Rattle.system.specs.Below.source_machine.specs.Tasks.{Command, Doing, Running, Own}
-use Rattle.system.specs.Below.source_machine.specs.Systems.{System, Moment, place, own, command}
+use Rattle.system.specs.Below.system_meaning.specs.Tasks.{Command, Doing, Running, Own}
+use Rattle.system.specs.Below.system_meaning.specs.Systems.{System, Moment, place, own, command}
 use Rattle.system.specs.Below.live_task.specs.Stands.{DoesAs}
 use Rattle.system.specs.Below.live_tasks.proofs.Standing.{as_long, stands_at}
 use Rattle.system.specs.Below.live_tasks.proofs.Zips.{found_other}
 use Rattle.system.specs.Below.live_packets.specs.Packets.{kinds_in}
 use Rattle.system.specs.Below.task_desk.specs.Desks.{system}
-use Rattle.live_system.specs.Machines.{Machine, StandsAt}
+use Rattle.system.specs.Below.live_system.specs.Machines.{Machine, StandsAt}
 use Rattle.system.proofs.Commands.{IsRun, owes_once, costs}
 use Rattle.system.proofs.Slicing.{Pays, own_doing}
 use Rattle.turn_laws.proofs.Beside.{runs_it}

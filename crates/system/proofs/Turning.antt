@@ -2,12 +2,12 @@
 use Rattle.std.proofs.Common.{◌≡◌, ℕ, Bool, List, [], ◌∷◌, drop, Some, None, refl, sym, ap, ◌∙◌, subst}
 use Rattle.std.specs.Prelude.{slice_get}
 use Rattle.task_numbers.specs.declared.number.TaskNo.{TaskNo}
-use Rattle.elan_scope.specs.declared.env.Env.{Env}
+use Rattle.system.specs.Below.elan_scope.specs.declared.env.Env.{Env}
 use Rattle.turn_laws.specs.Waits.{HasTurn}
-use Rattle.task_requests.specs.Below.source_machine.specs.Systems.{Moment, on_ready, on_system}
-use Rattle.task_requests.specs.Below.source_machine.specs.Monitor.{Reading}
-use Rattle.task_requests.specs.Below.source_machine.specs.Turns.{turn_marks, most_evaluations, slice, turn_of}
-use Rattle.task_requests.specs.Below.live_system.specs.Machines.{Machine, StandsAt}
+use Rattle.system.specs.Below.system_meaning.specs.Systems.{Moment, on_ready, on_system}
+use Rattle.system.specs.Below.system_meaning.specs.Monitor.{Reading}
+use Rattle.system.specs.Below.system_meaning.specs.Turns.{turn_marks, most_evaluations, slice, turn_of}
+use Rattle.system.specs.Below.live_system.specs.Machines.{Machine, StandsAt}
 use Rattle.system.specs.Keeping.{TurnBegins}
 
 module _ (read : Env → Bool → List ℕ → Reading) (new : Machine) (m : Moment) where

@@ -5,9 +5,9 @@ use Rattle.eu_base.specs.declared.request.Request.{Request}
 use Rattle.elan_types.specs.Eval.{World}
 use Rattle.elan_types.specs.Command.{Asks}
 use Rattle.turn_laws.specs.Waits.{HasTurn}
-use Rattle.task_requests.specs.Below.source_machine.specs.Tasks.{Command, Running, ending, spent}
-use Rattle.task_requests.specs.Below.source_machine.specs.Systems.{System, Moment, command, does, given, on_ready, on_system}
-use Rattle.task_requests.specs.Below.source_machine.specs.Serving.{Served, Replies, Rests, serve}
+use Rattle.system.specs.Below.system_meaning.specs.Tasks.{Command, Running, ending, spent}
+use Rattle.system.specs.Below.system_meaning.specs.Systems.{System, Moment, command, does, given, on_ready, on_system}
+use Rattle.system.specs.Below.system_meaning.specs.Serving.{Served, Replies, Rests, serve}
 use Rattle.task_requests.specs.Served.{IsAsking}
 
 -- the first ready task gets its turn, and stands no longer in the ready list

@@ -2,8 +2,8 @@
 use Rattle.std.specs.Prelude.{◌≡◌, Bool, true, false}
 use Rattle.task_numbers.specs.declared.number.TaskNo.{TaskNo}
 use Rattle.turn_laws.specs.Waits.{HasTurn}
-use Rattle.task_requests.specs.Below.source_machine.specs.Systems.{Moment}
-use Rattle.task_requests.specs.Below.live_system.specs.Machines.{Machine, StandsAt}
+use Rattle.system.specs.Below.system_meaning.specs.Systems.{Moment}
+use Rattle.system.specs.Below.live_system.specs.Machines.{Machine, StandsAt}
 
 abbrev pub further : Bool → (Moment → Moment) → Moment → Moment
 further true more m = more m

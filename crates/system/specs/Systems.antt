@@ -5,8 +5,8 @@ use Rattle.session_text.specs.declared.events.Event.{Event}
 use Rattle.session_text.specs.declared.events.Event.TheVariants.{Line, Supervisor, Turns, Fixpoint, Shut}
 use Rattle.turn_laws.specs.Waits.{AreOrderly}
 use Rattle.session_text.specs.Display.{Display}
-use Rattle.task_requests.specs.Below.source_machine.specs.Systems.{System, Moment}
-use Rattle.task_requests.specs.Below.live_system.specs.Machines.{Machine, StandsAt}
+use Rattle.system.specs.Below.system_meaning.specs.Systems.{System, Moment}
+use Rattle.system.specs.Below.live_system.specs.Machines.{Machine, StandsAt}
 
 -- a machine stands for a moment, in which those that wait for messages do so rightly
 pub record Stands (now : Machine) (m : Moment) : Type 0 where

@@ -1,12 +1,12 @@
 //! Evaluations of the command of a task in its turn.
 ghost use Rattle.std.specs.Prelude.{◌≡◌, ℕ, Bool, List, IfOk};
-ghost use Rattle.elan_scope.specs.declared.env.Env.{Env};
+ghost use Rattle.system.specs.Below.elan_scope.specs.declared.env.Env.{Env};
 ghost use Rattle.turn_laws.specs.Waits.{HasTurn};
-ghost use Rattle.task_requests.specs.Below.source_machine.specs.Systems.{Moment, command};
-ghost use Rattle.task_requests.specs.Below.source_machine.specs.Monitor.{Reading};
-ghost use Rattle.task_requests.specs.Below.packet_store.specs.Readings.{IsReading};
-ghost use Rattle.task_requests.specs.Below.source_machine.specs.Turns as spec;
-ghost use Rattle.task_requests.specs.Below.live_system.specs.Machines.{StandsAt};
+ghost use Rattle.system.specs.Below.system_meaning.specs.Systems.{Moment, command};
+ghost use Rattle.system.specs.Below.system_meaning.specs.Monitor.{Reading};
+ghost use Rattle.system.specs.Below.packet_store.specs.Readings.{IsReading};
+ghost use Rattle.system.specs.Below.system_meaning.specs.Turns as spec;
+ghost use Rattle.system.specs.Below.live_system.specs.Machines.{StandsAt};
 ghost use Rattle.system.specs.Leading.{Leads, TurnGoes};
 
 use crate::waiting::keeps_turn;

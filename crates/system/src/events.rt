@@ -1,13 +1,13 @@
 //! Events.
 ghost use Rattle.std.specs.Prelude.{◌≡◌, ◌++◌, ◌≤◌, ℕ, Bool, List, IfOk, OnOk};
-ghost use Rattle.elan_scope.specs.declared.env.Env.{Env};
-ghost use Rattle.terminals.specs.Channels as channels;
-ghost use Rattle.task_requests.specs.Below.source_machine.specs.Systems as source;
-ghost use Rattle.task_requests.specs.Below.source_machine.specs.Monitor.{Reading};
-ghost use Rattle.task_requests.specs.Below.packet_store.specs.Readings.{IsReading};
-ghost use Rattle.task_requests.specs.Below.source_machine.specs.Supervisor.{called};
-ghost use Rattle.task_requests.specs.Below.source_machine.specs.Events as spec;
-ghost use Rattle.task_requests.specs.Below.live_system.specs.Machines.{StandsAt};
+ghost use Rattle.system.specs.Below.elan_scope.specs.declared.env.Env.{Env};
+ghost use Rattle.system.specs.Below.terminals.specs.Channels as channels;
+ghost use Rattle.system.specs.Below.system_meaning.specs.Systems as source;
+ghost use Rattle.system.specs.Below.system_meaning.specs.Monitor.{Reading};
+ghost use Rattle.system.specs.Below.packet_store.specs.Readings.{IsReading};
+ghost use Rattle.system.specs.Below.system_meaning.specs.Supervisor.{called};
+ghost use Rattle.system.specs.Below.system_meaning.specs.Events as spec;
+ghost use Rattle.system.specs.Below.live_system.specs.Machines.{StandsAt};
 ghost use Rattle.system.specs.Systems.{Stands, StandsFor, IsShort};
 
 use crate::lines::line_at;

@@ -1,12 +1,12 @@
 //! Tasks of a running system are isolated from each other.
 ghost use Rattle.std.specs.Prelude.{◌≡◌, ℕ, Bool, List, length};
 ghost use Rattle.task_numbers.specs.declared.number.TaskNo.{TaskNo};
-ghost use Rattle.elan_scope.specs.declared.env.Env.{Env};
-ghost use Rattle.task_requests.specs.Below.source_machine.specs.Systems.{Moment};
-ghost use Rattle.task_requests.specs.Below.source_machine.specs.Monitor.{Reading};
-ghost use Rattle.task_requests.specs.Below.source_machine.specs.Turns.{turn};
-ghost use Rattle.task_requests.specs.Below.source_machine.specs.Whole.{IsSystem};
-ghost use Rattle.task_requests.specs.Below.live_system.specs.Machines.{StandsAt};
+ghost use Rattle.system.specs.Below.elan_scope.specs.declared.env.Env.{Env};
+ghost use Rattle.system.specs.Below.system_meaning.specs.Systems.{Moment};
+ghost use Rattle.system.specs.Below.system_meaning.specs.Monitor.{Reading};
+ghost use Rattle.system.specs.Below.system_meaning.specs.Turns.{turn};
+ghost use Rattle.system.specs.Below.system_meaning.specs.Whole.{IsSystem};
+ghost use Rattle.system.specs.Below.live_system.specs.Machines.{StandsAt};
 ghost use Rattle.turn_laws.specs.Others.{OthersStay};
 ghost use Rattle.turn_laws.specs.Told.{turn_told, turn_asked};
 ghost use Rattle.turn_laws.specs.Waits.{AreOrderly};

@@ -1,6 +1,7 @@
 //! A system of tasks, event by event. More evaluations than a slice may have would change nothing.
 #![tactic(auto)]
 
+pub mod below;
 mod evaluations;
 mod events;
 mod isolated;

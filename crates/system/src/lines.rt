@@ -2,14 +2,14 @@
 ghost use Rattle.std.specs.Prelude.{◌≡◌, ◌≤◌, ℕ, Bool, true, List, Some, length, OnOk};
 ghost use Rattle.eu_base.specs.Requests.{plain, is_plain};
 ghost use Rattle.task_numbers.specs.declared.limits.TheConstants.{LONGEST_LINE};
-ghost use Rattle.elan_scope.specs.declared.env.Env.{Env};
-ghost use Rattle.terminals.specs.Channels as channels;
-ghost use Rattle.task_requests.specs.Below.source_machine.specs.Systems.{Moment, requested, runs, woken, on_system};
-ghost use Rattle.task_requests.specs.Below.source_machine.specs.Serving as serving;
-ghost use Rattle.task_requests.specs.Below.source_machine.specs.Monitor.{Reading};
-ghost use Rattle.task_requests.specs.Below.packet_store.specs.Readings.{IsReading};
-ghost use Rattle.task_requests.specs.Below.source_machine.specs.Events as spec;
-ghost use Rattle.task_requests.specs.Below.live_system.specs.Machines.{StandsAt};
+ghost use Rattle.system.specs.Below.elan_scope.specs.declared.env.Env.{Env};
+ghost use Rattle.system.specs.Below.terminals.specs.Channels as channels;
+ghost use Rattle.system.specs.Below.system_meaning.specs.Systems.{Moment, requested, runs, woken, on_system};
+ghost use Rattle.system.specs.Below.system_meaning.specs.Serving as serving;
+ghost use Rattle.system.specs.Below.system_meaning.specs.Monitor.{Reading};
+ghost use Rattle.system.specs.Below.packet_store.specs.Readings.{IsReading};
+ghost use Rattle.system.specs.Below.system_meaning.specs.Events as spec;
+ghost use Rattle.system.specs.Below.live_system.specs.Machines.{StandsAt};
 
 use eu_base::{Bytes, NoMemory, Reply};
 use std::alloc::Global;

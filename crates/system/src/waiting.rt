@@ -1,8 +1,8 @@
 //! A task in its turn asks for what it may.
 ghost use Rattle.task_numbers.specs.declared.number.TaskNo.{TaskNo};
 ghost use Rattle.turn_laws.specs.Waits.{AreOrderly, HasTurn};
-ghost use Rattle.task_requests.specs.Below.source_machine.specs.Systems.{Moment};
-ghost use Rattle.task_requests.specs.Below.live_system.specs.Machines.{StandsAt};
+ghost use Rattle.system.specs.Below.system_meaning.specs.Systems.{Moment};
+ghost use Rattle.system.specs.Below.live_system.specs.Machines.{StandsAt};
 ghost use Rattle.system.specs.Keeping.{KeepsTurn, TurnBegins};
 
 use task_requests::System;

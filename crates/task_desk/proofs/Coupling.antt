@@ -7,10 +7,10 @@ use Rattle.task_numbers.specs.declared.number.TaskNo.{TaskNo}
 use Rattle.task_numbers.specs.Numbers.{niltask, is_nil}
 use Rattle.task_tree.specs.Tree.{has_number, lives}
 use Rattle.terminals.specs.Channels.{Channel, channel, channel_of, coupled}
-use Rattle.source_machine.specs.Below.units.specs.Library.{Library, none_live}
-use Rattle.source_machine.specs.Tasks.{Own}
-use Rattle.source_machine.specs.Systems as machine
-use Rattle.source_machine.specs.Supervisor.{coupling_refusal}
+use Rattle.task_desk.specs.Below.units.specs.Library.{Library, none_live}
+use Rattle.system_meaning.specs.Tasks.{Own}
+use Rattle.system_meaning.specs.Systems as machine
+use Rattle.system_meaning.specs.Supervisor.{coupling_refusal}
 use Rattle.task_desk.specs.Desks.{Desk, Makes, system, moment}
 
 pub is_none_not : {A : Type 0} (o : Option A) → is_none o ≡ not (is_some o)

@@ -15,9 +15,9 @@ use Rattle.task_tree.specs.declared.task.Task.{Task}
 use Rattle.task_tree.specs.Tree.{Tree, has_number, lives, ended, begun, task, next}
 use Rattle.task_tree.specs.Trees.{IsTree}
 use Rattle.slicer.specs.Rotation.{is_ready, at_back, without}
-use Rattle.source_machine.specs.Below.units.specs.Library.{Library, none_live}
-use Rattle.source_machine.specs.Tasks.{Own}
-use Rattle.source_machine.specs.Systems as machine
+use Rattle.task_desk.specs.Below.units.specs.Library.{Library, none_live}
+use Rattle.system_meaning.specs.Tasks.{Own}
+use Rattle.system_meaning.specs.Systems as machine
 use Rattle.task_desk.specs.Desks.{Desk, IsDesk, AllLive, Makes, system, moment}
 
 -- the tasks but one

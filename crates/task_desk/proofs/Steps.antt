@@ -3,12 +3,12 @@ use Rattle.std.proofs.Common.{◌≡◌, ℕ, Bool, true, false, List, [], ◌�
 use Rattle.task_numbers.specs.declared.number.TaskNo.{TaskNo}
 use Rattle.task_numbers.specs.Numbers.{is_nil}
 use Rattle.terminals.specs.Channels.{with_last}
-use Rattle.source_machine.specs.Below.units.specs.Library.{Library}
-use Rattle.source_machine.specs.Tasks.{Doing, Own}
-use Rattle.source_machine.specs.Systems.{Moment, say, uncouple, supervisor_prompt, on_system, on_channels}
-use Rattle.source_machine.specs.Systems as machine
-use Rattle.source_machine.specs.Ends as ends
-use Rattle.source_machine.specs.Supervisor.{called}
+use Rattle.task_desk.specs.Below.units.specs.Library.{Library}
+use Rattle.system_meaning.specs.Tasks.{Doing, Own}
+use Rattle.system_meaning.specs.Systems.{Moment, say, uncouple, supervisor_prompt, on_system, on_channels}
+use Rattle.system_meaning.specs.Systems as machine
+use Rattle.system_meaning.specs.Ends as ends
+use Rattle.system_meaning.specs.Supervisor.{called}
 use Rattle.task_desk.specs.Desks.{Desk, Makes, system, moment, begun, removed}
 
 pub makes_both : (first second : Moment → Moment) (before between after : Desk) → Makes first before between → Makes second between after

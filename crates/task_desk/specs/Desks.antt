@@ -16,10 +16,10 @@ use Rattle.terminals.specs.Channels.{Channel}
 use Rattle.terminals.specs.Channels as terminal
 use Rattle.terminals.specs.Couplings.{IsOneToOne}
 use Rattle.session_text.specs.Display.{Display, blank}
-use Rattle.source_machine.specs.Below.units.specs.Library.{Library}
-use Rattle.source_machine.specs.Tasks.{Own}
-use Rattle.source_machine.specs.Systems.{System, Moment}
-use Rattle.source_machine.specs.Serving.{Served, Rests, replies_with}
+use Rattle.task_desk.specs.Below.units.specs.Library.{Library}
+use Rattle.system_meaning.specs.Tasks.{Own}
+use Rattle.system_meaning.specs.Systems.{System, Moment}
+use Rattle.system_meaning.specs.Serving.{Served, Rests, replies_with}
 
 pub record Desk : Type 0 where
   pub tree : Tree

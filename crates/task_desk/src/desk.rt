@@ -9,12 +9,12 @@ ghost use Rattle.slicer.specs.Rotation as rotation;
 ghost use Rattle.message_wait.specs.Rendezvous as rendezvous;
 ghost use Rattle.terminals.specs.Channels as terminal;
 ghost use Rattle.session_text.specs.Display as shows;
-ghost use Rattle.source_machine.specs.Below.units.specs.Library.{Library};
-ghost use Rattle.source_machine.specs.Tasks.{Own};
-ghost use Rattle.source_machine.specs.Systems as machine;
-ghost use Rattle.source_machine.specs.Ends as ends;
-ghost use Rattle.source_machine.specs.Serving.{input};
-ghost use Rattle.source_machine.specs.Supervisor as supervisor;
+ghost use Rattle.task_desk.specs.Below.units.specs.Library.{Library};
+ghost use Rattle.system_meaning.specs.Tasks.{Own};
+ghost use Rattle.system_meaning.specs.Systems as machine;
+ghost use Rattle.system_meaning.specs.Ends as ends;
+ghost use Rattle.system_meaning.specs.Serving.{input};
+ghost use Rattle.system_meaning.specs.Supervisor as supervisor;
 ghost use Rattle.task_desk.specs.Desks as desks;
 ghost use Rattle.task_desk.specs.Desks.{Makes, IsDesk};
 

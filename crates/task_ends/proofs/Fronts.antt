@@ -12,16 +12,16 @@ use Rattle.eu_base.specs.Cells.{Free, Cells, packet_cell}
 use Rattle.eu_base.specs.DataSpaces.{Spaces, heads_of}
 use Rattle.eu_base.specs.SpacePlaces.{kinds_of, values_of}
 use Rattle.page_pool.specs.Pool.{Pages}
-use Rattle.space_memory.specs.Memories.{MemoryData, memory_heads}
-use Rattle.live_task.specs.Below.task_job.specs.Here.{HoldsAll}
-use Rattle.place_gen.specs.Correct.{StandsFor, HasVariables}
+use Rattle.task_ends.specs.Below.space_memory.specs.Memories.{MemoryData, memory_heads}
+use Rattle.task_ends.specs.Below.task_job.specs.Here.{HoldsAll}
+use Rattle.task_ends.specs.Below.place_gen.specs.Correct.{StandsFor, HasVariables}
 use Rattle.elan_types.specs.Eval.{Slot, Holds}
-use Rattle.packet_cells.specs.Freed.{HoldsOf, HoldEach, freed}
-use Rattle.packet_cells.proofs.Freeing.{kept_before, free_there}
-use Rattle.live_task.specs.Below.source_machine.specs.Stores.{Store}
-use Rattle.live_task.specs.Below.source_machine.specs.Tasks.{settled}
-use Rattle.live_task.specs.Below.task_job.specs.Standing.{KeepsSpaces, HasBehind, Leaves, Keeps}
-use Rattle.live_task.specs.Below.task_job.proofs.Beginning.{same_variables}
+use Rattle.zero_machine.specs.Freed.{HoldsOf, HoldEach, freed}
+use Rattle.zero_machine.proofs.FreeingCells.{kept_before, free_there}
+use Rattle.task_ends.specs.Below.system_meaning.specs.Stores.{Store}
+use Rattle.task_ends.specs.Below.system_meaning.specs.Tasks.{settled}
+use Rattle.task_ends.specs.Below.task_job.specs.Standing.{KeepsSpaces, HasBehind, Leaves, Keeps}
+use Rattle.task_ends.specs.Below.task_job.proofs.Beginning.{same_variables}
 
 in_first : {A : Type 0} (xs ys : List A) (x : ℕ) (y : A) → slice_get xs x ≡ Some y → slice_get (xs ++ ys) x ≡ Some y
 in_first [] ys x y e = absurd (cc e)

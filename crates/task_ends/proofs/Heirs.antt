@@ -5,21 +5,21 @@ use Rattle.eu_base.specs.declared.address.Area.{Area}
 use Rattle.eu_base.specs.declared.address.Area.TheVariants.{Run, Packets, Space}
 use Rattle.eu_base.specs.Cells.{Cell, Free, Cells, area_cell}
 use Rattle.eu_base.specs.DataSpaces.{Heads, Spaces, no_spaces}
-use Rattle.cell_kinds.specs.Kinds.{packet_kinds}
+use Rattle.task_ends.specs.Below.cell_kinds.specs.Kinds.{packet_kinds}
 use Rattle.page_pool.specs.Pool.{Pages}
-use Rattle.text_heap.specs.Held.{HoldsCells}
-use Rattle.text_heap.proofs.Kept.{kept_held, moved_held}
-use Rattle.space_memory.specs.Memories.{MemoryData, heir, roots, is_there, memory_heads}
-use Rattle.live_task.specs.Below.task_job.specs.Here.{content_at, KeepsBytes, HoldsAll, bytes_in}
-use Rattle.live_task.specs.Below.task_job.proofs.Here.{nothing_held}
-use Rattle.live_task.specs.Below.source_machine.specs.Stores as stores
-use Rattle.live_task.specs.Below.source_machine.specs.Stores.{Store}
-use Rattle.live_task.specs.Below.source_machine.specs.Tasks.{Command, Doing, Idle, Entering, Running, Own, ending, world_of, store_in, settled, now}
-use Rattle.live_task.specs.Below.task_job.specs.Standing.{KeepsSpaces, Keeps, Left, Leaves, RunsFor}
-use Rattle.live_task.specs.Below.task_job.specs.declared.job.Job.{Job}
-use Rattle.live_task.specs.Below.task_job.proofs.Beginning.{same_variables}
-use Rattle.live_task.specs.Below.task_job.proofs.Keeping.{none_live}
-use Rattle.live_task.specs.Below.task_job.proofs.Standing.{many_own, left_now}
+use Rattle.task_ends.specs.Below.text_heap.specs.Held.{HoldsCells}
+use Rattle.task_ends.specs.Below.text_heap.proofs.Kept.{kept_held, moved_held}
+use Rattle.task_ends.specs.Below.space_memory.specs.Memories.{MemoryData, heir, roots, is_there, memory_heads}
+use Rattle.task_ends.specs.Below.task_job.specs.Here.{content_at, KeepsBytes, HoldsAll, bytes_in}
+use Rattle.task_ends.specs.Below.task_job.proofs.Here.{nothing_held}
+use Rattle.task_ends.specs.Below.system_meaning.specs.Stores as stores
+use Rattle.task_ends.specs.Below.system_meaning.specs.Stores.{Store}
+use Rattle.task_ends.specs.Below.system_meaning.specs.Tasks.{Command, Doing, Idle, Entering, Running, Own, ending, world_of, store_in, settled, now}
+use Rattle.task_ends.specs.Below.task_job.specs.Standing.{KeepsSpaces, Keeps, Left, Leaves, RunsFor}
+use Rattle.task_ends.specs.Below.task_job.specs.declared.job.Job.{Job}
+use Rattle.task_ends.specs.Below.task_job.proofs.Beginning.{same_variables}
+use Rattle.task_ends.specs.Below.task_job.proofs.Keeping.{none_live}
+use Rattle.task_ends.specs.Below.task_job.proofs.Standing.{many_own, left_now}
 use Rattle.live_task.specs.Stands.{DoesAs, StandsFor}
 use Rattle.live_task.specs.declared.task.Task.{Task}
 use Rattle.live_task.specs.declared.task.Doing.TheVariants as does

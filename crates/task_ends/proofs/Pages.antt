@@ -7,17 +7,17 @@ use Rattle.std.proofs.Math.Logic.{∥∥₁_map}
 use Rattle.std.proofs.lemmas.List.{length-append, append_assoc}
 use Rattle.eu_base.specs.Spaces.{IsKept}
 use Rattle.page_pool.specs.Pool.{Pages}
-use Rattle.page_table.specs.Entries.{Names}
-use Rattle.page_table.specs.Frames.{Stands}
-use Rattle.page_table.specs.Sharing.{occ, Agree, most_spaces}
-use Rattle.page_table.proofs.Counting.{occ-append}
-use Rattle.page_table.proofs.Moving.{equal, homes_then}
-use Rattle.page_table.proofs.Framing.{Same, reorder, stands_same, stands_first}
-use Rattle.space_memory.proofs.Roots.{all_named}
-use Rattle.space_memory.specs.Memories.{MemoryData, StandsWhole, most_roots, heir, roots}
-use Rattle.live_task.specs.Below.task_job.specs.Here.{content_at, Frames, KeepsBytes, MemoryFrames}
-use Rattle.live_task.specs.Below.task_job.proofs.Here.{frames_none, stands_after, frames_before, memory_frames_then}
-use Rattle.space_memory.proofs.Framed.{whole_of}
+use Rattle.task_ends.specs.Below.page_table.specs.Entries.{Names}
+use Rattle.task_ends.specs.Below.page_table.specs.Frames.{Stands}
+use Rattle.task_ends.specs.Below.page_table.specs.Sharing.{occ, Agree, most_spaces}
+use Rattle.task_ends.specs.Below.page_table.proofs.Counting.{occ-append}
+use Rattle.task_ends.specs.Below.page_table.proofs.Moving.{equal, homes_then}
+use Rattle.task_ends.specs.Below.page_table.proofs.Framing.{Same, reorder, stands_same, stands_first}
+use Rattle.task_ends.specs.Below.space_memory.proofs.Roots.{all_named}
+use Rattle.task_ends.specs.Below.space_memory.specs.Memories.{MemoryData, StandsWhole, most_roots, heir, roots}
+use Rattle.task_ends.specs.Below.task_job.specs.Here.{content_at, Frames, KeepsBytes, MemoryFrames}
+use Rattle.task_ends.specs.Below.task_job.proofs.Here.{frames_none, stands_after, frames_before, memory_frames_then}
+use Rattle.task_ends.specs.Below.space_memory.proofs.Framed.{whole_of}
 use Rattle.task_ends.specs.Refused.{RoomFrames, Refused}
 
 -- what holds whatever a call gave

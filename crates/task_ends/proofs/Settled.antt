@@ -4,16 +4,16 @@ use Rattle.std.specs.Prelude.{Result, Ok, Err, OnOk}
 use Rattle.eu_base.specs.declared.value.Kind.{Kind}
 use Rattle.eu_base.specs.DataSpaces.{Heads}
 use Rattle.eu_base.proofs.Heads.{long_heads}
-use Rattle.cell_kinds.specs.Kinds.{packet_kinds}
+use Rattle.task_ends.specs.Below.cell_kinds.specs.Kinds.{packet_kinds}
 use Rattle.page_pool.specs.Pool.{Pages}
-use Rattle.space_memory.specs.Memories.{MemoryData, StandsWhole, memory_heads, head_of, roots}
-use Rattle.live_task.specs.Below.task_job.specs.Here.{MemoryFrames}
-use Rattle.space_memory.proofs.Framed.{roots_long}
+use Rattle.task_ends.specs.Below.space_memory.specs.Memories.{MemoryData, StandsWhole, memory_heads, head_of, roots}
+use Rattle.task_ends.specs.Below.task_job.specs.Here.{MemoryFrames}
+use Rattle.task_ends.specs.Below.space_memory.proofs.Framed.{roots_long}
 use Rattle.elan_types.specs.Eval.{World}
-use Rattle.live_task.specs.Below.units.specs.declared.unit.Compiled.{Compiled}
-use Rattle.live_task.specs.Below.source_machine.specs.Stores.{Store}
-use Rattle.live_task.specs.Below.source_machine.specs.Tasks.{Command, Own, Idle, own_variables, settled, store_in, with_doing}
-use Rattle.live_task.specs.Below.task_job.specs.Standing.{Leaves, Keeps}
+use Rattle.task_ends.specs.Below.units.specs.declared.unit.Compiled.{Compiled}
+use Rattle.task_ends.specs.Below.system_meaning.specs.Stores.{Store}
+use Rattle.task_ends.specs.Below.system_meaning.specs.Tasks.{Command, Own, Idle, own_variables, settled, store_in, with_doing}
+use Rattle.task_ends.specs.Below.task_job.specs.Standing.{Leaves, Keeps}
 use Rattle.live_task.specs.Stands.{StandsFor, StandsOver}
 use Rattle.live_task.specs.declared.task.Task.{Task}
 use Rattle.task_ends.proofs.Pages.{whole_then}

@@ -1,10 +1,10 @@
 -- Calls that need room for more spaces than they leave, and one that was refused.
 use Rattle.std.specs.Prelude.{ℕ, ◌+◌, ◌≤◌, ◌++◌, length}
 use Rattle.page_pool.specs.Pool.{Pages}
-use Rattle.page_table.specs.Entries.{Names}
-use Rattle.page_table.specs.Sharing.{most_spaces, Agree}
-use Rattle.page_table.specs.Frames.{KeepsHomes}
-use Rattle.live_task.specs.Below.task_job.specs.Here.{Knows, Framed}
+use Rattle.task_ends.specs.Below.page_table.specs.Entries.{Names}
+use Rattle.task_ends.specs.Below.page_table.specs.Sharing.{most_spaces, Agree}
+use Rattle.task_ends.specs.Below.page_table.specs.Frames.{KeepsHomes}
+use Rattle.task_ends.specs.Below.task_job.specs.Here.{Knows, Framed}
 
 -- The spaces with the roots before become those with the roots after. Whatever the rest is, where there was room for so many spaces more,
 -- pool and spaces agree, and no byte of the rest changed. What is known stays known.

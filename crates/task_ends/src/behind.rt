@@ -2,20 +2,20 @@
 ghost use Rattle.std.specs.Prelude.{◌≡◌, ◌+◌, ◌≤◌, length, OnOk};
 ghost use Rattle.eu_base.specs.declared.address.TheConstants.{CELLS};
 ghost use Rattle.eu_base.specs.Cells.{Cells};
-ghost use Rattle.cell_kinds.specs.Kinds.{all_kinds, packet_kinds};
-ghost use Rattle.space_memory.specs.Memories.{roots, memory_heads, StandsWhole};
-ghost use Rattle.live_task.specs.Below.task_job.specs.Here.{HoldsAll, MemoryFrames};
-ghost use Rattle.packet_cells.specs.Freed.{HoldEach, freed};
-ghost use Rattle.live_task.specs.Below.source_machine.specs.Stores.{Store};
-ghost use Rattle.live_task.specs.Below.source_machine.specs.Tasks.{settled};
-ghost use Rattle.live_task.specs.Below.task_job.specs.Standing.{Keeps, Leaves};
+ghost use Rattle.task_ends.specs.Below.cell_kinds.specs.Kinds.{all_kinds, packet_kinds};
+ghost use Rattle.task_ends.specs.Below.space_memory.specs.Memories.{roots, memory_heads, StandsWhole};
+ghost use Rattle.task_ends.specs.Below.task_job.specs.Here.{HoldsAll, MemoryFrames};
+ghost use Rattle.zero_machine.specs.Freed.{HoldEach, freed};
+ghost use Rattle.task_ends.specs.Below.system_meaning.specs.Stores.{Store};
+ghost use Rattle.task_ends.specs.Below.system_meaning.specs.Tasks.{settled};
+ghost use Rattle.task_ends.specs.Below.task_job.specs.Standing.{Keeps, Leaves};
 
+use crate::below::of_space_memory::SpaceMemory;
 use eu_base::{CELLS, MemFault, NoMemory, Nowhere, Shape};
 use live_task::Compiled;
-use packet_cells::{count_cells, free_shapes};
 use page_pool::Pool;
-use space_memory::SpaceMemory;
 use std::alloc::Global;
+use zero_machine::{count_cells, free_shapes};
 
 /// Frees the variables of a packet that is inserted, which stand behind those of the task's packets. Where all together have no room,
 /// there are none.

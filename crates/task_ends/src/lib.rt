@@ -2,6 +2,7 @@
 #![tactic(auto)]
 
 mod behind;
+pub mod below;
 mod going;
 mod settling;
 mod sons;

@@ -1,10 +1,10 @@
 //! A task whose command is over and was no insertion that is kept.
 ghost use Rattle.std.specs.Prelude.{◌≡◌, ◌≤◌, List, length, OnOk};
 ghost use Rattle.eu_base.specs.declared.value.Kind.{Kind};
-ghost use Rattle.space_memory.specs.Memories.{roots, most_roots, StandsWhole};
-ghost use Rattle.live_task.specs.Below.task_job.specs.Here.{MemoryFrames};
+ghost use Rattle.task_ends.specs.Below.space_memory.specs.Memories.{roots, most_roots, StandsWhole};
+ghost use Rattle.task_ends.specs.Below.task_job.specs.Here.{MemoryFrames};
 ghost use Rattle.elan_types.specs.Eval.{World};
-ghost use Rattle.live_task.specs.Below.source_machine.specs.Tasks.{Command, Own, Idle, own_variables, settled, store_in, with_doing};
+ghost use Rattle.task_ends.specs.Below.system_meaning.specs.Tasks.{Command, Own, Idle, own_variables, settled, store_in, with_doing};
 ghost use Rattle.live_task.specs.Stands.{StandsFor, StandsOver, IsSound};
 
 use crate::behind::free_behind;

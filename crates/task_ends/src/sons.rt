@@ -1,20 +1,20 @@
 //! Sons.
 ghost use Rattle.std.specs.Prelude.{◌≡◌, ◌++◌, List as Lists, length, IfOk, OnErr};
 ghost use Rattle.eu_base.specs.declared.value.Kind.{Kind};
-ghost use Rattle.page_table.specs.Frames.{Stands};
-ghost use Rattle.live_task.specs.Below.task_job.specs.Here.{KeepsBytes};
-ghost use Rattle.space_memory.specs.Memories.{roots, most_roots};
-ghost use Rattle.live_task.specs.Below.source_machine.specs.Stores.{heir};
-ghost use Rattle.live_task.specs.Below.source_machine.specs.Tasks.{Own, Idle, now};
-ghost use Rattle.live_task.specs.Below.task_job.specs.Standing.{Keeps};
+ghost use Rattle.task_ends.specs.Below.page_table.specs.Frames.{Stands};
+ghost use Rattle.task_ends.specs.Below.task_job.specs.Here.{KeepsBytes};
+ghost use Rattle.task_ends.specs.Below.space_memory.specs.Memories.{roots, most_roots};
+ghost use Rattle.task_ends.specs.Below.system_meaning.specs.Stores.{heir};
+ghost use Rattle.task_ends.specs.Below.system_meaning.specs.Tasks.{Own, Idle, now};
+ghost use Rattle.task_ends.specs.Below.task_job.specs.Standing.{Keeps};
 ghost use Rattle.live_task.specs.Stands.{StandsFor, IsSound};
 ghost use Rattle.task_ends.specs.Refused.{RoomFrames, Refused};
 
 use crate::behind::free_behind;
+use crate::below::of_space_memory::SpaceMemory;
 use eu_base::{List, NoMemory};
 use live_task::{Doing, Task};
 use page_pool::Pool;
-use space_memory::SpaceMemory;
 use std::alloc::Global;
 
 /// A son, which has the variables of the packets and nothing else, under the same packets. Meanwhile there is room for all data spaces that

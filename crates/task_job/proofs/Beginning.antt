@@ -15,19 +15,19 @@ use Rattle.eu_base.specs.Cells.{Cell, Free, Cells, held_of, same_area, area_cell
 use Rattle.eu_base.specs.DataSpaces.{Heads, Spaces, heads_of}
 use Rattle.eu_base.specs.SpacePlaces.{kinds_of, values_of}
 use Rattle.eu_base.proofs.Places.{same_there}
-use Rattle.cell_kinds.specs.Kinds.{packet_kinds}
+use Rattle.task_job.specs.Below.cell_kinds.specs.Kinds.{packet_kinds}
 use Rattle.code_form.specs.Program.{Program, start_kinds, kinds_in_packets}
 use Rattle.code_form.specs.Machine.{written_in, made_in, made, CanBeMade, start}
 use Rattle.code_form.specs.Runs.{Rests}
 use Rattle.code_form.proofs.Spent.{stands_first}
-use Rattle.zero_state.specs.Stepping.{mem_of}
+use Rattle.task_job.specs.Below.zero_state.specs.Stepping.{mem_of}
 use Rattle.elan_types.specs.declared.core_phrase.Core.{Core}
 use Rattle.elan_types.specs.Eval.{Slot, Holds}
 use Rattle.elan_types.specs.Command.{blanks}
-use Rattle.place_gen.specs.Correct.{StandsFor, Image, HasVariables, HasSpaces, HasSlots}
-use Rattle.code_gen.specs.Codes.{IsCodeOf}
-use Rattle.code_gen.proofs.Coding.{code_behaves}
-use Rattle.code_gen.proofs.Plays.{has_blank}
+use Rattle.task_job.specs.Below.place_gen.specs.Correct.{StandsFor, Image, HasVariables, HasSpaces, HasSlots}
+use Rattle.task_job.specs.Below.code_gen.specs.Codes.{IsCodeOf}
+use Rattle.task_job.specs.Below.code_gen.proofs.Coding.{code_behaves}
+use Rattle.task_job.specs.Below.code_gen.proofs.Plays.{has_blank}
 use Rattle.task_job.specs.Runs.{Reaches}
 
 -- ---- two lists, one after the other

@@ -2,13 +2,13 @@
 use Rattle.std.proofs.Common.{◌≡◌, ℕ, sym, subst}
 use Rattle.eu_base.specs.Cells.{Cells}
 use Rattle.page_pool.specs.Pool.{Pages}
-use Rattle.page_table.specs.Entries.{Names}
+use Rattle.task_job.specs.Below.page_table.specs.Entries.{Names}
 use Rattle.code_form.specs.declared.halt.Halt.{Halt}
 use Rattle.code_form.specs.Program.{Program}
 use Rattle.code_form.specs.Machine.{Control, Rest}
 use Rattle.code_form.specs.Runs.{Rests}
-use Rattle.zero_state.specs.Stepping.{mem_of, scene_of}
-use Rattle.zero_machine.specs.Running.{RestsSo}
+use Rattle.task_job.specs.Below.zero_state.specs.Stepping.{mem_of, scene_of}
+use Rattle.task_job.specs.Below.zero_machine.specs.Running.{RestsSo}
 use Rattle.space_memory.specs.Memories.{MemoryData, StandsWhole, memory_heads}
 use Rattle.task_job.specs.Here.{HoldsAll}
 

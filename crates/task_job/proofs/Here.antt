@@ -5,11 +5,11 @@ use Rattle.eu_base.specs.declared.address.Area.TheVariants.{Run}
 use Rattle.eu_base.specs.Values.{SpaceNo}
 use Rattle.eu_base.specs.Cells.{Cells, Free}
 use Rattle.page_pool.specs.Pool.{Pages, Backed}
-use Rattle.page_table.specs.Entries.{Names}
-use Rattle.page_table.specs.Sharing.{Agree, occ, most_spaces}
-use Rattle.page_table.specs.Frames.{Stands}
-use Rattle.page_table.proofs.Framing as framing
-use Rattle.text_heap.specs.Held.{HoldsCells}
+use Rattle.task_job.specs.Below.page_table.specs.Entries.{Names}
+use Rattle.task_job.specs.Below.page_table.specs.Sharing.{Agree, occ, most_spaces}
+use Rattle.task_job.specs.Below.page_table.specs.Frames.{Stands}
+use Rattle.task_job.specs.Below.page_table.proofs.Framing as framing
+use Rattle.task_job.specs.Below.text_heap.specs.Held.{HoldsCells}
 use Rattle.space_memory.proofs.Roots as live_roots
 use Rattle.space_memory.specs.Memories.{MemoryData, most_roots}
 use Rattle.space_memory.specs.Changes as changes

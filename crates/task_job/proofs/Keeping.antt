@@ -10,16 +10,16 @@ use Rattle.eu_base.specs.Cells.{Cell, Free, Cells, area_cell, space_cell}
 use Rattle.eu_base.specs.DataSpaces.{Heads, Spaces, heads_of, no_spaces, last_number}
 use Rattle.eu_base.specs.SpacePlaces.{kinds_of, values_of}
 use Rattle.page_pool.specs.Pool.{Pages}
-use Rattle.text_heap.specs.Held.{HoldsCells}
-use Rattle.text_heap.proofs.Kept.{kept_held, moved_held}
+use Rattle.task_job.specs.Below.text_heap.specs.Held.{HoldsCells}
+use Rattle.task_job.specs.Below.text_heap.proofs.Kept.{kept_held, moved_held}
 use Rattle.space_memory.specs.Live.{no_space, the_space}
 use Rattle.space_memory.specs.Memories.{MemoryData, roots, is_there, memory_heads}
 use Rattle.task_job.specs.Here.{content_at, KeepsBytes, HoldsAll, bytes_in}
 use Rattle.space_memory.proofs.Areas.{root_among}
-use Rattle.zero_state.specs.Stepping.{mem_of}
-use Rattle.place_gen.specs.Correct.{HasSpaces}
+use Rattle.task_job.specs.Below.zero_state.specs.Stepping.{mem_of}
+use Rattle.task_job.specs.Below.place_gen.specs.Correct.{HasSpaces}
 use Rattle.elan_types.specs.Eval.{Slot, Holds}
-use Rattle.source_machine.specs.Stores.{Store}
+use Rattle.system_meaning.specs.Stores.{Store}
 use Rattle.task_job.specs.Standing.{KeepsSpaces, HasBehind, Keeps, Left, Leaves}
 use Rattle.task_job.proofs.Beginning.{no_variables, same_variables}
 

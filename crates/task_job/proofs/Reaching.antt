@@ -14,7 +14,7 @@ use Rattle.eu_base.specs.Cells.{Free, packet_cell}
 use Rattle.eu_base.specs.DataSpaces.{Spaces}
 use Rattle.eu_base.specs.SoundSpaces.{CanCome}
 use Rattle.eu_base.proofs.SoundSpaces.{come_push}
-use Rattle.cell_kinds.specs.Kinds.{packet_kinds}
+use Rattle.task_job.specs.Below.cell_kinds.specs.Kinds.{packet_kinds}
 use Rattle.code_form.specs.declared.halt.Halt.{Halt}
 use Rattle.code_form.specs.declared.halt.Halt.TheVariants as halts
 use Rattle.code_form.specs.declared.waits.Waits.{Waits}
@@ -23,10 +23,10 @@ use Rattle.code_form.specs.Program.{Program, start_kinds, kinds_in_packets}
 use Rattle.code_form.specs.Machine.{Position, Control, asking, answered, after_reply, refused, Mem, Scene, Rest, rest_at, stage_at, carry_on, exec, have_room, start}
 use Rattle.code_form.specs.Runs.{IsPaused, Rests, Stands}
 use Rattle.code_form.proofs.Spent.{falls, stands_run, stands_reply}
-use Rattle.place_gen.specs.Correct.{Image, HasVariables, RestsAs, Shows}
-use Rattle.code_gen.specs.Correct.{Behaves}
-use Rattle.code_gen.proofs.Plays.{plays}
-use Rattle.code_gen.proofs.Coding.{code_behaves}
+use Rattle.task_job.specs.Below.place_gen.specs.Correct.{Image, HasVariables, RestsAs, Shows}
+use Rattle.task_job.specs.Below.code_gen.specs.Correct.{Behaves}
+use Rattle.task_job.specs.Below.code_gen.proofs.Plays.{plays}
+use Rattle.task_job.specs.Below.code_gen.proofs.Coding.{code_behaves}
 use Rattle.elan_types.specs.declared.core_phrase.Core.{Core}
 use Rattle.elan_types.specs.Typing.{all_packet_kinds}
 use Rattle.elan_types.specs.Eval.{Slot, Holds, World}

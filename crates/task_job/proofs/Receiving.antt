@@ -11,14 +11,14 @@ use Rattle.eu_base.specs.DataSpaces.{Space, Heads, last_number, SpaceChange, Get
 use Rattle.eu_base.specs.SoundSpaces.{CanCome}
 use Rattle.eu_base.proofs.SoundSpaces.{no_space_comes}
 use Rattle.page_pool.specs.Pool.{Pages}
-use Rattle.data_space.specs.Data.{SpaceData}
+use Rattle.task_job.specs.Below.data_space.specs.Data.{SpaceData}
 use Rattle.space_memory.specs.Live.{space_at, without}
 use Rattle.space_memory.specs.Memories.{MemoryData, memory_heads, with_new, forgotten}
 use Rattle.space_memory.proofs.Changed.{forgot_heads}
 use Rattle.space_memory.proofs.Given.{given_heads, given_held, taken_held}
 use Rattle.task_job.specs.Here.{here, HoldsAll, HoldsSpace}
 use Rattle.code_form.specs.Machine.{mem_after}
-use Rattle.zero_state.specs.Stepping.{mem_of}
+use Rattle.task_job.specs.Below.zero_state.specs.Stepping.{mem_of}
 use Rattle.task_job.specs.Standing.{Receives}
 
 -- the changes that were made are those of an answer

@@ -7,7 +7,7 @@ use Rattle.eu_base.specs.Requests.{Answer, reply_changes}
 use Rattle.eu_base.specs.declared.address.Area.TheVariants.{Packets}
 use Rattle.eu_base.specs.Cells.{Cells}
 use Rattle.eu_base.specs.DataSpaces.{Heads, SpaceChange, heads_after}
-use Rattle.cell_kinds.specs.Kinds.{packet_kinds}
+use Rattle.task_job.specs.Below.cell_kinds.specs.Kinds.{packet_kinds}
 use Rattle.page_pool.specs.Pool.{Pages}
 use Rattle.space_memory.specs.Memories.{MemoryData, memory_heads}
 use Rattle.task_job.specs.Here.{HoldsAll}
@@ -18,16 +18,16 @@ use Rattle.code_form.specs.declared.waits.Waits.TheVariants.{Nothing, Asked, Giv
 use Rattle.code_form.specs.Program.{Program}
 use Rattle.code_form.specs.Machine.{Control, Mem, mem_by, mem_after, Rest, start, made, CanBeMade, answered, after_reply}
 use Rattle.code_form.specs.Runs.{IsPaused, Rests, asked}
-use Rattle.zero_state.specs.Stepping.{mem_of, scene_of}
-use Rattle.zero_machine.specs.Running.{RestsSo}
-use Rattle.place_gen.specs.Correct.{HasVariables, HasSpaces, Shows}
-use Rattle.code_gen.specs.Codes.{IsCodeOf}
-use Rattle.code_gen.proofs.Coding.{code_behaves}
+use Rattle.task_job.specs.Below.zero_state.specs.Stepping.{mem_of, scene_of}
+use Rattle.task_job.specs.Below.zero_machine.specs.Running.{RestsSo}
+use Rattle.task_job.specs.Below.place_gen.specs.Correct.{HasVariables, HasSpaces, Shows}
+use Rattle.task_job.specs.Below.code_gen.specs.Codes.{IsCodeOf}
+use Rattle.task_job.specs.Below.code_gen.proofs.Coding.{code_behaves}
 use Rattle.elan_types.specs.Eval.{World}
 use Rattle.elan_types.specs.Command.{Ending, Ended, Stopped, OutOfMarks, Asks}
-use Rattle.source_machine.specs.Below.units.specs.declared.unit.Compiled.{Compiled}
-use Rattle.source_machine.specs.Stores.{Store}
-use Rattle.source_machine.specs.Tasks.{Command, ending, world_of, store_in, own_variables, spent, request_in, starting, with_reply}
+use Rattle.task_job.specs.Below.units.specs.declared.unit.Compiled.{Compiled}
+use Rattle.system_meaning.specs.Stores.{Store}
+use Rattle.system_meaning.specs.Tasks.{Command, ending, world_of, store_in, own_variables, spent, request_in, starting, with_reply}
 use Rattle.task_job.specs.Runs.{asked_by, IsStill, Reaches}
 use Rattle.task_job.specs.Standing.{Keeps, HasBehind, Left, ReachesFor, RunsFor, RestsFor, Receives}
 use Rattle.task_job.specs.declared.job.Job.{Job}

@@ -5,10 +5,10 @@ use Rattle.eu_base.specs.Cells.{Cells}
 use Rattle.eu_base.specs.Spaces.{Content}
 use Rattle.eu_base.specs.DataSpaces.{Space}
 use Rattle.page_pool.specs.Pool.{Pages, Tell}
-use Rattle.page_table.specs.Entries.{Names}
-use Rattle.page_table.specs.Frames.{Over, over}
-use Rattle.page_table.specs.Frames as frames
-use Rattle.data_space.specs.Data.{SpaceData}
+use Rattle.task_job.specs.Below.page_table.specs.Entries.{Names}
+use Rattle.task_job.specs.Below.page_table.specs.Frames.{Over, over}
+use Rattle.task_job.specs.Below.page_table.specs.Frames as frames
+use Rattle.task_job.specs.Below.data_space.specs.Data.{SpaceData}
 use Rattle.space_memory.specs.Kept as kept
 use Rattle.source_texts.specs.Spaces as source_spaces
 use Rattle.space_memory.specs.Memories.{MemoryData}

@@ -12,8 +12,8 @@ use Rattle.code_form.specs.declared.halt.Halt.TheVariants as halts
 use Rattle.code_form.specs.Program.{Program, kinds_in_packets}
 use Rattle.code_form.specs.Machine.{Control, Mem, Rest, start}
 use Rattle.code_form.specs.Runs.{Rests, Stands, asked}
-use Rattle.place_gen.specs.Correct.{Image, HasSlots}
-use Rattle.code_gen.specs.Codes.{IsCodeOf}
+use Rattle.task_job.specs.Below.place_gen.specs.Correct.{Image, HasSlots}
+use Rattle.task_job.specs.Below.code_gen.specs.Codes.{IsCodeOf}
 use Rattle.elan_types.specs.declared.core_phrase.Core.{Core}
 use Rattle.elan_types.specs.Eval.{Slot}
 use Rattle.elan_types.specs.Command.{blanks, start_kinds}

@@ -8,7 +8,7 @@ use Rattle.eu_base.specs.Requests.{Answer, reply_changes}
 use Rattle.eu_base.specs.Cells.{Free, Cells, run_cell, packet_cell}
 use Rattle.eu_base.specs.DataSpaces.{Spaces, heads_after}
 use Rattle.eu_base.specs.SoundSpaces.{CanCome}
-use Rattle.cell_kinds.specs.Kinds.{packet_kinds}
+use Rattle.task_job.specs.Below.cell_kinds.specs.Kinds.{packet_kinds}
 use Rattle.page_pool.specs.Pool.{Pages}
 use Rattle.space_memory.specs.Memories.{MemoryData, memory_heads}
 use Rattle.task_job.specs.Here.{HoldsAll}
@@ -16,13 +16,13 @@ use Rattle.code_form.specs.declared.halt.Halt.{Halt}
 use Rattle.code_form.specs.declared.halt.Halt.TheVariants as halts
 use Rattle.code_form.specs.Machine.{after_reply}
 use Rattle.code_form.specs.Valid.{Fits}
-use Rattle.zero_state.specs.Stepping.{mem_of}
-use Rattle.place_gen.specs.Correct.{Image, HasVariables, HasSpaces}
+use Rattle.task_job.specs.Below.zero_state.specs.Stepping.{mem_of}
+use Rattle.task_job.specs.Below.place_gen.specs.Correct.{Image, HasVariables, HasSpaces}
 use Rattle.elan_types.specs.Eval.{Slot}
 use Rattle.elan_types.specs.Command.{Ending, Ended, Stopped, OutOfMarks, Asks}
 use Rattle.packet_store.specs.Units.{IsUnit}
-use Rattle.source_machine.specs.Stores.{Store}
-use Rattle.source_machine.specs.Tasks.{Command, store_in, spent}
+use Rattle.system_meaning.specs.Stores.{Store}
+use Rattle.system_meaning.specs.Tasks.{Command, store_in, spent}
 use Rattle.task_job.specs.Runs.{IsStill, Reaches}
 use Rattle.task_job.specs.declared.job.Job.{Job}
 

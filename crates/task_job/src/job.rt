@@ -3,16 +3,16 @@ ghost use Rattle.std.specs.Prelude.{◌≡◌, ◌≤◌, List, IfOk, OnOk, IsSo
 ghost use Rattle.eu_base.specs.declared.value.Kind.{Kind};
 ghost use Rattle.eu_base.specs.declared.request.Request.{Request};
 ghost use Rattle.eu_base.specs.Requests.{Answer};
-ghost use Rattle.cell_kinds.specs.Kinds.{packet_kinds};
+ghost use Rattle.task_job.specs.Below.cell_kinds.specs.Kinds.{packet_kinds};
 ghost use Rattle.code_form.specs.declared.waits.Waits.TheVariants as waits;
 ghost use Rattle.code_form.specs.Runs.{asked};
-ghost use Rattle.code_gen.specs.Codes.{IsCodeOf};
+ghost use Rattle.task_job.specs.Below.code_gen.specs.Codes.{IsCodeOf};
 ghost use Rattle.packet_store.specs.Units.{IsUnit};
 ghost use Rattle.page_pool.specs.Pool.{Pages};
 ghost use Rattle.space_memory.specs.Memories.{MemoryData, roots, StandsWhole};
 ghost use Rattle.task_job.specs.Here.{MemoryFrames};
-ghost use Rattle.source_machine.specs.Stores.{Store};
-ghost use Rattle.source_machine.specs.Tasks.{Command, ending, starting, with_reply};
+ghost use Rattle.system_meaning.specs.Stores.{Store};
+ghost use Rattle.system_meaning.specs.Tasks.{Command, ending, starting, with_reply};
 ghost use Rattle.task_job.specs.Standing.{Keeps, ReachesFor, RunsFor, RestsFor, Receives, IsSoundJob};
 
 use crate::lent::{answer_over, go_over, start_over};

@@ -6,8 +6,8 @@ ghost use Rattle.code_form.specs.declared.waits.Waits.TheVariants as waits;
 ghost use Rattle.code_form.specs.Machine.{Rest, start, answered, made, CanBeMade};
 ghost use Rattle.code_form.specs.Valid.{Fits};
 ghost use Rattle.code_form.specs.Runs.{Rests, asked};
-ghost use Rattle.zero_state.specs.Stepping.{mem_of, scene_of};
-ghost use Rattle.zero_machine.specs.Running.{RestsSo};
+ghost use Rattle.task_job.specs.Below.zero_state.specs.Stepping.{mem_of, scene_of};
+ghost use Rattle.task_job.specs.Below.zero_machine.specs.Running.{RestsSo};
 ghost use Rattle.space_memory.specs.Memories.{roots, memory_heads, StandsWhole};
 ghost use Rattle.task_job.specs.Here.{HoldsAll, MemoryFrames};
 

@@ -1,6 +1,7 @@
 //! A command that runs over the memory of its task, and how the parts of one are let go.
 #![tactic(auto)]
 
+pub mod below;
 mod job;
 mod lent;
 

@@ -3,10 +3,10 @@ use Rattle.std.proofs.Common.{◌≡◌, ℕ, suc, ◌-◌, Bool, true, false, L
 use Rattle.std.specs.Prelude.{slice_get, if◌then◌else◌}
 use Rattle.std.proofs.lemmas.List.{set-get_or}
 use Rattle.task_numbers.specs.declared.number.TaskNo.{TaskNo}
-use Rattle.elan_scope.specs.declared.env.Env.{Env}
+use Rattle.task_lines.specs.Below.elan_scope.specs.declared.env.Env.{Env}
 use Rattle.terminals.specs.Channels.{Channel, unused, channel, with_channel, without_line, unqueued, channel_of}
-use Rattle.live_system.specs.Below.source_machine.specs.Systems.{Moment, runs, on_system, on_channels}
-use Rattle.live_system.specs.Below.source_machine.specs.Monitor.{Reading, taken, oldest_taken, drained_at, drained_in}
+use Rattle.task_lines.specs.Below.system_meaning.specs.Systems.{Moment, runs, on_system, on_channels}
+use Rattle.task_lines.specs.Below.system_meaning.specs.Monitor.{Reading, taken, oldest_taken, drained_at, drained_in}
 use Rattle.live_system.specs.Machines.{Machine, StandsAt}
 use Rattle.task_lines.specs.Queues.{one_taken, Follows}
 

@@ -2,14 +2,14 @@
 use Rattle.std.proofs.Common.{◌≡◌, ℕ, Bool, true, false, List, Option, Some, None, refl, sym, ap, ◌∙◌, subst}
 use Rattle.task_numbers.specs.declared.number.TaskNo.{TaskNo}
 use Rattle.eu_base.specs.declared.stop.Stop.{Stop}
-use Rattle.elan_names.specs.declared.interface.Interface.{Interface}
-use Rattle.elan_scope.specs.declared.env.Env.{Env}
+use Rattle.task_lines.specs.Below.elan_names.specs.declared.interface.Interface.{Interface}
+use Rattle.task_lines.specs.Below.elan_scope.specs.declared.env.Env.{Env}
 use Rattle.elan_types.specs.Eval.{World}
-use Rattle.live_system.specs.Below.units.specs.Library.{Library}
-use Rattle.live_system.specs.Below.source_machine.specs.Tasks.{Command, Idle, Own, store_in, with_doing}
-use Rattle.live_system.specs.Below.source_machine.specs.Systems.{System, Moment, place, changed_at, does, on_system}
-use Rattle.live_system.specs.Below.source_machine.specs.Monitor.{Reading, is_full, tidy, rested_with, insertion_over, over_as, over}
-use Rattle.live_system.specs.Below.live_packets.specs.Packets.{insertion_told}
+use Rattle.task_lines.specs.Below.units.specs.Library.{Library}
+use Rattle.task_lines.specs.Below.system_meaning.specs.Tasks.{Command, Idle, Own, store_in, with_doing}
+use Rattle.task_lines.specs.Below.system_meaning.specs.Systems.{System, Moment, place, changed_at, does, on_system}
+use Rattle.task_lines.specs.Below.system_meaning.specs.Monitor.{Reading, is_full, tidy, rested_with, insertion_over, over_as, over}
+use Rattle.task_lines.specs.Below.live_packets.specs.Packets.{insertion_told}
 use Rattle.live_system.specs.Finishing.{insertion_leaves, leaves_by, finished, told_by}
 use Rattle.live_system.specs.Machines.{Machine, StandsAt}
 

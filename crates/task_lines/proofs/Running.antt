@@ -4,12 +4,12 @@ use Rattle.std.specs.Prelude.{codes}
 use Rattle.task_numbers.specs.declared.number.TaskNo.{TaskNo}
 use Rattle.eu_base.specs.declared.stop.Stop.TheVariants.{NoName}
 use Rattle.eu_base.specs.Stops.{stop_text}
-use Rattle.elan_scope.specs.declared.env.Env.{Env}
-use Rattle.live_system.specs.Below.units.specs.Refusals.{refusal_text}
-use Rattle.source_texts.specs.Spaces.{Space}
-use Rattle.source_texts.specs.Sources.{source_text}
-use Rattle.live_system.specs.Below.source_machine.specs.Systems.{Moment}
-use Rattle.live_system.specs.Below.source_machine.specs.Monitor.{Reading, Compiles, Refuses, answered, run_read, run_text, run_source_text, run_space}
+use Rattle.task_lines.specs.Below.elan_scope.specs.declared.env.Env.{Env}
+use Rattle.task_lines.specs.Below.units.specs.Refusals.{refusal_text}
+use Rattle.task_lines.specs.Below.source_texts.specs.Spaces.{Space}
+use Rattle.task_lines.specs.Below.source_texts.specs.Sources.{source_text}
+use Rattle.task_lines.specs.Below.system_meaning.specs.Systems.{Moment}
+use Rattle.task_lines.specs.Below.system_meaning.specs.Monitor.{Reading, Compiles, Refuses, answered, run_read, run_text, run_source_text, run_space}
 use Rattle.live_system.specs.declared.what.SourceText.TheVariants as sources
 use Rattle.live_system.specs.Texts.{RunsText, text_of_source, source_of}
 use Rattle.live_system.specs.Machines.{Machine, StandsAt}

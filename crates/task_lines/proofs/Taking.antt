@@ -2,7 +2,7 @@
 use Rattle.std.proofs.Common.{◌≡◌, ℕ, Bool, List, Option, Some, None, refl, sym, ap, subst}
 use Rattle.std.specs.Prelude.{Result, Ok, Err}
 use Rattle.task_numbers.specs.declared.number.TaskNo.{TaskNo}
-use Rattle.elan_scope.specs.declared.env.Env.{Env}
+use Rattle.task_lines.specs.Below.elan_scope.specs.declared.env.Env.{Env}
 use Rattle.elan_tree.specs.declared.token.Token.{Token}
 use Rattle.elan_tree.specs.declared.token.Word.{Word}
 use Rattle.elan_lexer.specs.declared.error.LexError.{LexError}
@@ -10,10 +10,10 @@ use Rattle.monitor.specs.Words.{words}
 use Rattle.monitor.specs.Forms.{form_of}
 use Rattle.monitor.specs.declared.commands.Form.{Form}
 use Rattle.monitor.specs.declared.commands.Form.TheVariants.{Program}
-use Rattle.live_system.specs.Below.source_machine.specs.Stores.{Store}
-use Rattle.live_system.specs.Below.source_machine.specs.Tasks.{Doing, Idle, Entering, Running}
-use Rattle.live_system.specs.Below.source_machine.specs.Systems.{Moment, doing, kept, kept_by}
-use Rattle.live_system.specs.Below.source_machine.specs.Monitor.{Reading, words_in, words_of, formed, worded, is_last, entered_line, taken_by}
+use Rattle.task_lines.specs.Below.system_meaning.specs.Stores.{Store}
+use Rattle.task_lines.specs.Below.system_meaning.specs.Tasks.{Doing, Idle, Entering, Running}
+use Rattle.task_lines.specs.Below.system_meaning.specs.Systems.{Moment, doing, kept, kept_by}
+use Rattle.task_lines.specs.Below.system_meaning.specs.Monitor.{Reading, words_in, words_of, formed, worded, is_last, entered_line, taken_by}
 use Rattle.live_system.specs.declared.what.What.TheVariants as whats
 use Rattle.live_system.specs.What.{what_of}
 use Rattle.live_system.specs.Machines.{Machine, StandsAt}

@@ -1,10 +1,10 @@
 -- Lines that wait are taken one by one.
 use Rattle.std.specs.Prelude.{◌≡◌, ℕ, Bool, true, false, List, if◌then◌else◌}
 use Rattle.task_numbers.specs.declared.number.TaskNo.{TaskNo}
-use Rattle.elan_scope.specs.declared.env.Env.{Env}
+use Rattle.task_lines.specs.Below.elan_scope.specs.declared.env.Env.{Env}
 use Rattle.terminals.specs.Channels as channels
-use Rattle.live_system.specs.Below.source_machine.specs.Systems.{Moment, runs}
-use Rattle.live_system.specs.Below.source_machine.specs.Monitor.{Reading, drained_at}
+use Rattle.task_lines.specs.Below.system_meaning.specs.Systems.{Moment, runs}
+use Rattle.task_lines.specs.Below.system_meaning.specs.Monitor.{Reading, drained_at}
 use Rattle.live_system.specs.Machines.{Machine, StandsAt}
 
 -- the oldest line that waits at the channel of a task is taken, unless the task runs; and then more happens

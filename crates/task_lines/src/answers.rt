@@ -1,8 +1,8 @@
 //! Answers to an idle task.
 ghost use Rattle.std.specs.Prelude.{◌≡◌, OnOk};
 ghost use Rattle.eu_base.specs.Stops.{stop_text};
-ghost use Rattle.live_system.specs.Below.source_machine.specs.Systems.{Moment};
-ghost use Rattle.live_system.specs.Below.source_machine.specs.Monitor as spec;
+ghost use Rattle.task_lines.specs.Below.system_meaning.specs.Systems.{Moment};
+ghost use Rattle.task_lines.specs.Below.system_meaning.specs.Monitor as spec;
 ghost use Rattle.live_system.specs.Machines.{StandsAt};
 
 use eu_base::{NoMemory, Stop};

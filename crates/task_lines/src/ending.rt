@@ -1,11 +1,11 @@
 //! A command that is over.
 ghost use Rattle.std.specs.Prelude.{◌≡◌, ◌++◌, ℕ, Bool, List, IfOk, OnOk};
-ghost use Rattle.elan_scope.specs.declared.env.Env.{Env};
+ghost use Rattle.task_lines.specs.Below.elan_scope.specs.declared.env.Env.{Env};
 ghost use Rattle.elan_types.specs.Eval.{World};
-ghost use Rattle.live_system.specs.Below.source_machine.specs.Tasks.{Command};
-ghost use Rattle.live_system.specs.Below.source_machine.specs.Systems.{Moment, tell};
-ghost use Rattle.live_system.specs.Below.source_machine.specs.Monitor as spec;
-ghost use Rattle.live_system.specs.Below.packet_store.specs.Readings.{IsReading};
+ghost use Rattle.task_lines.specs.Below.system_meaning.specs.Tasks.{Command};
+ghost use Rattle.task_lines.specs.Below.system_meaning.specs.Systems.{Moment, tell};
+ghost use Rattle.task_lines.specs.Below.system_meaning.specs.Monitor as spec;
+ghost use Rattle.task_lines.specs.Below.packet_store.specs.Readings.{IsReading};
 ghost use Rattle.live_system.specs.Finishing.{HasRoom};
 ghost use Rattle.live_system.specs.Machines.{StandsAt, StandsOverAt};
 

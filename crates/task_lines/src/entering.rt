@@ -1,11 +1,11 @@
 //! A line of a text that is entered.
 ghost use Rattle.std.specs.Prelude.{◌≡◌, ◌≤◌, ℕ, List, length, false, Some, OnOk};
 ghost use Rattle.task_numbers.specs.declared.limits.TheConstants.{LONGEST_LINE};
-ghost use Rattle.source_texts.specs.Sources.{source_space};
-ghost use Rattle.live_system.specs.Below.source_machine.specs.Stores.{Store, with_named};
-ghost use Rattle.live_system.specs.Below.source_machine.specs.Tasks.{Idle, Entering};
-ghost use Rattle.live_system.specs.Below.source_machine.specs.Systems.{Moment, doing, does, on_system};
-ghost use Rattle.live_system.specs.Below.source_machine.specs.Monitor as spec;
+ghost use Rattle.task_lines.specs.Below.source_texts.specs.Sources.{source_space};
+ghost use Rattle.task_lines.specs.Below.system_meaning.specs.Stores.{Store, with_named};
+ghost use Rattle.task_lines.specs.Below.system_meaning.specs.Tasks.{Idle, Entering};
+ghost use Rattle.task_lines.specs.Below.system_meaning.specs.Systems.{Moment, doing, does, on_system};
+ghost use Rattle.task_lines.specs.Below.system_meaning.specs.Monitor as spec;
 ghost use Rattle.live_system.specs.Machines.{StandsAt};
 
 use eu_base::{Bytes, NoMemory};

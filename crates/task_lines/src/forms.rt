@@ -1,7 +1,7 @@
 //! The form of a line.
 ghost use Rattle.std.specs.Prelude.{◌≡◌, ◌≤◌, length, IfOk};
 ghost use Rattle.task_numbers.specs.declared.limits.TheConstants.{LONGEST_LINE};
-ghost use Rattle.live_system.specs.Below.source_machine.specs.Monitor.{words_of};
+ghost use Rattle.task_lines.specs.Below.system_meaning.specs.Monitor.{words_of};
 ghost use Rattle.task_lines.specs.Forms.{form_in};
 
 use elan_lexer::{LexError, tokens};

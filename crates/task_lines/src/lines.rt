@@ -1,10 +1,10 @@
 //! A line for a task.
 ghost use Rattle.std.specs.Prelude.{◌≤◌, ℕ, Bool, List, length, OnOk};
 ghost use Rattle.task_numbers.specs.declared.limits.TheConstants.{LONGEST_LINE};
-ghost use Rattle.elan_scope.specs.declared.env.Env.{Env};
-ghost use Rattle.live_system.specs.Below.source_machine.specs.Systems.{Moment};
-ghost use Rattle.live_system.specs.Below.source_machine.specs.Monitor as spec;
-ghost use Rattle.live_system.specs.Below.packet_store.specs.Readings.{IsReading};
+ghost use Rattle.task_lines.specs.Below.elan_scope.specs.declared.env.Env.{Env};
+ghost use Rattle.task_lines.specs.Below.system_meaning.specs.Systems.{Moment};
+ghost use Rattle.task_lines.specs.Below.system_meaning.specs.Monitor as spec;
+ghost use Rattle.task_lines.specs.Below.packet_store.specs.Readings.{IsReading};
 ghost use Rattle.live_system.specs.Machines.{StandsAt};
 
 use crate::entering::enter_line;

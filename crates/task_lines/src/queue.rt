@@ -1,10 +1,10 @@
 //! Lines that wait at the channel of a task.
 ghost use Rattle.std.specs.Prelude.{◌≤◌, ℕ, Bool, List, IfOk, OnOk};
-ghost use Rattle.elan_scope.specs.declared.env.Env.{Env};
+ghost use Rattle.task_lines.specs.Below.elan_scope.specs.declared.env.Env.{Env};
 ghost use Rattle.terminals.specs.Channels as channels;
-ghost use Rattle.live_system.specs.Below.source_machine.specs.Systems.{Moment};
-ghost use Rattle.live_system.specs.Below.source_machine.specs.Monitor as spec;
-ghost use Rattle.live_system.specs.Below.packet_store.specs.Readings.{IsReading};
+ghost use Rattle.task_lines.specs.Below.system_meaning.specs.Systems.{Moment};
+ghost use Rattle.task_lines.specs.Below.system_meaning.specs.Monitor as spec;
+ghost use Rattle.task_lines.specs.Below.packet_store.specs.Readings.{IsReading};
 ghost use Rattle.live_system.specs.Machines.{StandsAt};
 ghost use Rattle.task_lines.specs.Queues.{one_taken, Follows};
 

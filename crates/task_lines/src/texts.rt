@@ -1,11 +1,11 @@
 //! Texts that an idle task runs.
 ghost use Rattle.std.specs.Prelude.{◌≡◌, ◌<◌, ◌^◌, ℕ, Bool, List, length, Some, OnOk};
-ghost use Rattle.elan_scope.specs.declared.env.Env.{Env};
-ghost use Rattle.live_system.specs.Below.source_machine.specs.Stores.{Store};
-ghost use Rattle.live_system.specs.Below.source_machine.specs.Tasks.{Idle};
-ghost use Rattle.live_system.specs.Below.source_machine.specs.Systems.{Moment, doing};
-ghost use Rattle.live_system.specs.Below.source_machine.specs.Monitor as spec;
-ghost use Rattle.live_system.specs.Below.packet_store.specs.Readings.{IsReading};
+ghost use Rattle.task_lines.specs.Below.elan_scope.specs.declared.env.Env.{Env};
+ghost use Rattle.task_lines.specs.Below.system_meaning.specs.Stores.{Store};
+ghost use Rattle.task_lines.specs.Below.system_meaning.specs.Tasks.{Idle};
+ghost use Rattle.task_lines.specs.Below.system_meaning.specs.Systems.{Moment, doing};
+ghost use Rattle.task_lines.specs.Below.system_meaning.specs.Monitor as spec;
+ghost use Rattle.task_lines.specs.Below.packet_store.specs.Readings.{IsReading};
 ghost use Rattle.live_system.specs.Machines.{StandsAt};
 
 use crate::answers::{answer, answer_stop};

@@ -16,20 +16,20 @@ use Rattle.eu_base.specs.SpacePlaces.{shaped_kinds}
 use Rattle.eu_base.specs.SoundSpaces.{shape_kinds}
 use Rattle.eu_base.proofs.Heads.{head_same, long_heads}
 use Rattle.eu_base.proofs.SoundSpaces.{space_sound}
-use Rattle.page_pool.specs.Pool.{Pages}
-use Rattle.data_space.specs.Data.{SpaceData}
-use Rattle.space_memory.specs.Live.{IsLive, space_at}
-use Rattle.space_memory.specs.Live as live_spaces
-use Rattle.space_memory.specs.Memories.{MemoryData, head_of, with_new, forgotten}
-use Rattle.task_texts.specs.Below.task_job.specs.Here.{HoldsSpace}
-use Rattle.place_gen.proofs.Cells.{fit_at}
-use Rattle.task_texts.specs.Below.source_machine.specs.Tasks.{Own, Doing, Idle, Entering, Running, now, request_of}
-use Rattle.task_texts.specs.Below.task_job.proofs.Receiving.{sent_received, came_received}
-use Rattle.task_texts.specs.Below.live_task.specs.Stands.{DoesAs, StandsFor, Due}
-use Rattle.task_texts.specs.Below.live_task.specs.declared.task.Task.{Task}
-use Rattle.task_texts.specs.Below.live_task.proofs.Dues.{request_due}
-use Rattle.task_texts.specs.Below.live_task.specs.declared.task.Doing.{Doing as Does}
-use Rattle.task_texts.specs.Below.live_task.specs.declared.task.Doing.TheVariants as does
+use Rattle.task_messages.specs.Below.page_pool.specs.Pool.{Pages}
+use Rattle.task_messages.specs.Below.data_space.specs.Data.{SpaceData}
+use Rattle.task_messages.specs.Below.space_memory.specs.Live.{IsLive, space_at}
+use Rattle.task_messages.specs.Below.space_memory.specs.Live as live_spaces
+use Rattle.task_messages.specs.Below.space_memory.specs.Memories.{MemoryData, head_of, with_new, forgotten}
+use Rattle.task_messages.specs.Below.task_job.specs.Here.{HoldsSpace}
+use Rattle.task_messages.specs.Below.place_gen.proofs.Cells.{fit_at}
+use Rattle.task_messages.specs.Below.system_meaning.specs.Tasks.{Own, Doing, Idle, Entering, Running, now, request_of}
+use Rattle.task_messages.specs.Below.task_job.proofs.Receiving.{sent_received, came_received}
+use Rattle.task_messages.specs.Below.live_task.specs.Stands.{DoesAs, StandsFor, Due}
+use Rattle.task_messages.specs.Below.live_task.specs.declared.task.Task.{Task}
+use Rattle.task_messages.specs.Below.live_task.proofs.Dues.{request_due}
+use Rattle.task_messages.specs.Below.live_task.specs.declared.task.Doing.{Doing as Does}
+use Rattle.task_messages.specs.Below.live_task.specs.declared.task.Doing.TheVariants as does
 use Rattle.task_texts.specs.Doings.{rests, enters}
 use Rattle.task_texts.proofs.Coming.{given_there, gone_there}
 use Rattle.task_texts.proofs.Numbers.{none_next}

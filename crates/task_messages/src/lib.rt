@@ -1,6 +1,7 @@
 //! Data spaces that go from task to task with messages.
 #![tactic(auto)]
 
+pub mod below;
 mod messages;
 
 pub use messages::{can_send, can_take, send_out, take_in};

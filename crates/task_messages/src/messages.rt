@@ -6,15 +6,15 @@ ghost use Rattle.eu_base.specs.declared.request.Reply.TheVariants.{Taken, Messag
 ghost use Rattle.eu_base.specs.Requests.{plain, sent_by};
 ghost use Rattle.eu_base.specs.DataSpaces.{Space, Forgets, heads_of, is_live, the_space};
 ghost use Rattle.eu_base.specs.SpaceOperations.{room_refusal};
-ghost use Rattle.page_pool.specs.Pool.{Pages};
-ghost use Rattle.task_texts.specs.Below.task_job.specs.Here.{Frames};
-ghost use Rattle.space_memory.specs.Live.{IsLive};
-ghost use Rattle.space_memory.specs.Memories.{roots, with_new, forgotten};
-ghost use Rattle.task_texts.specs.Below.source_machine.specs.Tasks.{Own, now, request_of};
-ghost use Rattle.task_texts.specs.Below.live_task.specs.Stands.{StandsFor, Due};
+ghost use Rattle.task_messages.specs.Below.page_pool.specs.Pool.{Pages};
+ghost use Rattle.task_messages.specs.Below.task_job.specs.Here.{Frames};
+ghost use Rattle.task_messages.specs.Below.space_memory.specs.Live.{IsLive};
+ghost use Rattle.task_messages.specs.Below.space_memory.specs.Memories.{roots, with_new, forgotten};
+ghost use Rattle.task_messages.specs.Below.system_meaning.specs.Tasks.{Own, now, request_of};
+ghost use Rattle.task_messages.specs.Below.live_task.specs.Stands.{StandsFor, Due};
 ghost use Rattle.task_messages.specs.Passing.{Carries, does_run};
 
-use data_space::DataSpace;
+use crate::below::of_data_space::DataSpace;
 use task_numbers::SpaceNo;
 use task_texts::{Task, is_entering, is_idle};
 

@@ -7,12 +7,12 @@ use Rattle.eu_base.specs.declared.request.Reply.TheVariants.{Taken}
 use Rattle.eu_base.specs.Requests.{Answer, plain, sent_by}
 use Rattle.eu_base.specs.DataSpaces.{Forgets, heads_of, is_live}
 use Rattle.eu_base.specs.SpaceOperations.{room_refusal}
-use Rattle.message_wait.specs.declared.waits.Caller.{Caller}
-use Rattle.message_wait.specs.Rendezvous.{Waits, caller_at, entered, first_caller, is_waiting, waited}
-use Rattle.task_tree.specs.Tree.{lives}
-use Rattle.live_system.specs.Below.source_machine.specs.Systems.{System, Shared, Moment, kept, requested, given, on_system, on_waits}
-use Rattle.live_system.specs.Below.source_machine.specs.Serving.{content, message, space_number, called_with, call_taken}
-use Rattle.live_system.specs.Below.source_machine.specs.Whole.{IsCaller}
+use Rattle.task_requests.specs.Below.message_wait.specs.declared.waits.Caller.{Caller}
+use Rattle.task_requests.specs.Below.message_wait.specs.Rendezvous.{Waits, caller_at, entered, first_caller, is_waiting, waited}
+use Rattle.task_requests.specs.Below.task_tree.specs.Tree.{lives}
+use Rattle.task_requests.specs.Below.system_meaning.specs.Systems.{System, Shared, Moment, kept, requested, given, on_system, on_waits}
+use Rattle.task_requests.specs.Below.system_meaning.specs.Serving.{content, message, space_number, called_with, call_taken}
+use Rattle.task_requests.specs.Below.system_meaning.specs.Whole.{IsCaller}
 use Rattle.live_system.specs.Machines.{Machine, StandsAt}
 use Rattle.task_requests.specs.Served.{IsAsking, GoesAs}
 use Rattle.task_requests.proofs.Waiting.{Takes, differs, HasCalled, caller_is, waits_no_more}

@@ -5,13 +5,13 @@ use Rattle.eu_base.specs.declared.stop.Stop.TheVariants.{BadName, NotInserted}
 use Rattle.eu_base.specs.declared.request.Reply.TheVariants.{Stopped}
 use Rattle.eu_base.specs.Requests.{plain}
 use Rattle.task_numbers.specs.declared.number.TaskNo.{TaskNo}
-use Rattle.task_tree.specs.declared.refusal.BeginError.{BeginError}
-use Rattle.task_tree.specs.Tree as tree
-use Rattle.live_system.specs.Below.units.specs.declared.unit.Compiled.{Compiled}
-use Rattle.live_system.specs.Below.source_machine.specs.Stores.{is_name}
-use Rattle.live_system.specs.Below.source_machine.specs.Systems.{System, Moment}
-use Rattle.live_system.specs.Below.source_machine.specs.Ends.{number_refusal}
-use Rattle.live_system.specs.Below.source_machine.specs.Serving.{begin_refusal, begin_with, of_task}
+use Rattle.task_requests.specs.Below.task_tree.specs.declared.refusal.BeginError.{BeginError}
+use Rattle.task_requests.specs.Below.task_tree.specs.Tree as tree
+use Rattle.task_requests.specs.Below.units.specs.declared.unit.Compiled.{Compiled}
+use Rattle.task_requests.specs.Below.system_meaning.specs.Stores.{is_name}
+use Rattle.task_requests.specs.Below.system_meaning.specs.Systems.{System, Moment}
+use Rattle.task_requests.specs.Below.system_meaning.specs.Ends.{number_refusal}
+use Rattle.task_requests.specs.Below.system_meaning.specs.Serving.{begin_refusal, begin_with, of_task}
 use Rattle.live_system.specs.Machines.{Machine}
 use Rattle.live_system.specs.Steps.{BeginsRunning}
 use Rattle.task_requests.specs.Served.{ServedAs}

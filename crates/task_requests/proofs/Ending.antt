@@ -6,17 +6,17 @@ use Rattle.std.proofs.lemmas.Bool.Decides.{nat_tests}
 use Rattle.std.proofs.lemmas.List.Folds.{Any-from_list_any}
 use Rattle.task_numbers.specs.declared.number.TaskNo.{TaskNo}
 use Rattle.task_numbers.specs.Numbers.{niltask, is_task}
-use Rattle.task_tree.specs.declared.task.Task.{Task}
-use Rattle.task_tree.specs.Tree as tree
-use Rattle.task_tree.specs.Tree.{Tree}
-use Rattle.task_tree.specs.Trees.{IsTree}
-use Rattle.task_tree.specs.Families.{family}
-use Rattle.task_tree.specs.Ends.{EndInTurn}
-use Rattle.task_tree.proofs.Ending.{family_ends}
-use Rattle.terminals.specs.Channels as channels
-use Rattle.live_system.specs.Below.source_machine.specs.Systems.{System, Moment, on_channels, uncouple_at}
-use Rattle.live_system.specs.Below.source_machine.specs.Ends.{removed, removed_at, freed_by, ended, ended_with_descendants}
-use Rattle.live_system.specs.Below.source_machine.specs.Serving.{is_first, may_end}
+use Rattle.task_requests.specs.Below.task_tree.specs.declared.task.Task.{Task}
+use Rattle.task_requests.specs.Below.task_tree.specs.Tree as tree
+use Rattle.task_requests.specs.Below.task_tree.specs.Tree.{Tree}
+use Rattle.task_requests.specs.Below.task_tree.specs.Trees.{IsTree}
+use Rattle.task_requests.specs.Below.task_tree.specs.Families.{family}
+use Rattle.task_requests.specs.Below.task_tree.specs.Ends.{EndInTurn}
+use Rattle.task_requests.specs.Below.task_tree.proofs.Ending.{family_ends}
+use Rattle.task_requests.specs.Below.terminals.specs.Channels as channels
+use Rattle.task_requests.specs.Below.system_meaning.specs.Systems.{System, Moment, on_channels, uncouple_at}
+use Rattle.task_requests.specs.Below.system_meaning.specs.Ends.{removed, removed_at, freed_by, ended, ended_with_descendants}
+use Rattle.task_requests.specs.Below.system_meaning.specs.Serving.{is_first, may_end}
 use Rattle.live_system.specs.Machines.{Machine, StandsAt}
 use Rattle.live_system.proofs.Living.{placed}
 use Rattle.task_requests.proofs.Handing.{freed_tree}

@@ -2,13 +2,13 @@
 use Rattle.std.proofs.Common.{◌≡◌, ◌≢◌, ℕ, zero, suc, Bool, true, false, cond, List, [], ◌∷◌, fold, Option, Some, None, refl, sym, ap, ◌∙◌, subst}
 use Rattle.task_numbers.specs.declared.number.TaskNo.{TaskNo}
 use Rattle.eu_base.specs.Requests.{Answer}
-use Rattle.message_wait.specs.Rendezvous.{Waits}
-use Rattle.slicer.specs.Rotation as rotation
-use Rattle.live_system.specs.Below.source_machine.specs.Tasks.{Own, replied, with_doing}
-use Rattle.live_system.specs.Below.source_machine.specs.Systems.{System, Shared, place, with_own, changed_at, given, woken, on_ready, on_waits, can_be_ready, back}
-use Rattle.live_system.specs.Below.source_machine.specs.Ends.{no_task, freed_by}
-use Rattle.message_wait.specs.Rendezvous.{released, waiting_for}
-use Rattle.task_tree.specs.Tree.{Tree}
+use Rattle.task_requests.specs.Below.message_wait.specs.Rendezvous.{Waits}
+use Rattle.task_requests.specs.Below.slicer.specs.Rotation as rotation
+use Rattle.task_requests.specs.Below.system_meaning.specs.Tasks.{Own, replied, with_doing}
+use Rattle.task_requests.specs.Below.system_meaning.specs.Systems.{System, Shared, place, with_own, changed_at, given, woken, on_ready, on_waits, can_be_ready, back}
+use Rattle.task_requests.specs.Below.system_meaning.specs.Ends.{no_task, freed_by}
+use Rattle.task_requests.specs.Below.message_wait.specs.Rendezvous.{released, waiting_for}
+use Rattle.task_requests.specs.Below.task_tree.specs.Tree.{Tree}
 use Rattle.live_system.proofs.Waiting.{apart}
 
 -- a task gets an answer

@@ -4,9 +4,9 @@ use Rattle.std.specs.Prelude.{slice_get, slice_set, option_map}
 use Rattle.std.proofs.lemmas.List.{set-get_or}
 use Rattle.eu_base.specs.declared.request.Reply.TheVariants.{Text}
 use Rattle.eu_base.specs.Requests.{plain}
-use Rattle.terminals.specs.Channels.{Channel, channel, without_line, unqueued, unused}
-use Rattle.live_system.specs.Below.source_machine.specs.Systems.{Moment, on_system, on_channels}
-use Rattle.live_system.specs.Below.source_machine.specs.Serving.{line_taken}
+use Rattle.task_requests.specs.Below.terminals.specs.Channels.{Channel, channel, without_line, unqueued, unused}
+use Rattle.task_requests.specs.Below.system_meaning.specs.Systems.{Moment, on_system, on_channels}
+use Rattle.task_requests.specs.Below.system_meaning.specs.Serving.{line_taken}
 use Rattle.live_system.specs.Machines.{Machine, StandsAt}
 use Rattle.task_requests.specs.Served.{ServedAs}
 

@@ -7,9 +7,9 @@ use Rattle.std.proofs.lemmas.List.Folds.{list_any_at}
 use Rattle.std.proofs.lemmas.List.Quantifiers.{position-Some}
 use Rattle.task_numbers.specs.declared.number.TaskNo.{TaskNo}
 use Rattle.eu_base.specs.declared.request.Request.{Request}
-use Rattle.task_tree.specs.Tree.{Tree, lives, has_number, task}
-use Rattle.live_system.specs.Below.source_machine.specs.Tasks.{Command, Doing, Own, command_of, request_of, with_doing}
-use Rattle.live_system.specs.Below.source_machine.specs.Systems.{System, place, doing, command, requested, changed_at, does}
+use Rattle.task_requests.specs.Below.task_tree.specs.Tree.{Tree, lives, has_number, task}
+use Rattle.task_requests.specs.Below.system_meaning.specs.Tasks.{Command, Doing, Own, command_of, request_of, with_doing}
+use Rattle.task_requests.specs.Below.system_meaning.specs.Systems.{System, place, doing, command, requested, changed_at, does}
 
 place_lives : (t : TaskNo) (s : Tree) (k : ℕ) → position (has_number t) s.tasks ≡ Some k → lives t s ≡ true
 place_lives t s k e =

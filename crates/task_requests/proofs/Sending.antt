@@ -13,13 +13,13 @@ use Rattle.eu_base.specs.declared.request.Reply.TheVariants.{Stopped, Receipt}
 use Rattle.eu_base.specs.Requests.{Answer, plain, sent_by}
 use Rattle.eu_base.specs.DataSpaces.{Forgets, heads_of, is_live, without_space}
 use Rattle.eu_base.specs.SpaceOperations.{room_refusal}
-use Rattle.message_wait.specs.declared.waits.Caller.{Caller}
-use Rattle.message_wait.specs.declared.waits.Offer.{Offer}
-use Rattle.message_wait.specs.declared.waits.Offer.TheVariants.{Taken}
-use Rattle.message_wait.specs.Rendezvous as rendezvous
-use Rattle.task_tree.specs.Tree as tree
-use Rattle.live_system.specs.Below.source_machine.specs.Systems.{System, Moment, kept, requested, given, woken, on_system, on_waits, back}
-use Rattle.live_system.specs.Below.source_machine.specs.Serving.{Served, Replies, Rests, replies_with, receipt, number, caller, content, message, space_number, sent, handed, send_living, call_living, unless_stopped, call_taken, serve}
+use Rattle.task_requests.specs.Below.message_wait.specs.declared.waits.Caller.{Caller}
+use Rattle.task_requests.specs.Below.message_wait.specs.declared.waits.Offer.{Offer}
+use Rattle.task_requests.specs.Below.message_wait.specs.declared.waits.Offer.TheVariants.{Taken}
+use Rattle.task_requests.specs.Below.message_wait.specs.Rendezvous as rendezvous
+use Rattle.task_requests.specs.Below.task_tree.specs.Tree as tree
+use Rattle.task_requests.specs.Below.system_meaning.specs.Systems.{System, Moment, kept, requested, given, woken, on_system, on_waits, back}
+use Rattle.task_requests.specs.Below.system_meaning.specs.Serving.{Served, Replies, Rests, replies_with, receipt, number, caller, content, message, space_number, sent, handed, send_living, call_living, unless_stopped, call_taken, serve}
 use Rattle.live_system.specs.Machines.{Machine, StandsAt}
 use Rattle.task_requests.specs.Served.{IsAsking, ServedAs, GoesAs}
 use Rattle.task_requests.proofs.Waiting.{IsForMessage, Takes, ready_takes, taken_ready, differs, offer_taken}

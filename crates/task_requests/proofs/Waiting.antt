@@ -11,14 +11,14 @@ use Rattle.eu_base.specs.declared.request.Request.{Request}
 use Rattle.eu_base.specs.declared.request.Request.TheVariants as requests
 use Rattle.eu_base.specs.DataSpaces.{heads_of}
 use Rattle.eu_base.specs.SpaceOperations.{room_refusal}
-use Rattle.message_wait.specs.declared.waits.Caller.{Caller}
-use Rattle.message_wait.specs.declared.waits.Receiver.{Receiver}
-use Rattle.message_wait.specs.declared.waits.Offer.{Offer}
-use Rattle.message_wait.specs.declared.waits.Offer.TheVariants.{Taken, NotReady, Queued}
-use Rattle.message_wait.specs.Rendezvous.{Waits, is_open, is_ready, is_waiting, takes_from, received, offer, offered, first_call, first_caller, caller_at, waited, waited_at}
-use Rattle.live_system.specs.Below.source_machine.specs.Systems.{System, Moment, requested, kept, on_system, on_waits}
-use Rattle.live_system.specs.Below.source_machine.specs.Serving.{number}
-use Rattle.live_system.specs.Below.source_machine.specs.Whole.{AreWaits, AreOnce, IsCaller, IsReceiver, WaitsFor}
+use Rattle.task_requests.specs.Below.message_wait.specs.declared.waits.Caller.{Caller}
+use Rattle.task_requests.specs.Below.message_wait.specs.declared.waits.Receiver.{Receiver}
+use Rattle.task_requests.specs.Below.message_wait.specs.declared.waits.Offer.{Offer}
+use Rattle.task_requests.specs.Below.message_wait.specs.declared.waits.Offer.TheVariants.{Taken, NotReady, Queued}
+use Rattle.task_requests.specs.Below.message_wait.specs.Rendezvous.{Waits, is_open, is_ready, is_waiting, takes_from, received, offer, offered, first_call, first_caller, caller_at, waited, waited_at}
+use Rattle.task_requests.specs.Below.system_meaning.specs.Systems.{System, Moment, requested, kept, on_system, on_waits}
+use Rattle.task_requests.specs.Below.system_meaning.specs.Serving.{number}
+use Rattle.task_requests.specs.Below.system_meaning.specs.Whole.{AreWaits, AreOnce, IsCaller, IsReceiver, WaitsFor}
 use Rattle.live_system.specs.Machines.{Machine, StandsAt}
 
 same_task : (t u : TaskNo) → is_task t u ≡ true → t ≡ u

@@ -5,11 +5,11 @@ use Rattle.eu_base.specs.declared.request.Request.{Request}
 use Rattle.eu_base.specs.declared.request.Request.TheVariants as requests
 use Rattle.eu_base.specs.declared.request.Reply.{Reply}
 use Rattle.eu_base.specs.Requests.{plain}
-use Rattle.message_wait.specs.Rendezvous.{is_waiting}
-use Rattle.task_tree.specs.Tree.{lives}
-use Rattle.live_system.specs.Below.source_machine.specs.Serving.{Served, Replies, Rests}
-use Rattle.live_system.specs.Below.source_machine.specs.Systems.{System, requested, on_system, given}
-use Rattle.live_system.specs.Below.source_machine.specs.Whole.{AreWaits}
+use Rattle.task_requests.specs.Below.message_wait.specs.Rendezvous.{is_waiting}
+use Rattle.task_requests.specs.Below.task_tree.specs.Tree.{lives}
+use Rattle.task_requests.specs.Below.system_meaning.specs.Serving.{Served, Replies, Rests}
+use Rattle.task_requests.specs.Below.system_meaning.specs.Systems.{System, requested, on_system, given}
+use Rattle.task_requests.specs.Below.system_meaning.specs.Whole.{AreWaits}
 use Rattle.live_system.specs.Machines.{Machine, StandsAt}
 
 -- a request about messages

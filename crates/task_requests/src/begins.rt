@@ -1,10 +1,10 @@
 //! Sons that begin.
 ghost use Rattle.std.specs.Prelude.{◌≡◌, true, None, IfOk, IfSome};
 ghost use Rattle.eu_base.specs.Requests.{is_plain};
-ghost use Rattle.task_tree.specs.Tree as tree;
-ghost use Rattle.live_system.specs.Below.units.specs.Library.{started_at};
-ghost use Rattle.live_system.specs.Below.source_machine.specs.Systems.{Moment, packets};
-ghost use Rattle.live_system.specs.Below.source_machine.specs.Serving as spec;
+ghost use Rattle.task_requests.specs.Below.task_tree.specs.Tree as tree;
+ghost use Rattle.task_requests.specs.Below.units.specs.Library.{started_at};
+ghost use Rattle.task_requests.specs.Below.system_meaning.specs.Systems.{Moment, packets};
+ghost use Rattle.task_requests.specs.Below.system_meaning.specs.Serving as spec;
 ghost use Rattle.live_system.specs.Machines.{StandsAt};
 ghost use Rattle.task_requests.specs.Served.{ServedAs};
 

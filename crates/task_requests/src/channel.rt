@@ -2,9 +2,9 @@
 ghost use Rattle.std.specs.Prelude.{◌≡◌, ◌≤◌, true, IfOk, IfSome};
 ghost use Rattle.eu_base.specs.declared.request.Reply.TheVariants.{Done};
 ghost use Rattle.eu_base.specs.Requests.{is_plain};
-ghost use Rattle.terminals.specs.Channels as channels;
-ghost use Rattle.live_system.specs.Below.source_machine.specs.Systems.{Moment, uncouple_at};
-ghost use Rattle.live_system.specs.Below.source_machine.specs.Serving as spec;
+ghost use Rattle.task_requests.specs.Below.terminals.specs.Channels as channels;
+ghost use Rattle.task_requests.specs.Below.system_meaning.specs.Systems.{Moment, uncouple_at};
+ghost use Rattle.task_requests.specs.Below.system_meaning.specs.Serving as spec;
 ghost use Rattle.live_system.specs.Machines.{StandsAt};
 ghost use Rattle.task_requests.specs.Served.{ServedAs};
 

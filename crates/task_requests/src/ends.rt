@@ -3,11 +3,11 @@ ghost use Rattle.std.specs.Prelude.{◌≡◌, true, false, fold, IfOk, IfSome, 
 ghost use Rattle.std.specs.List.{list_any};
 ghost use Rattle.task_numbers.specs.Numbers.{is_task};
 ghost use Rattle.eu_base.specs.Requests.{is_plain};
-ghost use Rattle.task_tree.specs.Tree as tree;
-ghost use Rattle.task_tree.specs.Ends.{EndInTurn};
-ghost use Rattle.live_system.specs.Below.source_machine.specs.Systems.{Moment};
-ghost use Rattle.live_system.specs.Below.source_machine.specs.Ends.{ended, ended_with_descendants};
-ghost use Rattle.live_system.specs.Below.source_machine.specs.Serving as spec;
+ghost use Rattle.task_requests.specs.Below.task_tree.specs.Tree as tree;
+ghost use Rattle.task_requests.specs.Below.task_tree.specs.Ends.{EndInTurn};
+ghost use Rattle.task_requests.specs.Below.system_meaning.specs.Systems.{Moment};
+ghost use Rattle.task_requests.specs.Below.system_meaning.specs.Ends.{ended, ended_with_descendants};
+ghost use Rattle.task_requests.specs.Below.system_meaning.specs.Serving as spec;
 ghost use Rattle.live_system.specs.Machines.{StandsAt};
 ghost use Rattle.task_requests.specs.Served.{ServedAs};
 

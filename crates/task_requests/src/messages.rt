@@ -7,10 +7,10 @@ ghost use Rattle.eu_base.specs.Requests.{plain, is_plain, sent_by};
 ghost use Rattle.eu_base.specs.DataSpaces.{Forgets, heads_of, is_live};
 ghost use Rattle.eu_base.specs.SpaceOperations.{room_refusal};
 ghost use Rattle.std.specs.Option.{option_copied};
-ghost use Rattle.message_wait.specs.Rendezvous as rendezvous;
-ghost use Rattle.task_tree.specs.Tree as tree;
-ghost use Rattle.live_system.specs.Below.source_machine.specs.Systems.{Moment, given, kept, on_system, requested, woken};
-ghost use Rattle.live_system.specs.Below.source_machine.specs.Serving as spec;
+ghost use Rattle.task_requests.specs.Below.message_wait.specs.Rendezvous as rendezvous;
+ghost use Rattle.task_requests.specs.Below.task_tree.specs.Tree as tree;
+ghost use Rattle.task_requests.specs.Below.system_meaning.specs.Systems.{Moment, given, kept, on_system, requested, woken};
+ghost use Rattle.task_requests.specs.Below.system_meaning.specs.Serving as spec;
 ghost use Rattle.live_system.specs.Machines.{StandsAt};
 ghost use Rattle.task_requests.specs.Served.{IsAsking, GoesAs, is_about_message};
 

@@ -2,9 +2,9 @@
 ghost use Rattle.std.specs.Prelude.{◌≡◌, true, false, IfOk, IfSome};
 ghost use Rattle.eu_base.specs.Requests.{is_plain};
 ghost use Rattle.eu_base.specs.declared.request.Reply.TheVariants as replies;
-ghost use Rattle.task_tree.specs.Tree as tree;
-ghost use Rattle.live_system.specs.Below.source_machine.specs.Systems.{Moment};
-ghost use Rattle.live_system.specs.Below.source_machine.specs.Serving as spec;
+ghost use Rattle.task_requests.specs.Below.task_tree.specs.Tree as tree;
+ghost use Rattle.task_requests.specs.Below.system_meaning.specs.Systems.{Moment};
+ghost use Rattle.task_requests.specs.Below.system_meaning.specs.Serving as spec;
 ghost use Rattle.live_system.specs.Machines.{StandsAt};
 ghost use Rattle.task_requests.specs.Served.{IsAsking, ServedAs, GoesAs, is_about_message};
 

@@ -9,7 +9,7 @@ use Rattle.code_form.specs.Program.{Program}
 use Rattle.code_form.specs.Machine.{Mem, Control, Rest, rest_at, answered, after_reply}
 use Rattle.code_form.specs.Runs.{IsPaused, Rests, Stands}
 use Rattle.code_form.proofs.Spent.{stands_run, stands_reply}
-use Rattle.zero_state.specs.Stepping.{mem_of, scene_of}
+use Rattle.task_run.specs.Below.zero_state.specs.Stepping.{mem_of, scene_of}
 
 module _ (p : Program) (first : Control) (before : Mem) (spent : ℕ) (replies : List Answer) where
   pub stands_there : (heads : Heads) (c c' : Control) (mem : Mem) (left marks : ℕ) (how : Halt) (r : Rest) → r ≡ rest_at how c' (scene_of (mem_of heads r.scene.mem.cells) marks)

@@ -8,7 +8,7 @@ ghost use Rattle.eu_base.specs.Cells.{Cells, HasFaultCause};
 ghost use Rattle.code_form.specs.Machine.{Mem, Control, Rest, start, answered, after_reply, made, CanBeMade};
 ghost use Rattle.code_form.specs.Valid.{Fits};
 ghost use Rattle.code_form.specs.Runs.{IsPaused, Rests, Stands, asked};
-ghost use Rattle.zero_state.specs.Stepping.{mem_of, scene_of};
+ghost use Rattle.task_run.specs.Below.zero_state.specs.Stepping.{mem_of, scene_of};
 ghost use Rattle.zero_machine.specs.Running.{RestsSo};
 ghost use Rattle.byte_spelling.specs.declared.reading.ReadError.TheVariants as errors;
 ghost use Rattle.state_spelling.specs.Kept.{kept as spelling};
@@ -30,7 +30,7 @@ pub struct TaskRun {
 
 impl Model for TaskRun {
     ghost use Rattle.code_form.specs.Machine.{Control};
-    ghost use Rattle.zero_state.specs.Stepping.{control_of};
+    ghost use Rattle.task_run.specs.Below.zero_state.specs.Stepping.{control_of};
 
     ghost Value = { Control };
 

@@ -9,20 +9,20 @@ use Rattle.eu_base.specs.Shapes.{cell_kinds}
 use Rattle.eu_base.specs.DataSpaces.{Heads, last_number}
 use Rattle.eu_base.specs.DataSpaces as data_spaces
 use Rattle.eu_base.specs.SoundSpaces.{IsSpace}
-use Rattle.task_numbers.specs.declared.number.SpaceNo.{SpaceNo}
+use Rattle.task_texts.specs.Below.task_numbers.specs.declared.number.SpaceNo.{SpaceNo}
 use Rattle.page_pool.specs.Pool.{Pages}
-use Rattle.data_space.specs.Data.{SpaceData}
-use Rattle.source_texts.specs.Sources.{most_lines, source_shape, source_space}
-use Rattle.source_texts.proofs.Shapes.{kinds_source}
-use Rattle.live_task.specs.Below.task_job.specs.Here.{here, HoldsSpace, KeepsBytes}
-use Rattle.space_names.specs.Directory as directory
-use Rattle.space_memory.specs.Memories.{MemoryData, roots, with_new}
+use Rattle.task_texts.specs.Below.data_space.specs.Data.{SpaceData}
+use Rattle.task_texts.specs.Below.source_texts.specs.Sources.{most_lines, source_shape, source_space}
+use Rattle.task_texts.specs.Below.source_texts.proofs.Shapes.{kinds_source}
+use Rattle.task_texts.specs.Below.task_job.specs.Here.{here, HoldsSpace, KeepsBytes}
+use Rattle.task_texts.specs.Below.space_names.specs.Directory as directory
+use Rattle.task_texts.specs.Below.space_memory.specs.Memories.{MemoryData, roots, with_new}
 use Rattle.named_texts.specs.Texts as texts
 use Rattle.named_texts.specs.Texts.{KeepsText}
-use Rattle.live_task.specs.Below.source_machine.specs.Stores as stores
-use Rattle.live_task.specs.Below.source_machine.specs.Stores.{Store, with_named}
-use Rattle.live_task.specs.Below.source_machine.specs.Tasks.{Own, Idle, Entering, with_doing}
-use Rattle.live_task.specs.Below.task_job.specs.Standing.{Keeps}
+use Rattle.task_texts.specs.Below.system_meaning.specs.Stores as stores
+use Rattle.task_texts.specs.Below.system_meaning.specs.Stores.{Store, with_named}
+use Rattle.task_texts.specs.Below.system_meaning.specs.Tasks.{Own, Idle, Entering, with_doing}
+use Rattle.task_texts.specs.Below.task_job.specs.Standing.{Keeps}
 use Rattle.live_task.specs.Stands.{DoesAs, StandsFor, IsSoundDoing, IsSound}
 use Rattle.live_task.specs.declared.task.Task.{Task}
 use Rattle.live_task.specs.declared.task.Doing.{Doing as Does}

@@ -6,7 +6,7 @@ use Rattle.std.specs.Map.{lookup}
 use Rattle.std.specs.Option.{unwrap_or}
 use Rattle.std.proofs.lemmas.List.{length-map}
 use Rattle.std.proofs.lemmas.Option.{slice_get-map, slice_get_past}
-use Rattle.task_numbers.specs.declared.number.SpaceNo.{SpaceNo}
+use Rattle.task_texts.specs.Below.task_numbers.specs.declared.number.SpaceNo.{SpaceNo}
 use Rattle.eu_base.specs.declared.address.TheConstants.{CELLS}
 use Rattle.eu_base.specs.declared.address.Area.{Area}
 use Rattle.eu_base.specs.declared.address.Area.TheVariants.{Run, Packets}
@@ -25,23 +25,23 @@ use Rattle.eu_base.proofs.Heads.{append_heads, by_same}
 use Rattle.eu_base.proofs.Places.{same_area_self}
 use Rattle.eu_base.proofs.SoundSpaces.{change_sound}
 use Rattle.page_pool.specs.Pool.{Pages}
-use Rattle.text_heap.specs.Held.{HoldsCells}
-use Rattle.data_space.specs.Data.{SpaceData}
-use Rattle.space_memory.specs.Live as live_spaces
-use Rattle.space_memory.specs.Live.{space_at}
-use Rattle.space_names.specs.Directory as directory
-use Rattle.space_memory.specs.Memories.{MemoryData, roots, memory_heads, with_new, forgotten}
-use Rattle.space_memory.specs.Memories as memories
-use Rattle.space_memory.proofs.Changed.{forgot_heads, forgot_held, named_still}
-use Rattle.space_memory.proofs.Given.{given_held}
+use Rattle.task_texts.specs.Below.text_heap.specs.Held.{HoldsCells}
+use Rattle.task_texts.specs.Below.data_space.specs.Data.{SpaceData}
+use Rattle.task_texts.specs.Below.space_memory.specs.Live as live_spaces
+use Rattle.task_texts.specs.Below.space_memory.specs.Live.{space_at}
+use Rattle.task_texts.specs.Below.space_names.specs.Directory as directory
+use Rattle.task_texts.specs.Below.space_memory.specs.Memories.{MemoryData, roots, memory_heads, with_new, forgotten}
+use Rattle.task_texts.specs.Below.space_memory.specs.Memories as memories
+use Rattle.task_texts.specs.Below.space_memory.proofs.Changed.{forgot_heads, forgot_held, named_still}
+use Rattle.task_texts.specs.Below.space_memory.proofs.Given.{given_held}
 use Rattle.elan_types.specs.Eval.{Slot, Holds}
-use Rattle.place_gen.specs.Correct.{StandsFor, HasVariables, AreGiven}
-use Rattle.place_gen.proofs.Spaces.{numbers_apart, other_gone, kinds_same}
-use Rattle.source_texts.specs.Spaces.{held, cells_of}
-use Rattle.live_task.specs.Below.task_job.specs.Here.{here, content_at, KeepsBytes, HoldsAll, HoldsSpace}
-use Rattle.live_task.specs.Below.source_machine.specs.Stores.{Store}
-use Rattle.live_task.specs.Below.task_job.specs.Standing.{KeepsSpaces, Keeps}
-use Rattle.live_task.specs.Below.task_job.proofs.Beginning.{same_variables, no_variables}
+use Rattle.task_texts.specs.Below.place_gen.specs.Correct.{StandsFor, HasVariables, AreGiven}
+use Rattle.task_texts.specs.Below.place_gen.proofs.Spaces.{numbers_apart, other_gone, kinds_same}
+use Rattle.task_texts.specs.Below.source_texts.specs.Spaces.{held, cells_of}
+use Rattle.task_texts.specs.Below.task_job.specs.Here.{here, content_at, KeepsBytes, HoldsAll, HoldsSpace}
+use Rattle.task_texts.specs.Below.system_meaning.specs.Stores.{Store}
+use Rattle.task_texts.specs.Below.task_job.specs.Standing.{KeepsSpaces, Keeps}
+use Rattle.task_texts.specs.Below.task_job.proofs.Beginning.{same_variables, no_variables}
 use Rattle.task_texts.proofs.Numbers.{pushed_other, pushed_here, none_next, none_again, rises_push, rises_gone, fit_push, fit_gone}
 
 -- ---- the cells of one space hold its values

@@ -7,7 +7,7 @@ use Rattle.eu_base.specs.declared.address.TheConstants.{CELLS}
 use Rattle.eu_base.specs.DataSpaces.{Head, heads_in}
 use Rattle.eu_base.specs.SpacePlaces.{shaped_kinds}
 use Rattle.eu_base.proofs.Heads.{lookup_head, remove_head}
-use Rattle.place_gen.specs.Correct.{Rises}
+use Rattle.task_texts.specs.Below.place_gen.specs.Correct.{Rises}
 
 -- two numbers apart
 unlike : (n m : ℕ) → (n < m) ⊎ (m < n) → nat_eq n m ≡ false

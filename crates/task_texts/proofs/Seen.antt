@@ -20,32 +20,32 @@ use Rattle.eu_base.specs.SpacePlaces.{kinds_of}
 use Rattle.eu_base.specs.SoundSpaces.{IsSpace}
 use Rattle.eu_base.proofs.Heads.{lookup_head, long_heads}
 use Rattle.eu_base.proofs.SoundSpaces.{space_sound}
-use Rattle.task_numbers.specs.declared.number.SpaceNo.{SpaceNo}
+use Rattle.task_texts.specs.Below.task_numbers.specs.declared.number.SpaceNo.{SpaceNo}
 use Rattle.page_pool.specs.Pool.{Pages}
-use Rattle.text_heap.specs.Held.{HoldsCells}
-use Rattle.text_heap.proofs.Kept.{moved_held}
-use Rattle.data_space.specs.Data.{SpaceData}
-use Rattle.source_texts.specs.Spaces.{held, cells_of}
-use Rattle.space_memory.specs.Live as live_spaces
-use Rattle.space_memory.specs.Live.{space_at}
-use Rattle.space_names.specs.Directory as directory
-use Rattle.space_memory.specs.Memories.{MemoryData, memory_heads}
-use Rattle.live_task.specs.Below.task_job.specs.Here.{content_at, HoldsSpace, HoldsAll}
-use Rattle.space_memory.specs.Memories as memories
+use Rattle.task_texts.specs.Below.text_heap.specs.Held.{HoldsCells}
+use Rattle.task_texts.specs.Below.text_heap.proofs.Kept.{moved_held}
+use Rattle.task_texts.specs.Below.data_space.specs.Data.{SpaceData}
+use Rattle.task_texts.specs.Below.source_texts.specs.Spaces.{held, cells_of}
+use Rattle.task_texts.specs.Below.space_memory.specs.Live as live_spaces
+use Rattle.task_texts.specs.Below.space_memory.specs.Live.{space_at}
+use Rattle.task_texts.specs.Below.space_names.specs.Directory as directory
+use Rattle.task_texts.specs.Below.space_memory.specs.Memories.{MemoryData, memory_heads}
+use Rattle.task_texts.specs.Below.task_job.specs.Here.{content_at, HoldsSpace, HoldsAll}
+use Rattle.task_texts.specs.Below.space_memory.specs.Memories as memories
 use Rattle.elan_types.specs.Eval.{Holds}
-use Rattle.place_gen.specs.Correct.{HasVariables}
-use Rattle.place_gen.proofs.Cells.{fit_at}
+use Rattle.task_texts.specs.Below.place_gen.specs.Correct.{HasVariables}
+use Rattle.task_texts.specs.Below.place_gen.proofs.Cells.{fit_at}
 use Rattle.named_texts.specs.Texts.{under}
 use Rattle.named_texts.specs.Sources.{source_in}
 use Rattle.named_texts.specs.declared.look.Source.{Source}
 use Rattle.named_texts.specs.declared.look.Source.TheVariants.{NoSpace}
-use Rattle.live_task.specs.Below.source_machine.specs.Stores.{Store, is_name, most_live, last_number, space_under, entering_refusal}
-use Rattle.live_task.specs.Below.source_machine.specs.Supervisor.{state_of, running_state}
-use Rattle.live_task.specs.Below.source_machine.specs.Tasks.{Doing, Idle, Entering, Running, Own, now, request_of}
-use Rattle.live_task.specs.Below.source_machine.specs.Monitor.{directory_of}
-use Rattle.live_task.specs.Below.task_job.specs.Standing.{KeepsSpaces}
-use Rattle.live_task.specs.Below.task_job.specs.declared.job.Job.{Job}
-use Rattle.live_task.specs.Below.task_job.proofs.Standing.{left_now}
+use Rattle.task_texts.specs.Below.system_meaning.specs.Stores.{Store, is_name, most_live, last_number, space_under, entering_refusal}
+use Rattle.task_texts.specs.Below.system_meaning.specs.Supervisor.{state_of, running_state}
+use Rattle.task_texts.specs.Below.system_meaning.specs.Tasks.{Doing, Idle, Entering, Running, Own, now, request_of}
+use Rattle.task_texts.specs.Below.system_meaning.specs.Monitor.{directory_of}
+use Rattle.task_texts.specs.Below.task_job.specs.Standing.{KeepsSpaces}
+use Rattle.task_texts.specs.Below.task_job.specs.declared.job.Job.{Job}
+use Rattle.task_texts.specs.Below.task_job.proofs.Standing.{left_now}
 use Rattle.live_task.specs.Stands.{DoesAs, StandsFor}
 use Rattle.live_task.specs.declared.task.Task.{Task}
 use Rattle.live_task.specs.declared.task.Doing.TheVariants as does

@@ -1,6 +1,6 @@
 -- Whether a task is idle, or a text is entered.
 use Rattle.std.specs.Prelude.{Bool, true, false}
-use Rattle.live_task.specs.Below.source_machine.specs.Tasks.{Doing, Idle, Entering}
+use Rattle.task_texts.specs.Below.system_meaning.specs.Tasks.{Doing, Idle, Entering}
 use Rattle.live_task.specs.declared.task.Doing.{Doing as Does}
 use Rattle.live_task.specs.declared.task.Doing.TheVariants as does
 

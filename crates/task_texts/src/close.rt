@@ -1,12 +1,12 @@
 //! A text that ends, and becomes a space under its name.
 ghost use Rattle.std.specs.Prelude.{◌≡◌, ◌+◌, ◌≤◌, ◌∷◌, List, ℕ, length, None, OnOk, OnErr};
 ghost use Rattle.eu_base.specs.declared.value.Kind.{Kind};
-ghost use Rattle.page_table.specs.Frames.{Stands};
-ghost use Rattle.live_task.specs.Below.task_job.specs.Here.{Frames};
-ghost use Rattle.space_memory.specs.Memories.{roots};
-ghost use Rattle.source_texts.specs.Sources.{source_space};
-ghost use Rattle.live_task.specs.Below.source_machine.specs.Stores.{Store, with_named};
-ghost use Rattle.live_task.specs.Below.source_machine.specs.Tasks.{Own, Idle as Idles, Entering as Enters, with_doing};
+ghost use Rattle.task_texts.specs.Below.page_table.specs.Frames.{Stands};
+ghost use Rattle.task_texts.specs.Below.task_job.specs.Here.{Frames};
+ghost use Rattle.task_texts.specs.Below.space_memory.specs.Memories.{roots};
+ghost use Rattle.task_texts.specs.Below.source_texts.specs.Sources.{source_space};
+ghost use Rattle.task_texts.specs.Below.system_meaning.specs.Stores.{Store, with_named};
+ghost use Rattle.task_texts.specs.Below.system_meaning.specs.Tasks.{Own, Idle as Idles, Entering as Enters, with_doing};
 ghost use Rattle.live_task.specs.Stands.{StandsFor, IsSound};
 
 use crate::doing::take_text;

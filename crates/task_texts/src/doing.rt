@@ -2,7 +2,7 @@
 ghost use Rattle.std.specs.Prelude.{◌≡◌, [], List, MatchOption, false};
 ghost use Rattle.eu_base.specs.declared.value.Kind.{Kind};
 ghost use Rattle.page_pool.specs.Pool.{Pages};
-ghost use Rattle.live_task.specs.Below.source_machine.specs.Tasks.{Own};
+ghost use Rattle.task_texts.specs.Below.system_meaning.specs.Tasks.{Own};
 ghost use Rattle.live_task.specs.declared.task.Doing.TheVariants.{Idle, Entering};
 ghost use Rattle.live_task.specs.Stands.{StandsFor};
 ghost use Rattle.task_texts.specs.Doings.{is_idle, is_entering, rests, enters};

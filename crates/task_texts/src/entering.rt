@@ -2,19 +2,19 @@
 ghost use Rattle.std.specs.Prelude.{◌≡◌, ◌<◌, ◌≤◌, ◌++◌, [], ◌∷◌, List, ℕ, length, nat_le, not, false, true, None, OnOk, OnErr};
 ghost use Rattle.eu_base.specs.declared.value.Kind.{Kind};
 ghost use Rattle.page_pool.specs.Pool.{Pages};
-ghost use Rattle.space_names.specs.Directory as directory;
-ghost use Rattle.source_texts.specs.Sources.{most_lines};
-ghost use Rattle.live_task.specs.Below.source_machine.specs.Stores.{Store, most_live, last_number, entering_refusal};
-ghost use Rattle.live_task.specs.Below.source_machine.specs.Tasks.{Own, Idle as Idles, Entering as Enters, with_doing};
+ghost use Rattle.task_texts.specs.Below.space_names.specs.Directory as directory;
+ghost use Rattle.task_texts.specs.Below.source_texts.specs.Sources.{most_lines};
+ghost use Rattle.task_texts.specs.Below.system_meaning.specs.Stores.{Store, most_live, last_number, entering_refusal};
+ghost use Rattle.task_texts.specs.Below.system_meaning.specs.Tasks.{Own, Idle as Idles, Entering as Enters, with_doing};
 ghost use Rattle.live_task.specs.declared.task.Doing.TheVariants.{Idle};
 ghost use Rattle.live_task.specs.Stands.{StandsFor, IsSound};
 ghost use Rattle.task_texts.specs.Doings.{is_entering};
 
+use crate::below::of_source_texts::{LONGEST_LINE, MOST_LINES};
 use crate::doing::{begin_text, is_entering, is_idle, put_doing};
 use crate::refuse::entering_refusal;
 use eu_base::{Bytes, List, NoMemory};
 use live_task::{Doing, Task};
-use source_texts::{LONGEST_LINE, MOST_LINES};
 use std::alloc::Global;
 
 /// An idle task begins to enter a text under a name, where nothing speaks against it; else nothing happens. A refusal changes nothing.

@@ -1,6 +1,7 @@
 //! Texts of one task: they are entered line by line, kept under a name and read again; and what is told of the task's spaces.
 #![tactic(auto)]
 
+pub mod below;
 mod close;
 mod doing;
 mod entering;

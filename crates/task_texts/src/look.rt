@@ -2,15 +2,15 @@
 ghost use Rattle.std.specs.Prelude.{◌≡◌, ◌≤◌, List, Some, IfOk, option_copied};
 ghost use Rattle.eu_base.specs.declared.value.Kind.{Kind};
 ghost use Rattle.page_pool.specs.Pool.{Pages};
-ghost use Rattle.page_table.specs.Entries.{Names};
-ghost use Rattle.page_table.specs.Frames.{Stands};
-ghost use Rattle.live_task.specs.Below.task_job.specs.Here.{Frames};
-ghost use Rattle.space_memory.specs.Memories.{roots};
+ghost use Rattle.task_texts.specs.Below.page_table.specs.Entries.{Names};
+ghost use Rattle.task_texts.specs.Below.page_table.specs.Frames.{Stands};
+ghost use Rattle.task_texts.specs.Below.task_job.specs.Here.{Frames};
+ghost use Rattle.task_texts.specs.Below.space_memory.specs.Memories.{roots};
 ghost use Rattle.named_texts.specs.Sources.{source_in, IsShort};
-ghost use Rattle.live_task.specs.Below.source_machine.specs.Stores.{space_under};
-ghost use Rattle.live_task.specs.Below.source_machine.specs.Tasks.{Own, now};
-ghost use Rattle.live_task.specs.Below.source_machine.specs.Monitor.{directory_of};
-ghost use Rattle.live_task.specs.Below.source_machine.specs.Supervisor.{spaces_of, state_of, running_state};
+ghost use Rattle.task_texts.specs.Below.system_meaning.specs.Stores.{space_under};
+ghost use Rattle.task_texts.specs.Below.system_meaning.specs.Tasks.{Own, now};
+ghost use Rattle.task_texts.specs.Below.system_meaning.specs.Monitor.{directory_of};
+ghost use Rattle.task_texts.specs.Below.system_meaning.specs.Supervisor.{spaces_of, state_of, running_state};
 ghost use Rattle.live_task.specs.Stands.{StandsFor};
 
 use eu_base::{Bytes, List, MemFault, NoMemory, Nowhere, Request};

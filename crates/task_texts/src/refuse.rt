@@ -2,14 +2,14 @@
 ghost use Rattle.std.specs.Prelude.{◌≡◌, ◌<◌, ◌&&◌, nat_le, is_none, List, length, None};
 ghost use Rattle.eu_base.specs.declared.value.Kind.{Kind};
 ghost use Rattle.page_pool.specs.Pool.{Pages};
-ghost use Rattle.space_names.specs.Directory as directory;
-ghost use Rattle.live_task.specs.Below.source_machine.specs.Stores.{most_live, last_number, entering_refusal};
-ghost use Rattle.live_task.specs.Below.source_machine.specs.Tasks.{Own, now};
+ghost use Rattle.task_texts.specs.Below.space_names.specs.Directory as directory;
+ghost use Rattle.task_texts.specs.Below.system_meaning.specs.Stores.{most_live, last_number, entering_refusal};
+ghost use Rattle.task_texts.specs.Below.system_meaning.specs.Tasks.{Own, now};
 ghost use Rattle.live_task.specs.Stands.{StandsFor};
 
+use crate::below::of_space_memory::{MOST_LIVE, SpaceMemory};
 use eu_base::{Stop, is_name};
 use live_task::Task;
-use space_memory::{MOST_LIVE, SpaceMemory};
 
 /// Why no text can be entered under a name, the first reason that holds: it is no name, there is no room for a space more, or no number
 /// is left for it. A task that is not idle is asked the same of what it keeps.

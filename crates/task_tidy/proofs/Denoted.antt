@@ -13,15 +13,15 @@ use Rattle.eu_base.specs.Values.{IsOf, numbers_of_spaces}
 use Rattle.eu_base.specs.Cells.{Cells, held_of, packet_cell}
 use Rattle.eu_base.specs.DataSpaces.{Heads, last_number}
 use Rattle.page_pool.specs.Pool.{Pages}
-use Rattle.space_memory.specs.Memories.{MemoryData, memory_heads}
-use Rattle.task_messages.specs.Below.task_job.specs.Here.{HoldsAll}
-use Rattle.zero_state.specs.Stepping.{mem_of}
-use Rattle.place_gen.specs.Correct.{HasSpaces}
+use Rattle.task_tidy.specs.Below.space_memory.specs.Memories.{MemoryData, memory_heads}
+use Rattle.task_tidy.specs.Below.task_job.specs.Here.{HoldsAll}
+use Rattle.task_tidy.specs.Below.zero_state.specs.Stepping.{mem_of}
+use Rattle.task_tidy.specs.Below.place_gen.specs.Correct.{HasSpaces}
 use Rattle.elan_types.specs.Eval.{Slot, Holds}
-use Rattle.packet_cells.specs.Freed.{HoldEach}
-use Rattle.packet_cells.specs.Denoted.{holds_space, denote}
-use Rattle.task_messages.specs.Below.source_machine.specs.Stores.{Store, denotes, is_used}
-use Rattle.task_messages.specs.Below.task_job.specs.Standing.{Keeps}
+use Rattle.zero_machine.specs.Freed.{HoldEach}
+use Rattle.zero_machine.specs.Denoted.{holds_space, denote}
+use Rattle.task_tidy.specs.Below.system_meaning.specs.Stores.{Store, denotes, is_used}
+use Rattle.task_tidy.specs.Below.task_job.specs.Standing.{Keeps}
 
 -- ---- a value in its cell
 

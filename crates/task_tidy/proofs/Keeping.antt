@@ -8,16 +8,16 @@ use Rattle.eu_base.specs.declared.value.Kind.{Kind}
 use Rattle.eu_base.specs.DataSpaces.{Head, Heads, Space, head_of, no_space, last_number, without_space}
 use Rattle.eu_base.proofs.Heads.{long_heads}
 use Rattle.page_pool.specs.Pool.{Pages}
-use Rattle.data_space.specs.Data.{SpaceData}
-use Rattle.task_messages.specs.Below.task_job.specs.Here.{Frames, KeepsBytes}
-use Rattle.task_messages.specs.Below.task_job.proofs.Here.{stands_after}
-use Rattle.space_memory.specs.Live.{without}
-use Rattle.space_memory.specs.Memories.{MemoryData, memory_heads, roots, most_roots, forgotten, StandsWhole}
-use Rattle.space_memory.specs.Memories as memories
-use Rattle.space_memory.proofs.Framed.{roots_long}
-use Rattle.task_messages.specs.Below.source_machine.specs.Stores.{Store, is_used, only_used}
-use Rattle.task_messages.specs.Below.task_job.specs.Standing.{Keeps}
-use Rattle.task_messages.specs.Below.task_texts.proofs.Coming.{forgets}
+use Rattle.task_tidy.specs.Below.data_space.specs.Data.{SpaceData}
+use Rattle.task_tidy.specs.Below.task_job.specs.Here.{Frames, KeepsBytes}
+use Rattle.task_tidy.specs.Below.task_job.proofs.Here.{stands_after}
+use Rattle.task_tidy.specs.Below.space_memory.specs.Live.{without}
+use Rattle.task_tidy.specs.Below.space_memory.specs.Memories.{MemoryData, memory_heads, roots, most_roots, forgotten, StandsWhole}
+use Rattle.task_tidy.specs.Below.space_memory.specs.Memories as memories
+use Rattle.task_tidy.specs.Below.space_memory.proofs.Framed.{roots_long}
+use Rattle.task_tidy.specs.Below.system_meaning.specs.Stores.{Store, is_used, only_used}
+use Rattle.task_tidy.specs.Below.task_job.specs.Standing.{Keeps}
+use Rattle.task_tidy.specs.Below.task_texts.proofs.Coming.{forgets}
 use Rattle.task_tidy.specs.Tidied.{gone_unless, tidied_by, tidied_at, tidied_from}
 use Rattle.task_tidy.proofs.Left.{at_most, number_same, left_from, is_there, kept_there, gone_there, neither, names_stay}
 

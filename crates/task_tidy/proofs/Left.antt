@@ -5,7 +5,7 @@ use Rattle.std.specs.List.{list_any}
 use Rattle.std.specs.Map.{remove_entry}
 use Rattle.task_numbers.specs.declared.number.SpaceNo.{SpaceNo}
 use Rattle.eu_base.specs.DataSpaces.{Head, heads_in}
-use Rattle.place_gen.specs.Correct.{Rises}
+use Rattle.task_tidy.specs.Below.place_gen.specs.Correct.{Rises}
 
 -- ---- numbers
 

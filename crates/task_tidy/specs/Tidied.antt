@@ -5,7 +5,7 @@ use Rattle.eu_base.specs.declared.value.Kind.{Kind}
 use Rattle.eu_base.specs.DataSpaces.{Space, without_space}
 use Rattle.cell_kinds.specs.declared.packet.Packet.{Packet}
 use Rattle.cell_kinds.specs.Kinds.{packet_kinds}
-use Rattle.task_messages.specs.Below.source_machine.specs.Stores.{Store, is_used}
+use Rattle.task_tidy.specs.Below.system_meaning.specs.Stores.{Store, is_used}
 
 -- the kinds of the variables of packets, and of those that stand behind them
 abbrev pub kinds_with : List Packet → List Kind → List Kind

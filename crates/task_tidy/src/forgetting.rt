@@ -2,17 +2,17 @@
 ghost use Rattle.std.specs.Prelude.{◌≡◌, ◌+◌, ◌≤◌, length, OnOk, option_map, slice_get};
 ghost use Rattle.eu_base.specs.declared.address.TheConstants.{CELLS};
 ghost use Rattle.cell_kinds.specs.Kinds.{packet_kinds};
-ghost use Rattle.space_memory.specs.Memories.{roots, forgotten, StandsWhole};
-ghost use Rattle.task_messages.specs.Below.task_job.specs.Here.{KeepsBytes, MemoryFrames};
-ghost use Rattle.task_messages.specs.Below.source_machine.specs.Stores.{Store, only_used};
-ghost use Rattle.task_messages.specs.Below.task_job.specs.Standing.{Keeps};
+ghost use Rattle.task_tidy.specs.Below.space_memory.specs.Memories.{roots, forgotten, StandsWhole};
+ghost use Rattle.task_tidy.specs.Below.task_job.specs.Here.{KeepsBytes, MemoryFrames};
+ghost use Rattle.task_tidy.specs.Below.system_meaning.specs.Stores.{Store, only_used};
+ghost use Rattle.task_tidy.specs.Below.task_job.specs.Standing.{Keeps};
 ghost use Rattle.task_tidy.specs.Tidied.{kinds_with, tidied_at};
 
+use crate::below::of_space_memory::SpaceMemory;
 use crate::used::is_used;
 use cell_kinds::{CellKinds, Packet};
 use eu_base::NoMemory;
 use page_pool::Pool;
-use space_memory::SpaceMemory;
 use std::alloc::Global;
 use task_numbers::SpaceNo;
 

@@ -1,6 +1,7 @@
 //! The data spaces that nothing denotes are forgotten.
 #![tactic(auto)]
 
+pub mod below;
 mod forgetting;
 mod tidying;
 mod used;

@@ -1,21 +1,21 @@
 //! A task whose command is over.
 ghost use Rattle.std.specs.Prelude.{◌≡◌, ◌≤◌, length, OnOk};
-ghost use Rattle.space_memory.specs.Memories.{roots, most_roots, StandsWhole};
-ghost use Rattle.task_messages.specs.Below.task_job.specs.Here.{MemoryFrames};
-ghost use Rattle.task_messages.specs.Below.source_machine.specs.Stores.{Store, tidied};
-ghost use Rattle.task_messages.specs.Below.source_machine.specs.Tasks.{Own, Idle, with_doing};
-ghost use Rattle.task_messages.specs.Below.task_job.specs.Standing.{Keeps};
-ghost use Rattle.task_messages.specs.Below.live_task.specs.Stands.{StandsFor, IsSound};
+ghost use Rattle.task_tidy.specs.Below.space_memory.specs.Memories.{roots, most_roots, StandsWhole};
+ghost use Rattle.task_tidy.specs.Below.task_job.specs.Here.{MemoryFrames};
+ghost use Rattle.task_tidy.specs.Below.system_meaning.specs.Stores.{Store, tidied};
+ghost use Rattle.task_tidy.specs.Below.system_meaning.specs.Tasks.{Own, Idle, with_doing};
+ghost use Rattle.task_tidy.specs.Below.task_job.specs.Standing.{Keeps};
+ghost use Rattle.task_tidy.specs.Below.live_task.specs.Stands.{StandsFor, IsSound};
 ghost use Rattle.task_tidy.specs.Tidied.{kinds_with};
 
+use crate::below::of_space_memory::SpaceMemory;
 use crate::forgetting::forget_unused;
 use cell_kinds::{CellKinds, Packet};
 use eu_base::{CELLS, NoMemory};
-use packet_cells::count_cells;
 use page_pool::Pool;
-use space_memory::SpaceMemory;
 use std::alloc::Global;
 use task_messages::{Doing, Task};
+use zero_machine::count_cells;
 
 /// The data spaces of an idle task are forgotten that no variable of its packets and no name denotes. The kinds of the variables are those of
 /// these packets, and those that stand behind them.

@@ -5,22 +5,22 @@ ghost use Rattle.eu_base.specs.declared.address.TheConstants.{CELLS};
 ghost use Rattle.eu_base.specs.DataSpaces.{last_number};
 ghost use Rattle.eu_base.specs.Cells.{Cells};
 ghost use Rattle.cell_kinds.specs.Kinds.{packet_kinds};
-ghost use Rattle.packet_cells.specs.Freed.{HoldEach};
-ghost use Rattle.packet_cells.specs.Denoted.{denote};
-ghost use Rattle.space_memory.specs.Memories.{roots, memory_heads, StandsWhole};
-ghost use Rattle.task_messages.specs.Below.task_job.specs.Here.{HoldsAll, MemoryFrames};
-ghost use Rattle.task_messages.specs.Below.source_machine.specs.Stores as spec;
-ghost use Rattle.task_messages.specs.Below.source_machine.specs.Stores.{Store};
-ghost use Rattle.task_messages.specs.Below.task_job.specs.Standing.{Keeps};
+ghost use Rattle.zero_machine.specs.Freed.{HoldEach};
+ghost use Rattle.zero_machine.specs.Denoted.{denote};
+ghost use Rattle.task_tidy.specs.Below.space_memory.specs.Memories.{roots, memory_heads, StandsWhole};
+ghost use Rattle.task_tidy.specs.Below.task_job.specs.Here.{HoldsAll, MemoryFrames};
+ghost use Rattle.task_tidy.specs.Below.system_meaning.specs.Stores as spec;
+ghost use Rattle.task_tidy.specs.Below.system_meaning.specs.Stores.{Store};
+ghost use Rattle.task_tidy.specs.Below.task_job.specs.Standing.{Keeps};
 ghost use Rattle.task_tidy.specs.Tidied.{kinds_with};
 
+use crate::below::of_space_memory::SpaceMemory;
 use cell_kinds::{CellKinds, Packet};
 use eu_base::{MemFault, NoMemory, Nowhere};
-use packet_cells::variables_denote;
 use page_pool::Pool;
-use space_memory::SpaceMemory;
 use std::alloc::Global;
 use task_numbers::SpaceNo;
+use zero_machine::variables_denote;
 
 /// Whether a variable of the packets, one of those behind them, or a name denotes a data space.
 pub(crate) fn is_used(

@@ -4,23 +4,23 @@ use Rattle.std.proofs.Common.{refl, sym, ap, ◌∙◌, subst, ◌⊎◌, inl, i
 use Rattle.std.specs.Prelude.{option_map}
 use Rattle.std.proofs.lemmas.Bool.{false≢true, or_left, or_right, ne_eqb, eq-eqb}
 use Rattle.std.proofs.lemmas.Option.{none-some, same_Some}
-use Rattle.task_numbers.specs.declared.number.TaskNo.{TaskNo}
-use Rattle.task_numbers.specs.Numbers.{is_nil, is_task}
-use Rattle.elan_names.specs.declared.interface.Interface.{Interface}
-use Rattle.elan_scope.specs.declared.env.Env.{Env}
-use Rattle.task_tree.specs.Tree as tree
-use Rattle.message_wait.specs.Rendezvous.{Waits}
-use Rattle.task_tree.specs.Ends.{CanEnd, EndInTurn}
-use Rattle.terminals.specs.Channels.{Channel, channel, channel_of, uncoupled, unqueued}
-use Rattle.session_text.specs.Display.{Display}
-use Rattle.source_machine.specs.Below.units.specs.Packets.{after}
-use Rattle.source_machine.specs.Below.units.specs.declared.unit.Compiled.{Compiled}
-use Rattle.source_machine.specs.Below.units.specs.Library.{Library, env_of}
-use Rattle.source_machine.specs.Tasks.{Own}
-use Rattle.source_machine.specs.Systems.{System, Moment, own, changed, back, sharing, on_channels, on_system, write, say, uncouple, uncouple_at, supervisor_prompt}
-use Rattle.source_machine.specs.Ends.{removed, freed_by, ended}
-use Rattle.source_machine.specs.Monitor.{installed, with_packet, inserted}
-use Rattle.source_machine.specs.Whole.{AreGiven, IsSystem}
+use Rattle.turn_laws.specs.Below.task_numbers.specs.declared.number.TaskNo.{TaskNo}
+use Rattle.turn_laws.specs.Below.task_numbers.specs.Numbers.{is_nil, is_task}
+use Rattle.turn_laws.specs.Below.elan_names.specs.declared.interface.Interface.{Interface}
+use Rattle.turn_laws.specs.Below.elan_scope.specs.declared.env.Env.{Env}
+use Rattle.turn_laws.specs.Below.task_tree.specs.Tree as tree
+use Rattle.turn_laws.specs.Below.message_wait.specs.Rendezvous.{Waits}
+use Rattle.turn_laws.specs.Below.task_tree.specs.Ends.{CanEnd, EndInTurn}
+use Rattle.turn_laws.specs.Below.terminals.specs.Channels.{Channel, channel, channel_of, uncoupled, unqueued}
+use Rattle.turn_laws.specs.Below.session_text.specs.Display.{Display}
+use Rattle.turn_laws.specs.Below.units.specs.Packets.{after}
+use Rattle.turn_laws.specs.Below.units.specs.declared.unit.Compiled.{Compiled}
+use Rattle.turn_laws.specs.Below.units.specs.Library.{Library, env_of}
+use Rattle.system_meaning.specs.Tasks.{Own}
+use Rattle.system_meaning.specs.Systems.{System, Moment, own, changed, back, sharing, on_channels, on_system, write, say, uncouple, uncouple_at, supervisor_prompt}
+use Rattle.system_meaning.specs.Ends.{removed, freed_by, ended}
+use Rattle.system_meaning.specs.Monitor.{installed, with_packet, inserted}
+use Rattle.system_meaning.specs.Whole.{AreGiven, IsSystem}
 use Rattle.turn_laws.specs.Own.{Whole, whole, own_of}
 use Rattle.turn_laws.proofs.Envs.{env_with}
 use Rattle.turn_laws.proofs.Found.{itself}

@@ -5,33 +5,33 @@ use Rattle.std.specs.List.{AllByRecursion, list_any}
 use Rattle.std.proofs.lemmas.Bool.{false≢true, cases_lt, or_left, or_right}
 use Rattle.std.proofs.lemmas.Option.{none-some, same_Some}
 use Rattle.std.proofs.lemmas.Slice.Eq.{bytes_eq-Decides}
-use Rattle.task_numbers.specs.declared.number.TaskNo.{TaskNo}
-use Rattle.task_numbers.specs.Numbers.{is_task}
+use Rattle.turn_laws.specs.Below.task_numbers.specs.declared.number.TaskNo.{TaskNo}
+use Rattle.turn_laws.specs.Below.task_numbers.specs.Numbers.{is_task}
 use Rattle.eu_base.specs.declared.request.Request.{Request}
 use Rattle.eu_base.specs.declared.request.Request.TheVariants as requests
 use Rattle.eu_base.specs.DataSpaces.{heads_of}
 use Rattle.eu_base.specs.SpaceOperations.{room_refusal}
 use Rattle.eu_base.specs.Requests.{Answer, then_asked}
-use Rattle.elan_names.specs.declared.interface.Interface.{Interface}
-use Rattle.elan_scope.specs.declared.env.Env.{Env}
+use Rattle.turn_laws.specs.Below.elan_names.specs.declared.interface.Interface.{Interface}
+use Rattle.turn_laws.specs.Below.elan_scope.specs.declared.env.Env.{Env}
 use Rattle.elan_types.specs.Eval.{World}
 use Rattle.elan_types.specs.Command.{OutOfMarks, Asks}
-use Rattle.message_wait.specs.declared.waits.Caller.{Caller}
-use Rattle.message_wait.specs.declared.waits.Receiver.{Receiver}
-use Rattle.message_wait.specs.Rendezvous.{is_waiting}
-use Rattle.task_tree.specs.declared.task.Task.{Task}
-use Rattle.task_tree.specs.Tree as tree
-use Rattle.task_tree.specs.Tree.{Tree, with_number}
-use Rattle.task_tree.specs.Trees.{IsTree}
-use Rattle.terminals.specs.Channels as channels
-use Rattle.session_text.specs.Display.{close_all}
-use Rattle.source_machine.specs.Below.units.specs.declared.unit.Compiled.{Compiled}
-use Rattle.source_machine.specs.Tasks.{Command, Doing, Idle, Entering, Running, Own, starting, ending, spent, request_in, request_of, command_of, with_doing, replied}
-use Rattle.source_machine.specs.Systems.{Shared, System, Moment, own, doing, requested, kept, command, does, given, sharing, back, on_ready, on_channels, on_system, on_display, say}
-use Rattle.source_machine.specs.Serving.{Served, Replies, Rests, named_or, serve, number}
-use Rattle.source_machine.specs.Monitor.{Reading, installed, with_packet, inserted}
-use Rattle.source_machine.specs.Turns.{slice, turn, turn_of, turn_marks, most_evaluations}
-use Rattle.source_machine.specs.Whole.{IsSystem, IsReceiver, WaitsFor, AreWaits}
+use Rattle.turn_laws.specs.Below.message_wait.specs.declared.waits.Caller.{Caller}
+use Rattle.turn_laws.specs.Below.message_wait.specs.declared.waits.Receiver.{Receiver}
+use Rattle.turn_laws.specs.Below.message_wait.specs.Rendezvous.{is_waiting}
+use Rattle.turn_laws.specs.Below.task_tree.specs.declared.task.Task.{Task}
+use Rattle.turn_laws.specs.Below.task_tree.specs.Tree as tree
+use Rattle.turn_laws.specs.Below.task_tree.specs.Tree.{Tree, with_number}
+use Rattle.turn_laws.specs.Below.task_tree.specs.Trees.{IsTree}
+use Rattle.turn_laws.specs.Below.terminals.specs.Channels as channels
+use Rattle.turn_laws.specs.Below.session_text.specs.Display.{close_all}
+use Rattle.turn_laws.specs.Below.units.specs.declared.unit.Compiled.{Compiled}
+use Rattle.system_meaning.specs.Tasks.{Command, Doing, Idle, Entering, Running, Own, starting, ending, spent, request_in, request_of, command_of, with_doing, replied}
+use Rattle.system_meaning.specs.Systems.{Shared, System, Moment, own, doing, requested, kept, command, does, given, sharing, back, on_ready, on_channels, on_system, on_display, say}
+use Rattle.system_meaning.specs.Serving.{Served, Replies, Rests, named_or, serve, number}
+use Rattle.system_meaning.specs.Monitor.{Reading, installed, with_packet, inserted}
+use Rattle.system_meaning.specs.Turns.{slice, turn, turn_of, turn_marks, most_evaluations}
+use Rattle.system_meaning.specs.Whole.{IsSystem, IsReceiver, WaitsFor, AreWaits}
 use Rattle.turn_laws.specs.Own.{own_of}
 use Rattle.turn_laws.specs.Others as others
 use Rattle.turn_laws.specs.Others.{Reaches, Beside, OthersStay}

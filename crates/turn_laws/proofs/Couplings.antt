@@ -8,10 +8,10 @@ use Rattle.std.proofs.lemmas.Grind.{get_or-set_at}
 use Rattle.std.proofs.lemmas.List.{get_or-set_other, length-set}
 use Rattle.std.proofs.lemmas.List.Folds.{position_or_len-set}
 use Rattle.std.proofs.lemmas.Option.{none-some, same_Some}
-use Rattle.task_numbers.specs.declared.number.TaskNo.{TaskNo}
-use Rattle.task_numbers.specs.Numbers.{niltask, is_nil, is_task}
-use Rattle.terminals.specs.Channels.{Channel, unused, is_at, channel, channel_of, alone, uncoupled, unqueued, without_line}
-use Rattle.terminals.specs.Couplings.{task_at, IsOneToOne}
+use Rattle.turn_laws.specs.Below.task_numbers.specs.declared.number.TaskNo.{TaskNo}
+use Rattle.turn_laws.specs.Below.task_numbers.specs.Numbers.{niltask, is_nil, is_task}
+use Rattle.turn_laws.specs.Below.terminals.specs.Channels.{Channel, unused, is_at, channel, channel_of, alone, uncoupled, unqueued, without_line}
+use Rattle.turn_laws.specs.Below.terminals.specs.Couplings.{task_at, IsOneToOne}
 use Rattle.turn_laws.proofs.Found.{same_task}
 
 passes_at : {X : Type 0} (p : X → Bool) (xs : List X) (d : X) → position_or_len p xs < length xs → p (get_or xs (position_or_len p xs) d) ≡ true

@@ -6,32 +6,32 @@ use Rattle.std.proofs.lemmas.Bool.{false≢true, and_parts, or_left, or_right, o
 use Rattle.std.proofs.lemmas.List.Folds.{list_any-append}
 use Rattle.std.proofs.lemmas.Map.Views.{any-filter_same}
 use Rattle.std.proofs.lemmas.Option.{none-some, same_Some}
-use Rattle.task_numbers.specs.declared.limits.TheConstants.{TASKS}
-use Rattle.task_numbers.specs.declared.number.TaskNo.{TaskNo}
-use Rattle.task_numbers.specs.Numbers.{is_task}
+use Rattle.turn_laws.specs.Below.task_numbers.specs.declared.limits.TheConstants.{TASKS}
+use Rattle.turn_laws.specs.Below.task_numbers.specs.declared.number.TaskNo.{TaskNo}
+use Rattle.turn_laws.specs.Below.task_numbers.specs.Numbers.{is_task}
 use Rattle.eu_base.specs.declared.request.Request.{Request}
 use Rattle.eu_base.specs.declared.request.Request.TheVariants.{End, Call}
 use Rattle.eu_base.specs.declared.request.Request.TheVariants as requests
 use Rattle.eu_base.specs.declared.request.Reply.TheVariants as replies
 use Rattle.eu_base.specs.Requests.{Answer, plain, then_asked}
 use Rattle.elan_types.specs.Command.{Ending, Ended, Stopped, OutOfMarks, Asks}
-use Rattle.message_wait.specs.declared.waits.Caller.{Caller}
-use Rattle.message_wait.specs.declared.waits.Receiver.{Receiver}
-use Rattle.message_wait.specs.Rendezvous.{Waits, is_answer, is_from, waiting_for, answered_by, callers_of}
-use Rattle.message_wait.specs.Rendezvous as rendezvous
-use Rattle.slicer.specs.Rotation as rotation
-use Rattle.task_tree.specs.Tree as tree
-use Rattle.task_tree.specs.declared.task.Task as tasks
-use Rattle.task_tree.specs.Tree.{Tree, has_number}
-use Rattle.task_tree.specs.Trees.{IsTree}
-use Rattle.task_tree.specs.Families.{family}
-use Rattle.task_tree.specs.Ends.{CanEnd, EndInTurn}
-use Rattle.terminals.specs.Channels as channels
-use Rattle.source_machine.specs.Tasks.{Doing, Running, Own, ending, request_in, with_doing, with_reply, with_reply_to, replied}
-use Rattle.source_machine.specs.Systems.{Shared, System, Moment, own, doing, requested, given, woken, back, can_be_ready, on_ready, on_waits, uncouple_at}
-use Rattle.source_machine.specs.Ends.{no_task, removed, freed_by, ended, ended_with_descendants}
-use Rattle.source_machine.specs.Serving.{Replies, Rests, may_end, is_first, end_allowed, end_living, named_or, serve}
-use Rattle.source_machine.specs.Whole.{IsSystem, WaitsFor, IsReceiver}
+use Rattle.turn_laws.specs.Below.message_wait.specs.declared.waits.Caller.{Caller}
+use Rattle.turn_laws.specs.Below.message_wait.specs.declared.waits.Receiver.{Receiver}
+use Rattle.turn_laws.specs.Below.message_wait.specs.Rendezvous.{Waits, is_answer, is_from, waiting_for, answered_by, callers_of}
+use Rattle.turn_laws.specs.Below.message_wait.specs.Rendezvous as rendezvous
+use Rattle.turn_laws.specs.Below.slicer.specs.Rotation as rotation
+use Rattle.turn_laws.specs.Below.task_tree.specs.Tree as tree
+use Rattle.turn_laws.specs.Below.task_tree.specs.declared.task.Task as tasks
+use Rattle.turn_laws.specs.Below.task_tree.specs.Tree.{Tree, has_number}
+use Rattle.turn_laws.specs.Below.task_tree.specs.Trees.{IsTree}
+use Rattle.turn_laws.specs.Below.task_tree.specs.Families.{family}
+use Rattle.turn_laws.specs.Below.task_tree.specs.Ends.{CanEnd, EndInTurn}
+use Rattle.turn_laws.specs.Below.terminals.specs.Channels as channels
+use Rattle.system_meaning.specs.Tasks.{Doing, Running, Own, ending, request_in, with_doing, with_reply, with_reply_to, replied}
+use Rattle.system_meaning.specs.Systems.{Shared, System, Moment, own, doing, requested, given, woken, back, can_be_ready, on_ready, on_waits, uncouple_at}
+use Rattle.system_meaning.specs.Ends.{no_task, removed, freed_by, ended, ended_with_descendants}
+use Rattle.system_meaning.specs.Serving.{Replies, Rests, may_end, is_first, end_allowed, end_living, named_or, serve}
+use Rattle.system_meaning.specs.Whole.{IsSystem, WaitsFor, IsReceiver}
 use Rattle.turn_laws.specs.Steady.{AreSteady}
 use Rattle.turn_laws.proofs.Found.{same_task, itself}
 use Rattle.turn_laws.proofs.Finding.{has}

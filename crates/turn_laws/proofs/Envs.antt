@@ -5,16 +5,16 @@ use Rattle.std.specs.Prelude.{nat_eq}
 use Rattle.std.specs.List.{AllByRecursion, list_any}
 use Rattle.std.proofs.lemmas.Bool.{or_parts}
 use Rattle.std.proofs.lemmas.Bool.Decides.{nat_tests}
-use Rattle.elan_names.specs.declared.interface.Interface.{Interface}
-use Rattle.elan_scope.specs.declared.env.Env.{Env}
-use Rattle.source_machine.specs.Below.units.specs.Packets.{nothing, after}
-use Rattle.source_machine.specs.Below.units.specs.Library.{Live}
-use Rattle.source_machine.specs.Below.units.specs.declared.unit.Compiled.{Compiled}
-use Rattle.source_machine.specs.Below.units.specs.Library.{Library, has_number, live_as, behind, env_behind, env_of, released}
-use Rattle.source_machine.specs.Tasks.{Own}
-use Rattle.source_machine.specs.Ends.{has_packet, released_unless, without_packets}
-use Rattle.source_machine.specs.Monitor.{installed}
-use Rattle.source_machine.specs.Whole.{AreGiven, AreNumbered}
+use Rattle.turn_laws.specs.Below.elan_names.specs.declared.interface.Interface.{Interface}
+use Rattle.turn_laws.specs.Below.elan_scope.specs.declared.env.Env.{Env}
+use Rattle.turn_laws.specs.Below.units.specs.Packets.{nothing, after}
+use Rattle.turn_laws.specs.Below.units.specs.Library.{Live}
+use Rattle.turn_laws.specs.Below.units.specs.declared.unit.Compiled.{Compiled}
+use Rattle.turn_laws.specs.Below.units.specs.Library.{Library, has_number, live_as, behind, env_behind, env_of, released}
+use Rattle.system_meaning.specs.Tasks.{Own}
+use Rattle.system_meaning.specs.Ends.{has_packet, released_unless, without_packets}
+use Rattle.system_meaning.specs.Monitor.{installed}
+use Rattle.system_meaning.specs.Whole.{AreGiven, AreNumbered}
 
 -- the same packets live under these numbers
 env_same : (lib later : Library) (ns : List ℕ) (env : Env) → AllByRecursion (λ n. live_as n later ≡ live_as n lib) ns

@@ -5,39 +5,39 @@ use Rattle.std.specs.List.{list_any}
 use Rattle.std.proofs.lemmas.Bool.{or_left, or_right}
 use Rattle.std.proofs.lemmas.List.Folds.{list_any-append}
 use Rattle.std.proofs.lemmas.Option.{none-some}
-use Rattle.task_numbers.specs.declared.number.TaskNo.{TaskNo}
-use Rattle.task_numbers.specs.Numbers.{is_nil, is_task}
+use Rattle.turn_laws.specs.Below.task_numbers.specs.declared.number.TaskNo.{TaskNo}
+use Rattle.turn_laws.specs.Below.task_numbers.specs.Numbers.{is_nil, is_task}
 use Rattle.eu_base.specs.declared.stop.Stop.TheVariants.{Halted}
 use Rattle.eu_base.specs.declared.request.Request.{Request}
 use Rattle.eu_base.specs.declared.request.Request.TheVariants.{Out, Input}
 use Rattle.eu_base.specs.declared.request.Reply.TheVariants.{Done, Text}
 use Rattle.eu_base.specs.Requests.{Answer, plain, then_asked}
 use Rattle.elan_tree.specs.declared.token.Word.{Word}
-use Rattle.elan_scope.specs.declared.env.Env.{Env}
-use Rattle.message_wait.specs.Rendezvous as rendezvous
-use Rattle.monitor.specs.Commands.{command_of}
-use Rattle.monitor.specs.declared.commands.Command.{Command as Said}
-use Rattle.monitor.specs.declared.commands.Command.TheVariants as said
-use Rattle.session_text.specs.declared.events.Event.{Event}
-use Rattle.session_text.specs.declared.events.Event.TheVariants.{Line, Supervisor, Turns, Fixpoint, Shut}
-use Rattle.slicer.specs.Rotation as rotation
-use Rattle.task_tree.specs.Tree as tree
-use Rattle.task_tree.specs.Tree.{Tree, has_number, with_number}
-use Rattle.task_tree.specs.declared.task.Task.{Task}
-use Rattle.terminals.specs.Channels.{is_queue_full}
-use Rattle.terminals.specs.Channels as channels
-use Rattle.source_machine.specs.Stores.{Store, heir}
-use Rattle.source_machine.specs.Tasks.{Command, Doing, Idle, Entering, Running, ending, world_of, store_in}
-use Rattle.source_machine.specs.Systems.{System, Moment, doing, requested, runs, kept, does, woken, can_couple, couple, on_system, on_ready, on_waits, on_channels, uncouple, say, at_event, supervisor_prompt}
-use Rattle.source_machine.specs.Ends.{next, begun}
-use Rattle.source_machine.specs.Serving.{input, line_taken}
-use Rattle.source_machine.specs.Monitor.{Reading}
-use Rattle.source_machine.specs.Monitor as monitor
-use Rattle.source_machine.specs.Turns.{turns}
-use Rattle.source_machine.specs.Supervisor.{begin_refusal, begin_unless, resumed, continued, unless, told, halted_by, halted, supervised, worded, called}
-use Rattle.source_machine.specs.Supervisor as supervisor
-use Rattle.source_machine.specs.Events.{answered, awaited, queued, line_for, line_at, after}
-use Rattle.source_machine.specs.Whole.{IsSystem}
+use Rattle.turn_laws.specs.Below.elan_scope.specs.declared.env.Env.{Env}
+use Rattle.turn_laws.specs.Below.message_wait.specs.Rendezvous as rendezvous
+use Rattle.turn_laws.specs.Below.monitor.specs.Commands.{command_of}
+use Rattle.turn_laws.specs.Below.monitor.specs.declared.commands.Command.{Command as Said}
+use Rattle.turn_laws.specs.Below.monitor.specs.declared.commands.Command.TheVariants as said
+use Rattle.turn_laws.specs.Below.session_text.specs.declared.events.Event.{Event}
+use Rattle.turn_laws.specs.Below.session_text.specs.declared.events.Event.TheVariants.{Line, Supervisor, Turns, Fixpoint, Shut}
+use Rattle.turn_laws.specs.Below.slicer.specs.Rotation as rotation
+use Rattle.turn_laws.specs.Below.task_tree.specs.Tree as tree
+use Rattle.turn_laws.specs.Below.task_tree.specs.Tree.{Tree, has_number, with_number}
+use Rattle.turn_laws.specs.Below.task_tree.specs.declared.task.Task.{Task}
+use Rattle.turn_laws.specs.Below.terminals.specs.Channels.{is_queue_full}
+use Rattle.turn_laws.specs.Below.terminals.specs.Channels as channels
+use Rattle.system_meaning.specs.Stores.{Store, heir}
+use Rattle.system_meaning.specs.Tasks.{Command, Doing, Idle, Entering, Running, ending, world_of, store_in}
+use Rattle.system_meaning.specs.Systems.{System, Moment, doing, requested, runs, kept, does, woken, can_couple, couple, on_system, on_ready, on_waits, on_channels, uncouple, say, at_event, supervisor_prompt}
+use Rattle.system_meaning.specs.Ends.{next, begun}
+use Rattle.system_meaning.specs.Serving.{input, line_taken}
+use Rattle.system_meaning.specs.Monitor.{Reading}
+use Rattle.system_meaning.specs.Monitor as monitor
+use Rattle.system_meaning.specs.Turns.{turns}
+use Rattle.system_meaning.specs.Supervisor.{begin_refusal, begin_unless, resumed, continued, unless, told, halted_by, halted, supervised, worded, called}
+use Rattle.system_meaning.specs.Supervisor as supervisor
+use Rattle.system_meaning.specs.Events.{answered, awaited, queued, line_for, line_at, after}
+use Rattle.system_meaning.specs.Whole.{IsSystem}
 use Rattle.turn_laws.specs.Waits.{AreOrderly}
 use Rattle.turn_laws.proofs.Found.{itself}
 use Rattle.turn_laws.proofs.Single.{changed_doing}

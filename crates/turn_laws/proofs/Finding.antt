@@ -7,11 +7,11 @@ use Rattle.std.proofs.lemmas.Bool.{false≢true, or_left, or_right, or_cases, or
 use Rattle.std.proofs.lemmas.Bool.Decides.{nat_tests}
 use Rattle.std.proofs.lemmas.List.Folds.{list_any-append}
 use Rattle.std.proofs.lemmas.Option.{none-some, same_Some}
-use Rattle.task_numbers.specs.declared.number.TaskNo.{TaskNo}
-use Rattle.task_numbers.specs.Numbers.{is_task}
-use Rattle.task_tree.specs.declared.task.Task.{Task}
-use Rattle.task_tree.specs.Tree.{has_number, has_father}
-use Rattle.task_tree.specs.Trees.{IsYounger}
+use Rattle.turn_laws.specs.Below.task_numbers.specs.declared.number.TaskNo.{TaskNo}
+use Rattle.turn_laws.specs.Below.task_numbers.specs.Numbers.{is_task}
+use Rattle.turn_laws.specs.Below.task_tree.specs.declared.task.Task.{Task}
+use Rattle.turn_laws.specs.Below.task_tree.specs.Tree.{has_number, has_father}
+use Rattle.turn_laws.specs.Below.task_tree.specs.Trees.{IsYounger}
 use Rattle.turn_laws.proofs.Found.{same_task, itself, another, rest, behind_stay, pairs_behind}
 
 pub find_is : (t : TaskNo) (xs : List Task) (x : Task) → find (has_number t) xs ≡ Some x → has_number t x ≡ true

@@ -1,19 +1,19 @@
 -- A task has its turn: what its steps keep the turn keeps, and its evaluations are enough.
 use Rattle.std.proofs.Common.{◌≡◌, ℕ, zero, suc, ◌+◌, ◌≤◌, Bool, List, Option, Some, None, refl, sym, subst, arith}
-use Rattle.task_numbers.specs.declared.number.TaskNo.{TaskNo}
+use Rattle.turn_laws.specs.Below.task_numbers.specs.declared.number.TaskNo.{TaskNo}
 use Rattle.eu_base.specs.declared.stop.Stop.{Stop}
 use Rattle.eu_base.specs.declared.request.Request.{Request}
 use Rattle.eu_base.specs.declared.request.Request.TheVariants as requests
-use Rattle.elan_scope.specs.declared.env.Env.{Env}
+use Rattle.turn_laws.specs.Below.elan_scope.specs.declared.env.Env.{Env}
 use Rattle.elan_types.specs.Eval.{World}
 use Rattle.elan_types.specs.Command.{Ending, Ended, Stopped, OutOfMarks, Asks}
-use Rattle.source_machine.specs.Stores.{Store}
-use Rattle.source_machine.specs.Tasks.{Command, Idle, Running, store_in, ending, spent}
-use Rattle.source_machine.specs.Systems.{System, Moment, command, does, given, on_system, back}
-use Rattle.source_machine.specs.Serving.{Served, Replies, Rests, serve}
-use Rattle.source_machine.specs.Monitor as monitor
-use Rattle.source_machine.specs.Monitor.{Reading}
-use Rattle.source_machine.specs.Turns.{served, went, went_on, slice}
+use Rattle.system_meaning.specs.Stores.{Store}
+use Rattle.system_meaning.specs.Tasks.{Command, Idle, Running, store_in, ending, spent}
+use Rattle.system_meaning.specs.Systems.{System, Moment, command, does, given, on_system, back}
+use Rattle.system_meaning.specs.Serving.{Served, Replies, Rests, serve}
+use Rattle.system_meaning.specs.Monitor as monitor
+use Rattle.system_meaning.specs.Monitor.{Reading}
+use Rattle.system_meaning.specs.Turns.{served, went, went_on, slice}
 use Rattle.turn_laws.proofs.Beside.{runs_it}
 use Rattle.turn_laws.proofs.Single.{changed_doing}
 use Rattle.turn_laws.proofs.Walk.{Steps, ends_as}

@@ -3,24 +3,24 @@ use Rattle.std.proofs.Common.{◌≡◌, ◌≤◌, Bool, true, false, cond, not
 use Rattle.std.proofs.Common.{refl, sym, ap, ◌∙◌, subst, ◌⊎◌, inl, inr}
 use Rattle.std.specs.List.{AllByRecursion, list_any}
 use Rattle.std.proofs.lemmas.Bool.{false≢true}
-use Rattle.task_numbers.specs.declared.number.TaskNo.{TaskNo}
-use Rattle.task_numbers.specs.Numbers.{is_task}
+use Rattle.turn_laws.specs.Below.task_numbers.specs.declared.number.TaskNo.{TaskNo}
+use Rattle.turn_laws.specs.Below.task_numbers.specs.Numbers.{is_task}
 use Rattle.eu_base.specs.declared.request.Request.{Request}
 use Rattle.eu_base.specs.declared.request.Request.TheVariants as requests
 use Rattle.eu_base.specs.Requests.{Answer, then_asked}
-use Rattle.message_wait.specs.declared.waits.Caller.{Caller}
-use Rattle.message_wait.specs.declared.waits.Receiver.{Receiver}
-use Rattle.message_wait.specs.Rendezvous.{Waits, is_waiting, is_answer, is_from, answered, released, waiting_for}
-use Rattle.message_wait.specs.Rendezvous as rendezvous
-use Rattle.task_tree.specs.Tree as tree
-use Rattle.task_tree.specs.Tree.{Tree, has_number}
-use Rattle.task_tree.specs.Trees.{IsTree}
-use Rattle.task_tree.specs.Ends.{CanEnd}
-use Rattle.slicer.specs.Rotation as rotation
-use Rattle.source_machine.specs.Tasks.{Own, with_doing, replied}
-use Rattle.source_machine.specs.Systems.{Shared, System, requested, given, woken, back, can_be_ready, on_ready, on_waits}
-use Rattle.source_machine.specs.Ends.{no_task, removed, freed_by}
-use Rattle.source_machine.specs.Whole.{IsSystem, WaitsFor, IsReceiver, AreOnce}
+use Rattle.turn_laws.specs.Below.message_wait.specs.declared.waits.Caller.{Caller}
+use Rattle.turn_laws.specs.Below.message_wait.specs.declared.waits.Receiver.{Receiver}
+use Rattle.turn_laws.specs.Below.message_wait.specs.Rendezvous.{Waits, is_waiting, is_answer, is_from, answered, released, waiting_for}
+use Rattle.turn_laws.specs.Below.message_wait.specs.Rendezvous as rendezvous
+use Rattle.turn_laws.specs.Below.task_tree.specs.Tree as tree
+use Rattle.turn_laws.specs.Below.task_tree.specs.Tree.{Tree, has_number}
+use Rattle.turn_laws.specs.Below.task_tree.specs.Trees.{IsTree}
+use Rattle.turn_laws.specs.Below.task_tree.specs.Ends.{CanEnd}
+use Rattle.turn_laws.specs.Below.slicer.specs.Rotation as rotation
+use Rattle.system_meaning.specs.Tasks.{Own, with_doing, replied}
+use Rattle.system_meaning.specs.Systems.{Shared, System, requested, given, woken, back, can_be_ready, on_ready, on_waits}
+use Rattle.system_meaning.specs.Ends.{no_task, removed, freed_by}
+use Rattle.system_meaning.specs.Whole.{IsSystem, WaitsFor, IsReceiver, AreOnce}
 use Rattle.turn_laws.specs.Own.{own_of}
 use Rattle.turn_laws.specs.Others.{called, Reaches, called_one}
 use Rattle.turn_laws.specs.Steady.{AreSteady}

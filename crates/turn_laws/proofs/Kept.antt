@@ -3,31 +3,31 @@ use Rattle.std.proofs.Common.{◌≡◌, ℕ, zero, suc, ◌+◌, ◌≤◌, Boo
 use Rattle.std.specs.List.{list_any}
 use Rattle.std.proofs.lemmas.Bool.{false≢true, or_left}
 use Rattle.std.proofs.lemmas.Option.{same_Some}
-use Rattle.task_numbers.specs.declared.number.TaskNo.{TaskNo}
-use Rattle.task_numbers.specs.Numbers.{is_task}
+use Rattle.turn_laws.specs.Below.task_numbers.specs.declared.number.TaskNo.{TaskNo}
+use Rattle.turn_laws.specs.Below.task_numbers.specs.Numbers.{is_task}
 use Rattle.eu_base.specs.declared.request.Request.{Request}
-use Rattle.elan_names.specs.declared.interface.Interface.{Interface}
-use Rattle.elan_scope.specs.declared.env.Env.{Env}
+use Rattle.turn_laws.specs.Below.elan_names.specs.declared.interface.Interface.{Interface}
+use Rattle.turn_laws.specs.Below.elan_scope.specs.declared.env.Env.{Env}
 use Rattle.elan_types.specs.Eval.{World}
 use Rattle.elan_types.specs.Command.{Ending, Ended, Stopped, OutOfMarks, Asks}
-use Rattle.message_wait.specs.Rendezvous.{Waits}
-use Rattle.message_wait.specs.Rendezvous as rendezvous
+use Rattle.turn_laws.specs.Below.message_wait.specs.Rendezvous.{Waits}
+use Rattle.turn_laws.specs.Below.message_wait.specs.Rendezvous as rendezvous
 use Rattle.eu_base.specs.Requests.{Answer, then_asked}
-use Rattle.session_text.specs.declared.events.Event.{Event}
-use Rattle.session_text.specs.declared.events.Event.TheVariants.{Line, Supervisor, Turns, Fixpoint, Shut}
-use Rattle.session_text.specs.Display.{close_all}
-use Rattle.slicer.specs.Rotation as rotation
-use Rattle.task_tree.specs.Tree as tree
-use Rattle.source_machine.specs.Below.units.specs.declared.unit.Compiled.{Compiled}
-use Rattle.source_machine.specs.Stores.{Store, heir}
-use Rattle.source_machine.specs.Tasks.{Command, Doing, Idle, Entering, Running, Own, starting, ending, spent, with_doing, replied, is_running}
-use Rattle.source_machine.specs.Systems.{Shared, System, Moment, doing, command, kept, does, given, woken, requested, sharing, on_ready, on_waits, on_system, on_display, back}
-use Rattle.source_machine.specs.Ends.{next, begun}
-use Rattle.source_machine.specs.Events.{after as event_after}
-use Rattle.source_machine.specs.Monitor.{Reading, started, installed, with_packet, inserted}
-use Rattle.source_machine.specs.Serving.{serve}
-use Rattle.source_machine.specs.Turns.{turn, turn_of, turns, turn_marks, most_evaluations}
-use Rattle.source_machine.specs.Whole.{IsSystem}
+use Rattle.turn_laws.specs.Below.session_text.specs.declared.events.Event.{Event}
+use Rattle.turn_laws.specs.Below.session_text.specs.declared.events.Event.TheVariants.{Line, Supervisor, Turns, Fixpoint, Shut}
+use Rattle.turn_laws.specs.Below.session_text.specs.Display.{close_all}
+use Rattle.turn_laws.specs.Below.slicer.specs.Rotation as rotation
+use Rattle.turn_laws.specs.Below.task_tree.specs.Tree as tree
+use Rattle.turn_laws.specs.Below.units.specs.declared.unit.Compiled.{Compiled}
+use Rattle.system_meaning.specs.Stores.{Store, heir}
+use Rattle.system_meaning.specs.Tasks.{Command, Doing, Idle, Entering, Running, Own, starting, ending, spent, with_doing, replied, is_running}
+use Rattle.system_meaning.specs.Systems.{Shared, System, Moment, doing, command, kept, does, given, woken, requested, sharing, on_ready, on_waits, on_system, on_display, back}
+use Rattle.system_meaning.specs.Ends.{next, begun}
+use Rattle.system_meaning.specs.Events.{after as event_after}
+use Rattle.system_meaning.specs.Monitor.{Reading, started, installed, with_packet, inserted}
+use Rattle.system_meaning.specs.Serving.{serve}
+use Rattle.system_meaning.specs.Turns.{turn, turn_of, turns, turn_marks, most_evaluations}
+use Rattle.system_meaning.specs.Whole.{IsSystem}
 use Rattle.turn_laws.specs.Steady.{AreSteady}
 use Rattle.turn_laws.specs.Waits.{AreOrderly}
 use Rattle.turn_laws.proofs.Found.{same_task, itself}

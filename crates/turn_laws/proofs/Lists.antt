@@ -6,9 +6,9 @@ use Rattle.std.specs.List.{AllByRecursion, list_any, position, position_or_len, 
 use Rattle.std.proofs.lemmas.Bool.{false≢true, ltb-true, ltb-false, lt-ltb, le-ltb, or_parts, or_right, ne_eqb, eq-eqb}
 use Rattle.std.proofs.lemmas.List.Folds.{list_any-append}
 use Rattle.std.proofs.lemmas.Option.{none-some, same_Some}
-use Rattle.task_numbers.specs.declared.number.TaskNo.{TaskNo}
-use Rattle.task_numbers.specs.Numbers.{is_task}
-use Rattle.source_machine.specs.Whole.{AreOnce}
+use Rattle.turn_laws.specs.Below.task_numbers.specs.declared.number.TaskNo.{TaskNo}
+use Rattle.turn_laws.specs.Below.task_numbers.specs.Numbers.{is_task}
+use Rattle.system_meaning.specs.Whole.{AreOnce}
 
 pub turned : (t u : TaskNo) → is_task t u ≡ false → is_task u t ≡ false
 turned t u e = ne_eqb u.0 t.0 (λ same. false≢true (sym e ∙ eq-eqb t.0 u.0 (sym same)))

@@ -5,8 +5,8 @@ use Rattle.std.specs.Prelude.{ℤ, option_map, option_and_then}
 use Rattle.std.specs.List.{AllByRecursion, list_any}
 use Rattle.std.proofs.lemmas.List.Elements.{recursion_from_All}
 use Rattle.std.proofs.lemmas.Option.{none-some, same_Some}
-use Rattle.task_numbers.specs.declared.number.TaskNo.{TaskNo}
-use Rattle.task_numbers.specs.Numbers.{is_task}
+use Rattle.turn_laws.specs.Below.task_numbers.specs.declared.number.TaskNo.{TaskNo}
+use Rattle.turn_laws.specs.Below.task_numbers.specs.Numbers.{is_task}
 use Rattle.eu_base.specs.declared.request.Request.{Request}
 use Rattle.eu_base.specs.declared.request.Request.TheVariants as requests
 use Rattle.eu_base.specs.declared.request.Reply.TheVariants as replies
@@ -15,13 +15,13 @@ use Rattle.eu_base.specs.SpaceOperations.{room_refusal}
 use Rattle.eu_base.specs.Requests.{Answer, plain, then_asked}
 use Rattle.elan_types.specs.Eval.{World, after_answer}
 use Rattle.elan_types.specs.Command.{Ending, Ended, Stopped, OutOfMarks, Asks, evaluate}
-use Rattle.task_tree.specs.Tree as tree
-use Rattle.slicer.specs.Rotation as rotation
-use Rattle.message_wait.specs.Rendezvous.{Waits, is_waiting}
-use Rattle.source_machine.specs.Tasks.{Command, Doing, Idle, Entering, Running, Own, ending, world_of, spent, request_in, request_of, with_reply, with_reply_to, replied, command_of, with_doing}
-use Rattle.source_machine.specs.Systems.{Shared, System, own, doing, requested, kept, kept_by, command, changed, does, given, on_ready, back, can_be_ready}
-use Rattle.source_machine.specs.Serving.{space_number, number}
-use Rattle.source_machine.specs.Whole.{IsSystem, IsReceiver}
+use Rattle.turn_laws.specs.Below.task_tree.specs.Tree as tree
+use Rattle.turn_laws.specs.Below.slicer.specs.Rotation as rotation
+use Rattle.turn_laws.specs.Below.message_wait.specs.Rendezvous.{Waits, is_waiting}
+use Rattle.system_meaning.specs.Tasks.{Command, Doing, Idle, Entering, Running, Own, ending, world_of, spent, request_in, request_of, with_reply, with_reply_to, replied, command_of, with_doing}
+use Rattle.system_meaning.specs.Systems.{Shared, System, own, doing, requested, kept, kept_by, command, changed, does, given, on_ready, back, can_be_ready}
+use Rattle.system_meaning.specs.Serving.{space_number, number}
+use Rattle.system_meaning.specs.Whole.{IsSystem, IsReceiver}
 use Rattle.turn_laws.specs.Steady.{AreSteady}
 use Rattle.turn_laws.specs.Waits.{AsksNoAnswer, IsFree, AreOrderly, AsksAnswer}
 use Rattle.turn_laws.proofs.Found.{same_task, place_in, own_found, changed_owns, changed_is, other_found}

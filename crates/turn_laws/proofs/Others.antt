@@ -9,39 +9,39 @@ use Rattle.std.proofs.lemmas.Grind.{get_or-set_at}
 use Rattle.std.proofs.lemmas.List.{get_or-set_other, set_past}
 use Rattle.std.proofs.lemmas.List.Folds.{list_any-append}
 use Rattle.std.proofs.lemmas.Option.{none-some, same_Some}
-use Rattle.task_numbers.specs.declared.limits.TheConstants.{TASKS}
-use Rattle.task_numbers.specs.declared.number.TaskNo.{TaskNo}
-use Rattle.task_numbers.specs.Numbers.{is_nil, is_task}
+use Rattle.turn_laws.specs.Below.task_numbers.specs.declared.limits.TheConstants.{TASKS}
+use Rattle.turn_laws.specs.Below.task_numbers.specs.declared.number.TaskNo.{TaskNo}
+use Rattle.turn_laws.specs.Below.task_numbers.specs.Numbers.{is_nil, is_task}
 use Rattle.eu_base.specs.declared.stop.Stop.TheVariants.{BadName}
 use Rattle.eu_base.specs.declared.request.Request.{Request}
 use Rattle.eu_base.specs.declared.request.Request.TheVariants.{Out, Input, Begin, End, Myself, Father, Son, Brother, Named, Name, Exists, Break, Send, Wait, Call}
 use Rattle.eu_base.specs.declared.request.Request.TheVariants as requests
 use Rattle.eu_base.specs.Requests.{Answer}
-use Rattle.message_wait.specs.declared.waits.Caller.{Caller}
-use Rattle.message_wait.specs.declared.waits.Receiver.{Receiver}
-use Rattle.message_wait.specs.Rendezvous.{Waits, is_waiting, is_open, is_ready, received, entered, waited_at, caller_at, first_call, first_caller, offer, offered}
-use Rattle.message_wait.specs.Rendezvous as rendezvous
-use Rattle.task_tree.specs.Tree as tree
-use Rattle.task_tree.specs.Tree.{Tree, has_number}
-use Rattle.task_tree.specs.Trees.{IsTree}
-use Rattle.task_tree.specs.declared.refusal.BeginError.{BeginError}
-use Rattle.task_tree.specs.declared.refusal.BeginError.TheVariants.{NameTaken, TreeFull}
-use Rattle.task_tree.specs.declared.task.Task.{Task}
-use Rattle.slicer.specs.Rotation as rotation
-use Rattle.task_tree.proofs.Growing.{begun_is_tree}
-use Rattle.task_tree.specs.Families.{family}
-use Rattle.task_tree.specs.Ends.{CanEnd, EndInTurn}
-use Rattle.task_tree.proofs.Ending.{family_ends}
-use Rattle.terminals.specs.Channels.{Channel, unused}
-use Rattle.terminals.specs.Channels as channels
-use Rattle.terminals.specs.Couplings.{task_at, IsOneToOne}
-use Rattle.source_machine.specs.Below.units.specs.declared.unit.Compiled.{Compiled}
-use Rattle.source_machine.specs.Stores.{is_name, heir}
-use Rattle.source_machine.specs.Tasks.{Doing, Running, Own, starting, command_of, with_doing, replied}
-use Rattle.source_machine.specs.Systems.{System, Moment, doing, requested, packets, kept, given, woken, back, can_be_ready, on_ready, on_waits, on_channels, uncouple_at}
-use Rattle.source_machine.specs.Ends.{number_refusal, next, begun, removed, no_task, freed_by, ended, ended_with_descendants}
-use Rattle.source_machine.specs.Serving.{son_begins, begin_refusal, is_first, may_end, named_or}
-use Rattle.source_machine.specs.Whole.{IsSystem}
+use Rattle.turn_laws.specs.Below.message_wait.specs.declared.waits.Caller.{Caller}
+use Rattle.turn_laws.specs.Below.message_wait.specs.declared.waits.Receiver.{Receiver}
+use Rattle.turn_laws.specs.Below.message_wait.specs.Rendezvous.{Waits, is_waiting, is_open, is_ready, received, entered, waited_at, caller_at, first_call, first_caller, offer, offered}
+use Rattle.turn_laws.specs.Below.message_wait.specs.Rendezvous as rendezvous
+use Rattle.turn_laws.specs.Below.task_tree.specs.Tree as tree
+use Rattle.turn_laws.specs.Below.task_tree.specs.Tree.{Tree, has_number}
+use Rattle.turn_laws.specs.Below.task_tree.specs.Trees.{IsTree}
+use Rattle.turn_laws.specs.Below.task_tree.specs.declared.refusal.BeginError.{BeginError}
+use Rattle.turn_laws.specs.Below.task_tree.specs.declared.refusal.BeginError.TheVariants.{NameTaken, TreeFull}
+use Rattle.turn_laws.specs.Below.task_tree.specs.declared.task.Task.{Task}
+use Rattle.turn_laws.specs.Below.slicer.specs.Rotation as rotation
+use Rattle.turn_laws.specs.Below.task_tree.proofs.Growing.{begun_is_tree}
+use Rattle.turn_laws.specs.Below.task_tree.specs.Families.{family}
+use Rattle.turn_laws.specs.Below.task_tree.specs.Ends.{CanEnd, EndInTurn}
+use Rattle.turn_laws.specs.Below.task_tree.proofs.Ending.{family_ends}
+use Rattle.turn_laws.specs.Below.terminals.specs.Channels.{Channel, unused}
+use Rattle.turn_laws.specs.Below.terminals.specs.Channels as channels
+use Rattle.turn_laws.specs.Below.terminals.specs.Couplings.{task_at, IsOneToOne}
+use Rattle.turn_laws.specs.Below.units.specs.declared.unit.Compiled.{Compiled}
+use Rattle.system_meaning.specs.Stores.{is_name, heir}
+use Rattle.system_meaning.specs.Tasks.{Doing, Running, Own, starting, command_of, with_doing, replied}
+use Rattle.system_meaning.specs.Systems.{System, Moment, doing, requested, packets, kept, given, woken, back, can_be_ready, on_ready, on_waits, on_channels, uncouple_at}
+use Rattle.system_meaning.specs.Ends.{number_refusal, next, begun, removed, no_task, freed_by, ended, ended_with_descendants}
+use Rattle.system_meaning.specs.Serving.{son_begins, begin_refusal, is_first, may_end, named_or}
+use Rattle.system_meaning.specs.Whole.{IsSystem}
 use Rattle.turn_laws.specs.Own.{own_of}
 use Rattle.turn_laws.specs.Steady.{AreSteady}
 use Rattle.turn_laws.specs.Waits.{AsksNoAnswer, IsFree}

@@ -2,13 +2,13 @@
 use Rattle.std.proofs.Common.{◌≡◌, ℕ, zero, suc, ◌+◌, ◌≤◌, List, [], ◌∷◌, ◌++◌, length, Option, Some, None, subst, arith}
 use Rattle.std.specs.List.{remove}
 use Rattle.std.proofs.lemmas.Option.{none-some, same_Some}
-use Rattle.task_numbers.specs.declared.number.TaskNo.{TaskNo}
-use Rattle.task_tree.specs.declared.task.Task.{Task}
-use Rattle.task_tree.specs.Tree.{has_number}
+use Rattle.turn_laws.specs.Below.task_numbers.specs.declared.number.TaskNo.{TaskNo}
+use Rattle.turn_laws.specs.Below.task_tree.specs.declared.task.Task.{Task}
+use Rattle.turn_laws.specs.Below.task_tree.specs.Tree.{has_number}
 use Rattle.std.proofs.Common.{Bool, true, false, cond}
-use Rattle.source_machine.specs.Tasks.{Own}
-use Rattle.source_machine.specs.Systems.{with_own}
-use Rattle.source_machine.specs.Whole.{AreGiven, AreAllGiven}
+use Rattle.system_meaning.specs.Tasks.{Own}
+use Rattle.system_meaning.specs.Systems.{with_own}
+use Rattle.system_meaning.specs.Whole.{AreGiven, AreAllGiven}
 use Rattle.turn_laws.proofs.Found.{found, changed_owns, without_own}
 
 pub length_push : (os : List Own) (o : Own) → length (os ++ o ∷ []) ≡ length os + 1

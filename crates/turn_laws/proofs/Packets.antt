@@ -6,24 +6,24 @@ use Rattle.std.proofs.lemmas.Bool.{or_parts}
 use Rattle.std.proofs.lemmas.Bool.Decides.{nat_tests}
 use Rattle.std.proofs.lemmas.List.Sums.{length-filter, count_by-le-length}
 use Rattle.std.proofs.lemmas.Option.{none-some, same_Some}
-use Rattle.elan_names.specs.declared.interface.Interface.{Interface}
-use Rattle.elan_scope.specs.declared.env.Env.{Env}
-use Rattle.source_machine.specs.Below.units.specs.Packets.{nothing, after}
-use Rattle.packet_store.specs.Below.elan_check.specs.Packets.{AreCompiled}
-use Rattle.packet_store.specs.Below.elan_check.specs.Packets as compiled
-use Rattle.source_machine.specs.Below.units.specs.Library.{Live}
-use Rattle.source_machine.specs.Below.units.specs.declared.library.TheConstants.{PACKETS}
-use Rattle.source_machine.specs.Below.units.specs.declared.unit.Compiled.{Compiled}
-use Rattle.source_machine.specs.Below.units.specs.Library.{Library, has_number, live_as, behind, env_behind, env_of, released}
+use Rattle.turn_laws.specs.Below.elan_names.specs.declared.interface.Interface.{Interface}
+use Rattle.turn_laws.specs.Below.elan_scope.specs.declared.env.Env.{Env}
+use Rattle.turn_laws.specs.Below.units.specs.Packets.{nothing, after}
+use Rattle.turn_laws.specs.Below.elan_check.specs.Packets.{AreCompiled}
+use Rattle.turn_laws.specs.Below.elan_check.specs.Packets as compiled
+use Rattle.turn_laws.specs.Below.units.specs.Library.{Live}
+use Rattle.turn_laws.specs.Below.units.specs.declared.library.TheConstants.{PACKETS}
+use Rattle.turn_laws.specs.Below.units.specs.declared.unit.Compiled.{Compiled}
+use Rattle.turn_laws.specs.Below.units.specs.Library.{Library, has_number, live_as, behind, env_behind, env_of, released}
 use Rattle.packet_store.specs.Units.{Shows, start_unit_of}
-use Rattle.source_machine.specs.Below.units.specs.Starts.{start_at}
+use Rattle.turn_laws.specs.Below.units.specs.Starts.{start_at}
 use Rattle.elan_types.specs.declared.core_phrase.Core.{Core}
-use Rattle.source_machine.specs.Stores.{Store}
-use Rattle.source_machine.specs.Tasks.{Doing, Idle, Entering, Running, Own}
-use Rattle.source_machine.specs.Ends.{has_packet, released_unless, without_packets}
-use Rattle.source_machine.specs.Monitor.{Reading, installed, with_packet}
+use Rattle.system_meaning.specs.Stores.{Store}
+use Rattle.system_meaning.specs.Tasks.{Doing, Idle, Entering, Running, Own}
+use Rattle.system_meaning.specs.Ends.{has_packet, released_unless, without_packets}
+use Rattle.system_meaning.specs.Monitor.{Reading, installed, with_packet}
 use Rattle.packet_store.specs.Readings.{ReadsSo, IsReading}
-use Rattle.source_machine.specs.Whole.{AreNumbered}
+use Rattle.system_meaning.specs.Whole.{AreNumbered}
 use Rattle.turn_laws.proofs.Lists.{all_map, all_filter, all_append, all_both, none_all}
 use Rattle.turn_laws.specs.Valid.{IsRead, of_text, of_start, AreBehind, DoesRead, OwnIsRead, AreRising, DoRise}
 

@@ -6,8 +6,8 @@ use Rattle.std.proofs.lemmas.Bool.{false≢true, or_left, or_right, leb-false, e
 use Rattle.std.proofs.lemmas.List.{length-append}
 use Rattle.std.proofs.lemmas.List.Folds.{list_any-append}
 use Rattle.std.proofs.lemmas.Option.{none-some, same_Some}
-use Rattle.task_numbers.specs.declared.number.TaskNo.{TaskNo}
-use Rattle.task_numbers.specs.Numbers.{is_task}
+use Rattle.turn_laws.specs.Below.task_numbers.specs.declared.number.TaskNo.{TaskNo}
+use Rattle.turn_laws.specs.Below.task_numbers.specs.Numbers.{is_task}
 use Rattle.eu_base.specs.declared.stop.Stop.{Stop}
 use Rattle.eu_base.specs.declared.request.Request.{Request}
 use Rattle.eu_base.specs.declared.request.Request.TheVariants.{Out, Input, Begin, End, Myself, Father, Son, Brother, Named, Name, Exists, Break, Send, Wait, Call}
@@ -16,39 +16,39 @@ use Rattle.eu_base.specs.declared.request.Reply.TheVariants as replies
 use Rattle.eu_base.specs.DataSpaces.{Space, heads_of}
 use Rattle.eu_base.specs.SpaceOperations.{room_refusal}
 use Rattle.eu_base.specs.Requests.{Answer, plain}
-use Rattle.elan_names.specs.declared.interface.Interface.{Interface}
-use Rattle.elan_scope.specs.declared.env.Env.{Env}
-use Rattle.message_wait.specs.declared.waits.Caller.{Caller}
-use Rattle.message_wait.specs.declared.waits.Offer.{Offer}
-use Rattle.message_wait.specs.declared.waits.Offer.TheVariants as offers
-use Rattle.message_wait.specs.Rendezvous.{Waits, first_caller}
-use Rattle.message_wait.specs.Rendezvous as rendezvous
-use Rattle.session_text.specs.Display.{close_all}
-use Rattle.session_text.specs.declared.events.Event.{Event}
-use Rattle.session_text.specs.declared.events.Event.TheVariants.{Line, Supervisor, Turns, Fixpoint, Shut}
-use Rattle.slicer.specs.Rotation as rotation
-use Rattle.task_tree.specs.declared.task.Task.{Task}
-use Rattle.task_tree.specs.Tree as tree
-use Rattle.task_tree.specs.Tree.{Tree, has_number}
-use Rattle.task_tree.specs.Families.{family}
-use Rattle.task_tree.specs.Ends.{EndInTurn}
-use Rattle.terminals.specs.Channels as channels
-use Rattle.source_machine.specs.Below.units.specs.Packets.{nothing}
-use Rattle.packet_store.specs.Below.elan_check.specs.Packets as compiled
-use Rattle.source_machine.specs.Below.units.specs.Library.{Live}
-use Rattle.source_machine.specs.Below.units.specs.declared.library.TheConstants.{PACKETS}
-use Rattle.source_machine.specs.Below.units.specs.declared.unit.Compiled.{Compiled}
-use Rattle.source_machine.specs.Below.units.specs.Library.{Library, env_of, started_at}
-use Rattle.source_machine.specs.Stores.{Store, last_number, heir}
-use Rattle.source_machine.specs.Tasks.{Command, Doing, Idle, Entering, Running, Own, starting, spent, request_of, command_of, with_reply_to, with_doing, replied}
-use Rattle.source_machine.specs.Systems.{Shared, System, Moment, own, doing, command, kept, packets, packets_of, with_own, changed, does, given, woken, sharing, on_ready, on_waits, on_channels, on_system, on_display, back, can_be_ready, uncouple_at, at_event}
-use Rattle.source_machine.specs.Ends.{next, begun, has_packet, without_packets, no_task, removed, freed_by, ended, ended_with_descendants}
-use Rattle.source_machine.specs.Serving.{Served, Replies, Rests, put, line_taken, input, begin_with, begin_refusal, may_end, end_allowed, end_living, named_or, number, content, message, sent, caller, send_to, send_living, call_living, space_refusal, call_refusal, unless_stopped, call_taken, serve}
-use Rattle.source_machine.specs.Monitor.{Reading, installed, with_packet, inserted, is_full}
+use Rattle.turn_laws.specs.Below.elan_names.specs.declared.interface.Interface.{Interface}
+use Rattle.turn_laws.specs.Below.elan_scope.specs.declared.env.Env.{Env}
+use Rattle.turn_laws.specs.Below.message_wait.specs.declared.waits.Caller.{Caller}
+use Rattle.turn_laws.specs.Below.message_wait.specs.declared.waits.Offer.{Offer}
+use Rattle.turn_laws.specs.Below.message_wait.specs.declared.waits.Offer.TheVariants as offers
+use Rattle.turn_laws.specs.Below.message_wait.specs.Rendezvous.{Waits, first_caller}
+use Rattle.turn_laws.specs.Below.message_wait.specs.Rendezvous as rendezvous
+use Rattle.turn_laws.specs.Below.session_text.specs.Display.{close_all}
+use Rattle.turn_laws.specs.Below.session_text.specs.declared.events.Event.{Event}
+use Rattle.turn_laws.specs.Below.session_text.specs.declared.events.Event.TheVariants.{Line, Supervisor, Turns, Fixpoint, Shut}
+use Rattle.turn_laws.specs.Below.slicer.specs.Rotation as rotation
+use Rattle.turn_laws.specs.Below.task_tree.specs.declared.task.Task.{Task}
+use Rattle.turn_laws.specs.Below.task_tree.specs.Tree as tree
+use Rattle.turn_laws.specs.Below.task_tree.specs.Tree.{Tree, has_number}
+use Rattle.turn_laws.specs.Below.task_tree.specs.Families.{family}
+use Rattle.turn_laws.specs.Below.task_tree.specs.Ends.{EndInTurn}
+use Rattle.turn_laws.specs.Below.terminals.specs.Channels as channels
+use Rattle.turn_laws.specs.Below.units.specs.Packets.{nothing}
+use Rattle.turn_laws.specs.Below.elan_check.specs.Packets as compiled
+use Rattle.turn_laws.specs.Below.units.specs.Library.{Live}
+use Rattle.turn_laws.specs.Below.units.specs.declared.library.TheConstants.{PACKETS}
+use Rattle.turn_laws.specs.Below.units.specs.declared.unit.Compiled.{Compiled}
+use Rattle.turn_laws.specs.Below.units.specs.Library.{Library, env_of, started_at}
+use Rattle.system_meaning.specs.Stores.{Store, last_number, heir}
+use Rattle.system_meaning.specs.Tasks.{Command, Doing, Idle, Entering, Running, Own, starting, spent, request_of, command_of, with_reply_to, with_doing, replied}
+use Rattle.system_meaning.specs.Systems.{Shared, System, Moment, own, doing, command, kept, packets, packets_of, with_own, changed, does, given, woken, sharing, on_ready, on_waits, on_channels, on_system, on_display, back, can_be_ready, uncouple_at, at_event}
+use Rattle.system_meaning.specs.Ends.{next, begun, has_packet, without_packets, no_task, removed, freed_by, ended, ended_with_descendants}
+use Rattle.system_meaning.specs.Serving.{Served, Replies, Rests, put, line_taken, input, begin_with, begin_refusal, may_end, end_allowed, end_living, named_or, number, content, message, sent, caller, send_to, send_living, call_living, space_refusal, call_refusal, unless_stopped, call_taken, serve}
+use Rattle.system_meaning.specs.Monitor.{Reading, installed, with_packet, inserted, is_full}
 use Rattle.packet_store.specs.Readings.{IsReading}
-use Rattle.source_machine.specs.Turns.{turn, turn_of, turns, turn_marks, most_evaluations}
-use Rattle.source_machine.specs.Events.{after}
-use Rattle.source_machine.specs.Whole.{IsSystem, AreNumbered}
+use Rattle.system_meaning.specs.Turns.{turn, turn_of, turns, turn_marks, most_evaluations}
+use Rattle.system_meaning.specs.Events.{after}
+use Rattle.system_meaning.specs.Whole.{IsSystem, AreNumbered}
 use Rattle.turn_laws.specs.Steady.{AreSteady}
 use Rattle.turn_laws.specs.Waits.{AreOrderly}
 use Rattle.turn_laws.proofs.Found.{found, own_found, place_in, changed_owns, changed_is, without_own}

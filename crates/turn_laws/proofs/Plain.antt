@@ -7,28 +7,28 @@ use Rattle.std.proofs.lemmas.Bool.{false≢true, or_left, leb-false, cases_lt, c
 use Rattle.std.proofs.lemmas.Grind.{get_or-set_at}
 use Rattle.std.proofs.lemmas.List.{length-append, length-set, get_or-set_other, set_past}
 use Rattle.std.proofs.lemmas.List.Folds.{list_any-append}
-use Rattle.task_numbers.specs.declared.limits.TheConstants.{LONGEST_LINE, TASKS}
-use Rattle.task_numbers.specs.declared.number.TaskNo.{TaskNo}
-use Rattle.task_numbers.specs.Numbers.{is_nil}
+use Rattle.turn_laws.specs.Below.task_numbers.specs.declared.limits.TheConstants.{LONGEST_LINE, TASKS}
+use Rattle.turn_laws.specs.Below.task_numbers.specs.declared.number.TaskNo.{TaskNo}
+use Rattle.turn_laws.specs.Below.task_numbers.specs.Numbers.{is_nil}
 use Rattle.eu_base.specs.declared.request.Request.{Request}
 use Rattle.eu_base.specs.Requests.{Answer}
-use Rattle.message_wait.specs.Rendezvous as rendezvous
-use Rattle.task_tree.specs.declared.task.Task.{Task}
-use Rattle.task_tree.specs.declared.refusal.BeginError.{BeginError}
-use Rattle.task_tree.specs.declared.refusal.BeginError.TheVariants.{NameTaken, TreeFull, NumbersSpent}
-use Rattle.task_tree.specs.Tree as tree
-use Rattle.task_tree.specs.Tree.{Tree, has_number, lives}
-use Rattle.task_tree.specs.Ends.{CanEnd, EndInTurn}
-use Rattle.terminals.specs.Channels.{Channel, unused, is_queue_full, with_line}
-use Rattle.terminals.specs.Channels as channels
-use Rattle.terminals.specs.declared.channel.TheConstants.{QUEUED_LINES}
-use Rattle.terminals.specs.Couplings.{task_at}
-use Rattle.terminals.proofs.Coupling.{at_none}
-use Rattle.source_machine.specs.Stores.{is_name, last_number}
-use Rattle.source_machine.specs.Tasks.{Doing, Idle, Entering, Running, Own, request_of, with_reply_to, with_doing, replied}
-use Rattle.source_machine.specs.Systems.{Shared, System, Moment, with_own, changed, does, given, woken, back, can_be_ready, on_ready, on_waits, on_channels, uncouple_at}
-use Rattle.source_machine.specs.Ends.{number_refusal, no_task, begun, removed, freed_by, ended}
-use Rattle.source_machine.specs.Whole.{IsSystem}
+use Rattle.turn_laws.specs.Below.message_wait.specs.Rendezvous as rendezvous
+use Rattle.turn_laws.specs.Below.task_tree.specs.declared.task.Task.{Task}
+use Rattle.turn_laws.specs.Below.task_tree.specs.declared.refusal.BeginError.{BeginError}
+use Rattle.turn_laws.specs.Below.task_tree.specs.declared.refusal.BeginError.TheVariants.{NameTaken, TreeFull, NumbersSpent}
+use Rattle.turn_laws.specs.Below.task_tree.specs.Tree as tree
+use Rattle.turn_laws.specs.Below.task_tree.specs.Tree.{Tree, has_number, lives}
+use Rattle.turn_laws.specs.Below.task_tree.specs.Ends.{CanEnd, EndInTurn}
+use Rattle.turn_laws.specs.Below.terminals.specs.Channels.{Channel, unused, is_queue_full, with_line}
+use Rattle.turn_laws.specs.Below.terminals.specs.Channels as channels
+use Rattle.turn_laws.specs.Below.terminals.specs.declared.channel.TheConstants.{QUEUED_LINES}
+use Rattle.turn_laws.specs.Below.terminals.specs.Couplings.{task_at}
+use Rattle.turn_laws.specs.Below.terminals.proofs.Coupling.{at_none}
+use Rattle.system_meaning.specs.Stores.{is_name, last_number}
+use Rattle.system_meaning.specs.Tasks.{Doing, Idle, Entering, Running, Own, request_of, with_reply_to, with_doing, replied}
+use Rattle.system_meaning.specs.Systems.{Shared, System, Moment, with_own, changed, does, given, woken, back, can_be_ready, on_ready, on_waits, on_channels, uncouple_at}
+use Rattle.system_meaning.specs.Ends.{number_refusal, no_task, begun, removed, freed_by, ended}
+use Rattle.system_meaning.specs.Whole.{IsSystem}
 use Rattle.turn_laws.proofs.Found.{place_in, changed_owns, changed_is, without_own}
 use Rattle.turn_laws.proofs.Lists.{all_filter, all_append, all_remove}
 use Rattle.turn_laws.proofs.Steps.{left, removed_is, removed_sound, quiet_channels, free_stays, all_woken, lives_on}

@@ -5,9 +5,9 @@ use Rattle.std.specs.List.{AllByRecursion}
 use Rattle.std.proofs.lemmas.Bool.{leb-false, ne_eqb}
 use Rattle.std.proofs.lemmas.List.{length-append}
 use Rattle.std.proofs.lemmas.Option.{none-some, same_Some}
-use Rattle.task_numbers.specs.declared.limits.TheConstants.{LONGEST_LINE}
-use Rattle.task_numbers.specs.declared.number.TaskNo.{TaskNo}
-use Rattle.task_numbers.specs.Numbers.{is_nil, is_task}
+use Rattle.turn_laws.specs.Below.task_numbers.specs.declared.limits.TheConstants.{LONGEST_LINE}
+use Rattle.turn_laws.specs.Below.task_numbers.specs.declared.number.TaskNo.{TaskNo}
+use Rattle.turn_laws.specs.Below.task_numbers.specs.Numbers.{is_nil, is_task}
 use Rattle.eu_base.specs.declared.stop.Stop.{Stop}
 use Rattle.eu_base.specs.declared.stop.Stop.TheVariants.{BadName}
 use Rattle.eu_base.specs.Stops.{stop_text}
@@ -18,35 +18,35 @@ use Rattle.eu_base.specs.declared.request.Reply.TheVariants as replies
 use Rattle.eu_base.specs.DataSpaces.{Space, heads_of}
 use Rattle.eu_base.specs.SpaceOperations.{room_refusal}
 use Rattle.eu_base.specs.Requests.{plain}
-use Rattle.elan_names.specs.declared.interface.Interface.{Interface}
-use Rattle.elan_scope.specs.declared.env.Env.{Env}
-use Rattle.message_wait.specs.declared.waits.Caller.{Caller}
-use Rattle.message_wait.specs.declared.waits.Offer.{Offer}
-use Rattle.message_wait.specs.declared.waits.Offer.TheVariants as offers
-use Rattle.message_wait.specs.Rendezvous.{Waits, first_caller}
-use Rattle.message_wait.specs.Rendezvous as rendezvous
-use Rattle.session_text.specs.Display.{close_all}
-use Rattle.session_text.specs.declared.events.Event.{Event}
-use Rattle.session_text.specs.declared.events.Event.TheVariants.{Line, Supervisor, Turns, Fixpoint, Shut}
-use Rattle.slicer.specs.Rotation as rotation
-use Rattle.task_tree.specs.declared.task.Task.{Task}
-use Rattle.task_tree.specs.Tree as tree
-use Rattle.task_tree.specs.Tree.{has_number}
-use Rattle.task_tree.specs.Families.{family}
-use Rattle.terminals.specs.Channels as channels
-use Rattle.source_machine.specs.Below.units.specs.declared.unit.Compiled.{Compiled}
-use Rattle.source_machine.specs.Below.units.specs.Library.{started_at}
-use Rattle.source_machine.specs.Below.units.specs.Sources.{most_lines}
-use Rattle.source_machine.specs.Stores.{Store, is_name, heir, last_number}
-use Rattle.source_machine.specs.Tasks.{Doing, Idle, Entering, Running, Own, starting, spent}
-use Rattle.source_machine.specs.Systems.{System, Moment, own, doing, kept, packets, does, sharing, on_ready, on_waits, on_system, on_display, uncouple_at, at_event}
-use Rattle.source_machine.specs.Ends.{next, number_refusal, begun, ended_with_descendants}
-use Rattle.source_machine.specs.Serving.{Served, Replies, Rests, put, line_taken, input, begin_with, begin_refusal, may_end, end_allowed, end_living, named_or, number, content, message, sent, caller, send_to, send_living, call_living, space_refusal, call_refusal, unless_stopped, call_taken, serve}
-use Rattle.source_machine.specs.Monitor.{Reading, installed, with_packet, inserted}
-use Rattle.source_machine.specs.Turns.{turn, turn_of, turns, turn_marks, most_evaluations}
-use Rattle.source_machine.specs.Supervisor as supervisor
-use Rattle.source_machine.specs.Events.{after}
-use Rattle.source_machine.specs.Whole.{IsSystem}
+use Rattle.turn_laws.specs.Below.elan_names.specs.declared.interface.Interface.{Interface}
+use Rattle.turn_laws.specs.Below.elan_scope.specs.declared.env.Env.{Env}
+use Rattle.turn_laws.specs.Below.message_wait.specs.declared.waits.Caller.{Caller}
+use Rattle.turn_laws.specs.Below.message_wait.specs.declared.waits.Offer.{Offer}
+use Rattle.turn_laws.specs.Below.message_wait.specs.declared.waits.Offer.TheVariants as offers
+use Rattle.turn_laws.specs.Below.message_wait.specs.Rendezvous.{Waits, first_caller}
+use Rattle.turn_laws.specs.Below.message_wait.specs.Rendezvous as rendezvous
+use Rattle.turn_laws.specs.Below.session_text.specs.Display.{close_all}
+use Rattle.turn_laws.specs.Below.session_text.specs.declared.events.Event.{Event}
+use Rattle.turn_laws.specs.Below.session_text.specs.declared.events.Event.TheVariants.{Line, Supervisor, Turns, Fixpoint, Shut}
+use Rattle.turn_laws.specs.Below.slicer.specs.Rotation as rotation
+use Rattle.turn_laws.specs.Below.task_tree.specs.declared.task.Task.{Task}
+use Rattle.turn_laws.specs.Below.task_tree.specs.Tree as tree
+use Rattle.turn_laws.specs.Below.task_tree.specs.Tree.{has_number}
+use Rattle.turn_laws.specs.Below.task_tree.specs.Families.{family}
+use Rattle.turn_laws.specs.Below.terminals.specs.Channels as channels
+use Rattle.turn_laws.specs.Below.units.specs.declared.unit.Compiled.{Compiled}
+use Rattle.turn_laws.specs.Below.units.specs.Library.{started_at}
+use Rattle.turn_laws.specs.Below.units.specs.Sources.{most_lines}
+use Rattle.system_meaning.specs.Stores.{Store, is_name, heir, last_number}
+use Rattle.system_meaning.specs.Tasks.{Doing, Idle, Entering, Running, Own, starting, spent}
+use Rattle.system_meaning.specs.Systems.{System, Moment, own, doing, kept, packets, does, sharing, on_ready, on_waits, on_system, on_display, uncouple_at, at_event}
+use Rattle.system_meaning.specs.Ends.{next, number_refusal, begun, ended_with_descendants}
+use Rattle.system_meaning.specs.Serving.{Served, Replies, Rests, put, line_taken, input, begin_with, begin_refusal, may_end, end_allowed, end_living, named_or, number, content, message, sent, caller, send_to, send_living, call_living, space_refusal, call_refusal, unless_stopped, call_taken, serve}
+use Rattle.system_meaning.specs.Monitor.{Reading, installed, with_packet, inserted}
+use Rattle.system_meaning.specs.Turns.{turn, turn_of, turns, turn_marks, most_evaluations}
+use Rattle.system_meaning.specs.Supervisor as supervisor
+use Rattle.system_meaning.specs.Events.{after}
+use Rattle.system_meaning.specs.Whole.{IsSystem}
 use Rattle.turn_laws.specs.Steady.{AreSteady}
 use Rattle.turn_laws.specs.Waits.{AreOrderly}
 use Rattle.turn_laws.proofs.Found.{found, own_found}

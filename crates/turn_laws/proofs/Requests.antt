@@ -5,8 +5,8 @@ use Rattle.std.specs.Prelude.{ℤ, negsuc, ◌||◌, slice_get}
 use Rattle.std.specs.List.{list_any, position_or_len, remove}
 use Rattle.std.proofs.lemmas.Bool.{false≢true, and_parts, or_left, eq-eqb}
 use Rattle.std.proofs.lemmas.Option.{none-some}
-use Rattle.task_numbers.specs.declared.number.TaskNo.{TaskNo}
-use Rattle.task_numbers.specs.Numbers.{is_task}
+use Rattle.turn_laws.specs.Below.task_numbers.specs.declared.number.TaskNo.{TaskNo}
+use Rattle.turn_laws.specs.Below.task_numbers.specs.Numbers.{is_task}
 use Rattle.eu_base.specs.declared.stop.Stop.{Stop}
 use Rattle.eu_base.specs.declared.stop.Stop.TheVariants.{NoSpace}
 use Rattle.eu_base.specs.declared.request.Request.{Request}
@@ -16,22 +16,22 @@ use Rattle.eu_base.specs.declared.request.Reply.TheVariants as replies
 use Rattle.eu_base.specs.DataSpaces.{Space, heads_of, is_live, without_space}
 use Rattle.eu_base.specs.SpaceOperations.{room_refusal}
 use Rattle.eu_base.specs.Requests.{Answer, plain, then_asked}
-use Rattle.message_wait.specs.declared.waits.Caller.{Caller}
-use Rattle.message_wait.specs.declared.waits.Receiver.{Receiver}
-use Rattle.message_wait.specs.declared.waits.Offer.TheVariants as offers
-use Rattle.message_wait.specs.Rendezvous.{Waits, is_waiting, is_open, takes_from, is_ready, received, entered, is_after, waited_at, caller_at, first_call, first_caller, offered}
-use Rattle.message_wait.specs.Rendezvous as rendezvous
-use Rattle.task_tree.specs.Tree as tree
-use Rattle.task_tree.specs.Tree.{Tree}
-use Rattle.task_tree.specs.Trees.{IsTree}
-use Rattle.terminals.specs.Channels as channels
-use Rattle.source_machine.specs.Below.units.specs.declared.unit.Compiled.{Compiled}
-use Rattle.source_machine.specs.Below.units.specs.Library.{started_at}
-use Rattle.source_machine.specs.Tasks.{Command, Own, with_doing, replied}
-use Rattle.source_machine.specs.Systems.{System, Moment, requested, kept, kept_by, command, packets, given, woken, on_waits}
-use Rattle.source_machine.specs.Ends.{ended_with_descendants}
-use Rattle.source_machine.specs.Serving.{Served, Replies, Rests, put, line_taken, input, begin_with, begin_refusal, may_end, end_allowed, end_living, named_or, number, space_number, content, message, handed, sent, caller, send_to, send_living, call_living, space_refusal, call_refusal, unless_stopped, answering, call_taken, awaits, serve}
-use Rattle.source_machine.specs.Whole.{WaitsFor, IsReceiver}
+use Rattle.turn_laws.specs.Below.message_wait.specs.declared.waits.Caller.{Caller}
+use Rattle.turn_laws.specs.Below.message_wait.specs.declared.waits.Receiver.{Receiver}
+use Rattle.turn_laws.specs.Below.message_wait.specs.declared.waits.Offer.TheVariants as offers
+use Rattle.turn_laws.specs.Below.message_wait.specs.Rendezvous.{Waits, is_waiting, is_open, takes_from, is_ready, received, entered, is_after, waited_at, caller_at, first_call, first_caller, offered}
+use Rattle.turn_laws.specs.Below.message_wait.specs.Rendezvous as rendezvous
+use Rattle.turn_laws.specs.Below.task_tree.specs.Tree as tree
+use Rattle.turn_laws.specs.Below.task_tree.specs.Tree.{Tree}
+use Rattle.turn_laws.specs.Below.task_tree.specs.Trees.{IsTree}
+use Rattle.turn_laws.specs.Below.terminals.specs.Channels as channels
+use Rattle.turn_laws.specs.Below.units.specs.declared.unit.Compiled.{Compiled}
+use Rattle.turn_laws.specs.Below.units.specs.Library.{started_at}
+use Rattle.system_meaning.specs.Tasks.{Command, Own, with_doing, replied}
+use Rattle.system_meaning.specs.Systems.{System, Moment, requested, kept, kept_by, command, packets, given, woken, on_waits}
+use Rattle.system_meaning.specs.Ends.{ended_with_descendants}
+use Rattle.system_meaning.specs.Serving.{Served, Replies, Rests, put, line_taken, input, begin_with, begin_refusal, may_end, end_allowed, end_living, named_or, number, space_number, content, message, handed, sent, caller, send_to, send_living, call_living, space_refusal, call_refusal, unless_stopped, answering, call_taken, awaits, serve}
+use Rattle.system_meaning.specs.Whole.{WaitsFor, IsReceiver}
 use Rattle.turn_laws.specs.Own.{own_of}
 use Rattle.turn_laws.specs.Others.{sends_to, called, sends, called_it}
 use Rattle.turn_laws.specs.Steady.{AreSteady}

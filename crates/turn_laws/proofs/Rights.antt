@@ -5,20 +5,20 @@ use Rattle.std.specs.Prelude.{ℤ, option_map, option_and_then}
 use Rattle.std.specs.List.{AllByRecursion, list_any, position_or_len, remove}
 use Rattle.std.proofs.lemmas.Bool.{or_parts, or_cases}
 use Rattle.std.proofs.lemmas.Option.{none-some, same_Some}
-use Rattle.task_numbers.specs.declared.number.TaskNo.{TaskNo}
-use Rattle.task_numbers.specs.Numbers.{is_task}
+use Rattle.turn_laws.specs.Below.task_numbers.specs.declared.number.TaskNo.{TaskNo}
+use Rattle.turn_laws.specs.Below.task_numbers.specs.Numbers.{is_task}
 use Rattle.eu_base.specs.declared.request.Request.{Request}
 use Rattle.eu_base.specs.declared.request.Request.TheVariants as requests
 use Rattle.eu_base.specs.DataSpaces.{heads_of, is_live, without_space}
 use Rattle.eu_base.specs.SpaceOperations.{room_refusal}
-use Rattle.message_wait.specs.declared.waits.Caller.{Caller}
-use Rattle.message_wait.specs.declared.waits.Receiver.{Receiver}
-use Rattle.message_wait.specs.Rendezvous.{Waits, is_waiting, is_answer, is_from, is_after, received, answered, released, left, entered}
-use Rattle.task_tree.specs.Tree as tree
-use Rattle.source_machine.specs.Tasks.{Doing, Own, request_of}
-use Rattle.source_machine.specs.Systems.{System, doing, requested, kept_by}
-use Rattle.source_machine.specs.Serving.{space_number}
-use Rattle.source_machine.specs.Whole.{IsCaller, WaitsFor, IsReceiver, AreOnce, AreWaits}
+use Rattle.turn_laws.specs.Below.message_wait.specs.declared.waits.Caller.{Caller}
+use Rattle.turn_laws.specs.Below.message_wait.specs.declared.waits.Receiver.{Receiver}
+use Rattle.turn_laws.specs.Below.message_wait.specs.Rendezvous.{Waits, is_waiting, is_answer, is_from, is_after, received, answered, released, left, entered}
+use Rattle.turn_laws.specs.Below.task_tree.specs.Tree as tree
+use Rattle.system_meaning.specs.Tasks.{Doing, Own, request_of}
+use Rattle.system_meaning.specs.Systems.{System, doing, requested, kept_by}
+use Rattle.system_meaning.specs.Serving.{space_number}
+use Rattle.system_meaning.specs.Whole.{IsCaller, WaitsFor, IsReceiver, AreOnce, AreWaits}
 use Rattle.turn_laws.specs.Waits.{HasRoom}
 use Rattle.turn_laws.proofs.Found.{same_task, own_found, none_found}
 use Rattle.turn_laws.proofs.Lists.{neither, all_map, all_where, all_both, all_filter, all_append, all_remove, all_insert, none_filter, none_append, none_remove, none_insert, none_left, some_of, once_filter, once_append, once_remove, once_insert}

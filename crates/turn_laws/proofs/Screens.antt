@@ -4,8 +4,8 @@ use Rattle.std.proofs.lemmas.Bool.{ne_eqb, cases_eq, cases_lt}
 use Rattle.std.proofs.lemmas.Grind.{get_or-set_at}
 use Rattle.std.proofs.lemmas.List.{get_or-set_other, set_past, length-set, length-append, drop-append-le}
 use Rattle.std.proofs.lemmas.List.Elements.{filter-append}
-use Rattle.session_text.specs.declared.display.Piece.{Piece}
-use Rattle.session_text.specs.Display.{Display, unfinished_at, with_unfinished, show, close, close_all, write, say}
+use Rattle.turn_laws.specs.Below.session_text.specs.declared.display.Piece.{Piece}
+use Rattle.turn_laws.specs.Below.session_text.specs.Display.{Display, unfinished_at, with_unfinished, show, close, close_all, write, say}
 use Rattle.turn_laws.specs.Worlds.{at_channel}
 
 -- from those places of what was shown on

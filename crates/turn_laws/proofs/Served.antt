@@ -6,8 +6,8 @@ use Rattle.std.specs.List.{list_any, position_or_len, remove}
 use Rattle.std.proofs.lemmas.Bool.{false≢true, and_parts, eq-eqb}
 use Rattle.std.proofs.lemmas.Cmp.{int_eq_equiv}
 use Rattle.std.proofs.lemmas.List.Folds.{list_any-append}
-use Rattle.task_numbers.specs.declared.number.TaskNo.{TaskNo}
-use Rattle.task_numbers.specs.Numbers.{is_task}
+use Rattle.turn_laws.specs.Below.task_numbers.specs.declared.number.TaskNo.{TaskNo}
+use Rattle.turn_laws.specs.Below.task_numbers.specs.Numbers.{is_task}
 use Rattle.eu_base.specs.declared.stop.Stop.{Stop}
 use Rattle.eu_base.specs.declared.request.Request.{Request}
 use Rattle.eu_base.specs.declared.request.Request.TheVariants.{Out, Input, Begin, End, Myself, Father, Son, Brother, Named, Name, Exists, Break, Send, Wait, Call}
@@ -18,22 +18,22 @@ use Rattle.eu_base.specs.SpaceOperations.{room_refusal}
 use Rattle.eu_base.specs.Requests.{Answer, plain, then_asked}
 use Rattle.elan_types.specs.Eval.{World, after_answer}
 use Rattle.elan_types.specs.Command.{Asks}
-use Rattle.message_wait.specs.declared.waits.Caller.{Caller}
-use Rattle.message_wait.specs.declared.waits.Receiver.{Receiver}
-use Rattle.message_wait.specs.declared.waits.Offer.TheVariants as offers
-use Rattle.message_wait.specs.Rendezvous.{Waits, is_open, takes_from, is_ready, received, entered, is_after, waited_at, caller_at, first_call, first_caller}
-use Rattle.slicer.specs.Rotation as rotation
-use Rattle.task_tree.specs.Tree as tree
-use Rattle.task_tree.specs.Tree.{has_number}
-use Rattle.terminals.specs.Channels as channels
-use Rattle.source_machine.specs.Below.units.specs.declared.unit.Compiled.{Compiled}
-use Rattle.source_machine.specs.Below.units.specs.Library.{started_at}
-use Rattle.source_machine.specs.Stores.{Store, heir}
-use Rattle.source_machine.specs.Tasks.{Command, Doing, Running, Own, starting, ending, with_doing, with_reply, replied}
-use Rattle.source_machine.specs.Systems.{Shared, System, Moment, doing, requested, kept, packets, given, woken, uncouple_at}
-use Rattle.source_machine.specs.Ends.{next, begun}
-use Rattle.source_machine.specs.Serving.{Replies, put, line_taken, input, begin_with, begin_refusal, son_begins, number, content, message, handed, sent, caller, send_to, send_living, call_living, space_refusal, call_refusal, unless_stopped, answering, call_taken, awaits, serve}
-use Rattle.source_machine.specs.Whole.{IsSystem, WaitsFor, IsReceiver}
+use Rattle.turn_laws.specs.Below.message_wait.specs.declared.waits.Caller.{Caller}
+use Rattle.turn_laws.specs.Below.message_wait.specs.declared.waits.Receiver.{Receiver}
+use Rattle.turn_laws.specs.Below.message_wait.specs.declared.waits.Offer.TheVariants as offers
+use Rattle.turn_laws.specs.Below.message_wait.specs.Rendezvous.{Waits, is_open, takes_from, is_ready, received, entered, is_after, waited_at, caller_at, first_call, first_caller}
+use Rattle.turn_laws.specs.Below.slicer.specs.Rotation as rotation
+use Rattle.turn_laws.specs.Below.task_tree.specs.Tree as tree
+use Rattle.turn_laws.specs.Below.task_tree.specs.Tree.{has_number}
+use Rattle.turn_laws.specs.Below.terminals.specs.Channels as channels
+use Rattle.turn_laws.specs.Below.units.specs.declared.unit.Compiled.{Compiled}
+use Rattle.turn_laws.specs.Below.units.specs.Library.{started_at}
+use Rattle.system_meaning.specs.Stores.{Store, heir}
+use Rattle.system_meaning.specs.Tasks.{Command, Doing, Running, Own, starting, ending, with_doing, with_reply, replied}
+use Rattle.system_meaning.specs.Systems.{Shared, System, Moment, doing, requested, kept, packets, given, woken, uncouple_at}
+use Rattle.system_meaning.specs.Ends.{next, begun}
+use Rattle.system_meaning.specs.Serving.{Replies, put, line_taken, input, begin_with, begin_refusal, son_begins, number, content, message, handed, sent, caller, send_to, send_living, call_living, space_refusal, call_refusal, unless_stopped, answering, call_taken, awaits, serve}
+use Rattle.system_meaning.specs.Whole.{IsSystem, WaitsFor, IsReceiver}
 use Rattle.turn_laws.specs.Steady.{AreSteady}
 use Rattle.turn_laws.proofs.Found.{same_task, itself}
 use Rattle.turn_laws.proofs.Finding.{living}

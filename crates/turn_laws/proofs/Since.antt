@@ -4,20 +4,20 @@ use Rattle.std.proofs.Common.{refl, sym, ap, ◌∙◌, subst, ◌⊎◌, inl, i
 use Rattle.std.specs.Prelude.{option_map, option_and_then}
 use Rattle.std.specs.List.{AllByRecursion}
 use Rattle.std.proofs.lemmas.Option.{none-some}
-use Rattle.task_numbers.specs.declared.number.TaskNo.{TaskNo}
-use Rattle.task_numbers.specs.Numbers.{is_task}
+use Rattle.turn_laws.specs.Below.task_numbers.specs.declared.number.TaskNo.{TaskNo}
+use Rattle.turn_laws.specs.Below.task_numbers.specs.Numbers.{is_task}
 use Rattle.eu_base.specs.declared.request.Request.{Request}
 use Rattle.eu_base.specs.Requests.{Answer}
-use Rattle.message_wait.specs.declared.waits.Caller.{Caller}
-use Rattle.message_wait.specs.declared.waits.Receiver.{Receiver}
-use Rattle.message_wait.specs.Rendezvous.{Waits}
-use Rattle.task_tree.specs.Tree as tree
-use Rattle.task_tree.specs.Tree.{Tree}
-use Rattle.task_tree.specs.Trees.{IsTree}
-use Rattle.slicer.specs.Rotation as rotation
-use Rattle.source_machine.specs.Tasks.{Own, request_of, with_doing, replied}
-use Rattle.source_machine.specs.Systems.{Shared, System, own, doing, requested, given, woken, back, can_be_ready, on_ready, on_waits}
-use Rattle.source_machine.specs.Whole.{IsSystem}
+use Rattle.turn_laws.specs.Below.message_wait.specs.declared.waits.Caller.{Caller}
+use Rattle.turn_laws.specs.Below.message_wait.specs.declared.waits.Receiver.{Receiver}
+use Rattle.turn_laws.specs.Below.message_wait.specs.Rendezvous.{Waits}
+use Rattle.turn_laws.specs.Below.task_tree.specs.Tree as tree
+use Rattle.turn_laws.specs.Below.task_tree.specs.Tree.{Tree}
+use Rattle.turn_laws.specs.Below.task_tree.specs.Trees.{IsTree}
+use Rattle.turn_laws.specs.Below.slicer.specs.Rotation as rotation
+use Rattle.system_meaning.specs.Tasks.{Own, request_of, with_doing, replied}
+use Rattle.system_meaning.specs.Systems.{Shared, System, own, doing, requested, given, woken, back, can_be_ready, on_ready, on_waits}
+use Rattle.system_meaning.specs.Whole.{IsSystem}
 use Rattle.turn_laws.specs.Own.{own_of}
 use Rattle.turn_laws.specs.Others.{Reaches, sends, called_it, called_one}
 use Rattle.turn_laws.specs.Waits.{AreOrderly, IsFree}

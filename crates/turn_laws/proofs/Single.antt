@@ -4,17 +4,17 @@ use Rattle.std.specs.Prelude.{option_map}
 use Rattle.std.proofs.lemmas.Bool.{false≢true, or_left, or_right}
 use Rattle.std.proofs.lemmas.List.Folds.{list_any-append}
 use Rattle.std.proofs.lemmas.Option.{none-some}
-use Rattle.task_numbers.specs.declared.number.TaskNo.{TaskNo}
-use Rattle.task_numbers.specs.Numbers.{is_task}
+use Rattle.turn_laws.specs.Below.task_numbers.specs.declared.number.TaskNo.{TaskNo}
+use Rattle.turn_laws.specs.Below.task_numbers.specs.Numbers.{is_task}
 use Rattle.eu_base.specs.declared.request.Request.{Request}
 use Rattle.eu_base.specs.Requests.{Answer, then_asked}
 use Rattle.elan_types.specs.Eval.{World}
 use Rattle.elan_types.specs.Command.{Ending, Ended, Stopped, OutOfMarks, Asks, evaluate}
-use Rattle.message_wait.specs.Rendezvous.{Waits}
-use Rattle.slicer.specs.Rotation as rotation
-use Rattle.task_tree.specs.Tree as tree
-use Rattle.source_machine.specs.Tasks.{Command, Doing, Idle, Entering, Running, Own, ending, spent, with_doing, with_reply, replied, is_running}
-use Rattle.source_machine.specs.Systems.{Shared, System, own, doing, requested, changed, does, given, woken, back, can_be_ready, on_ready}
+use Rattle.turn_laws.specs.Below.message_wait.specs.Rendezvous.{Waits}
+use Rattle.turn_laws.specs.Below.slicer.specs.Rotation as rotation
+use Rattle.turn_laws.specs.Below.task_tree.specs.Tree as tree
+use Rattle.system_meaning.specs.Tasks.{Command, Doing, Idle, Entering, Running, Own, ending, spent, with_doing, with_reply, replied, is_running}
+use Rattle.system_meaning.specs.Systems.{Shared, System, own, doing, requested, changed, does, given, woken, back, can_be_ready, on_ready}
 use Rattle.turn_laws.specs.Steady.{AreSteady}
 use Rattle.turn_laws.proofs.Found.{same_task, itself}
 use Rattle.turn_laws.proofs.Steps.{own_changed}

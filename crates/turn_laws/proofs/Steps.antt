@@ -11,32 +11,32 @@ use Rattle.std.proofs.lemmas.List.Quantifiers.{all_pairs_push}
 use Rattle.std.proofs.lemmas.List.Sums.{length-filter, count_by-le-length}
 use Rattle.std.proofs.lemmas.Map.Views.{any-filter_same}
 use Rattle.std.proofs.lemmas.Option.{none-some}
-use Rattle.task_numbers.specs.declared.number.TaskNo.{TaskNo}
-use Rattle.task_numbers.specs.Numbers.{is_task}
-use Rattle.elan_names.specs.declared.interface.Interface.{Interface}
-use Rattle.elan_scope.specs.declared.env.Env.{Env}
-use Rattle.task_tree.specs.declared.task.Task.{Task}
-use Rattle.task_tree.specs.Tree as tree
-use Rattle.task_tree.specs.Tree.{Tree, has_number}
-use Rattle.task_tree.specs.Trees.{IsTree, IsYounger}
-use Rattle.task_tree.specs.Ends.{CanEnd}
-use Rattle.task_tree.proofs.Ending.{ended_stays}
-use Rattle.slicer.specs.Rotation.{IsRotation}
-use Rattle.slicer.specs.Rotation as rotation
-use Rattle.message_wait.specs.Rendezvous.{Waits}
-use Rattle.message_wait.specs.Rendezvous as rendezvous
-use Rattle.terminals.specs.Channels.{Channel}
-use Rattle.terminals.specs.Channels as channels
-use Rattle.terminals.specs.Couplings.{IsOneToOne}
-use Rattle.terminals.proofs.Coupling.{coupled_one_to_one}
-use Rattle.source_machine.specs.Below.units.specs.declared.unit.Compiled.{Compiled}
-use Rattle.source_machine.specs.Below.units.specs.Library.{Library, env_of}
+use Rattle.turn_laws.specs.Below.task_numbers.specs.declared.number.TaskNo.{TaskNo}
+use Rattle.turn_laws.specs.Below.task_numbers.specs.Numbers.{is_task}
+use Rattle.turn_laws.specs.Below.elan_names.specs.declared.interface.Interface.{Interface}
+use Rattle.turn_laws.specs.Below.elan_scope.specs.declared.env.Env.{Env}
+use Rattle.turn_laws.specs.Below.task_tree.specs.declared.task.Task.{Task}
+use Rattle.turn_laws.specs.Below.task_tree.specs.Tree as tree
+use Rattle.turn_laws.specs.Below.task_tree.specs.Tree.{Tree, has_number}
+use Rattle.turn_laws.specs.Below.task_tree.specs.Trees.{IsTree, IsYounger}
+use Rattle.turn_laws.specs.Below.task_tree.specs.Ends.{CanEnd}
+use Rattle.turn_laws.specs.Below.task_tree.proofs.Ending.{ended_stays}
+use Rattle.turn_laws.specs.Below.slicer.specs.Rotation.{IsRotation}
+use Rattle.turn_laws.specs.Below.slicer.specs.Rotation as rotation
+use Rattle.turn_laws.specs.Below.message_wait.specs.Rendezvous.{Waits}
+use Rattle.turn_laws.specs.Below.message_wait.specs.Rendezvous as rendezvous
+use Rattle.turn_laws.specs.Below.terminals.specs.Channels.{Channel}
+use Rattle.turn_laws.specs.Below.terminals.specs.Channels as channels
+use Rattle.turn_laws.specs.Below.terminals.specs.Couplings.{IsOneToOne}
+use Rattle.turn_laws.specs.Below.terminals.proofs.Coupling.{coupled_one_to_one}
+use Rattle.turn_laws.specs.Below.units.specs.declared.unit.Compiled.{Compiled}
+use Rattle.turn_laws.specs.Below.units.specs.Library.{Library, env_of}
 use Rattle.eu_base.specs.Requests.{Answer}
-use Rattle.source_machine.specs.Tasks.{Doing, Own, with_doing, replied}
-use Rattle.source_machine.specs.Systems.{System, own, packets, packets_of, changed, does, given, woken, sharing, on_ready, on_waits, on_channels, back, can_be_ready}
-use Rattle.source_machine.specs.Ends.{begun, removed, removed_at, has_packet, without_packets}
-use Rattle.source_machine.specs.Monitor.{installed, with_packet, inserted}
-use Rattle.source_machine.specs.Whole.{AreGiven, AreAllGiven, IsSystem}
+use Rattle.system_meaning.specs.Tasks.{Doing, Own, with_doing, replied}
+use Rattle.system_meaning.specs.Systems.{System, own, packets, packets_of, changed, does, given, woken, sharing, on_ready, on_waits, on_channels, back, can_be_ready}
+use Rattle.system_meaning.specs.Ends.{begun, removed, removed_at, has_packet, without_packets}
+use Rattle.system_meaning.specs.Monitor.{installed, with_packet, inserted}
+use Rattle.system_meaning.specs.Whole.{AreGiven, AreAllGiven, IsSystem}
 use Rattle.turn_laws.specs.Own.{Whole, whole, own_of}
 use Rattle.turn_laws.proofs.Found.{place_in, place_is, own_found, none_found, some_found, found_has, changed_owns, changed_is, other_found, itself_found, length_changed, without_own, rest, behind_stay, pairs_behind, found_left, found_before, another}
 use Rattle.turn_laws.proofs.Envs.{env_before, installed_numbered, env_without, without_numbered, without_last}

@@ -4,16 +4,16 @@ use Rattle.std.specs.List.{flat_map, list_any}
 use Rattle.std.proofs.lemmas.Bool.{false≢true, cases_lt, ne_eqb}
 use Rattle.std.proofs.lemmas.List.Elements.{recursion_from_All}
 use Rattle.std.proofs.lemmas.Option.{none-some, same_Some}
-use Rattle.task_numbers.specs.declared.limits.TheConstants.{TASKS}
-use Rattle.task_numbers.specs.declared.number.TaskNo.{TaskNo}
-use Rattle.task_numbers.specs.Numbers.{is_task}
+use Rattle.turn_laws.specs.Below.task_numbers.specs.declared.limits.TheConstants.{TASKS}
+use Rattle.turn_laws.specs.Below.task_numbers.specs.declared.number.TaskNo.{TaskNo}
+use Rattle.turn_laws.specs.Below.task_numbers.specs.Numbers.{is_task}
 use Rattle.eu_base.specs.declared.request.Request.{Request}
 use Rattle.eu_base.specs.declared.request.Request.TheVariants.{Begin, End}
-use Rattle.task_tree.specs.declared.task.Task.{Task}
-use Rattle.task_tree.specs.Tree.{Tree, has_number, with_number, lives, sons, next, begun, ended, task}
-use Rattle.task_tree.specs.Trees.{IsTree, IsGiven, IsYoungerThanFather}
-use Rattle.task_tree.specs.Families.{descent, family}
-use Rattle.source_machine.specs.Serving.{named_or}
+use Rattle.turn_laws.specs.Below.task_tree.specs.declared.task.Task.{Task}
+use Rattle.turn_laws.specs.Below.task_tree.specs.Tree.{Tree, has_number, with_number, lives, sons, next, begun, ended, task}
+use Rattle.turn_laws.specs.Below.task_tree.specs.Trees.{IsTree, IsGiven, IsYoungerThanFather}
+use Rattle.turn_laws.specs.Below.task_tree.specs.Families.{descent, family}
+use Rattle.system_meaning.specs.Serving.{named_or}
 use Rattle.turn_laws.proofs.Found.{same_task}
 use Rattle.turn_laws.proofs.Finding.{Son, has, living, find_holds, number_is, some_lives, find_rest, find_gone, find_before, find_last, sons_are, is_son, in_one, in_first, in_all, is_last, is_one, part, from, from-le-length, fewer_beyond}
 

@@ -4,19 +4,19 @@ use Rattle.std.specs.Prelude.{option_map, option_and_then}
 use Rattle.std.specs.List.{list_any}
 use Rattle.std.proofs.lemmas.Bool.{or_left}
 use Rattle.std.proofs.lemmas.Option.{none-some, same_Some}
-use Rattle.task_numbers.specs.declared.number.TaskNo.{TaskNo}
+use Rattle.turn_laws.specs.Below.task_numbers.specs.declared.number.TaskNo.{TaskNo}
 use Rattle.eu_base.specs.declared.request.Request.{Request}
 use Rattle.eu_base.specs.declared.request.Request.TheVariants as requests
 use Rattle.eu_base.specs.Requests.{Answer, then_asked}
 use Rattle.elan_types.specs.Eval.{World}
 use Rattle.elan_types.specs.Command.{Ending, OutOfMarks, Asks, evaluate}
-use Rattle.slicer.specs.Rotation as rotation
-use Rattle.source_machine.specs.Stores.{Store}
-use Rattle.source_machine.specs.Tasks.{Command, Doing, Idle, Running, Own, ending, spent, command_of, with_doing, with_reply, replied}
-use Rattle.source_machine.specs.Tasks as tasks
-use Rattle.source_machine.specs.Systems.{Shared, System, Moment, own, doing, command, does, given, back, on_system}
-use Rattle.source_machine.specs.Serving.{Served, Replies, Rests, serve}
-use Rattle.source_machine.specs.Whole.{IsSystem}
+use Rattle.turn_laws.specs.Below.slicer.specs.Rotation as rotation
+use Rattle.system_meaning.specs.Stores.{Store}
+use Rattle.system_meaning.specs.Tasks.{Command, Doing, Idle, Running, Own, ending, spent, command_of, with_doing, with_reply, replied}
+use Rattle.system_meaning.specs.Tasks as tasks
+use Rattle.system_meaning.specs.Systems.{Shared, System, Moment, own, doing, command, does, given, back, on_system}
+use Rattle.system_meaning.specs.Serving.{Served, Replies, Rests, serve}
+use Rattle.system_meaning.specs.Whole.{IsSystem}
 use Rattle.turn_laws.specs.Steady.{AreSteady}
 use Rattle.turn_laws.specs.Own.{own_of}
 use Rattle.turn_laws.specs.Waits.{HasTurn, AsksAnswer}

@@ -2,12 +2,12 @@
 use Rattle.std.proofs.Common.{◌≡◌, ◌≤◌, List, [], ◌∷◌, sym, subst}
 use Rattle.std.specs.List.{list_any}
 use Rattle.std.proofs.lemmas.Bool.{or_left}
-use Rattle.task_numbers.specs.declared.number.TaskNo.{TaskNo}
+use Rattle.turn_laws.specs.Below.task_numbers.specs.declared.number.TaskNo.{TaskNo}
 use Rattle.eu_base.specs.declared.request.Request.{Request}
-use Rattle.source_machine.specs.Tasks.{Running, spent}
-use Rattle.source_machine.specs.Systems.{System, Moment, does, given, on_ready, on_system}
-use Rattle.source_machine.specs.Serving.{Served, Replies, Rests, serve}
-use Rattle.source_machine.specs.Whole.{IsSystem, AreWaits}
+use Rattle.system_meaning.specs.Tasks.{Running, spent}
+use Rattle.system_meaning.specs.Systems.{System, Moment, does, given, on_ready, on_system}
+use Rattle.system_meaning.specs.Serving.{Served, Replies, Rests, serve}
+use Rattle.system_meaning.specs.Whole.{IsSystem, AreWaits}
 use Rattle.turn_laws.specs.Steady.{AreSteady}
 use Rattle.turn_laws.specs.Waits.{AreOrderly, HasTurn, Asking, GoesOn}
 use Rattle.turn_laws.proofs.Finding.{living}

@@ -5,9 +5,9 @@ use Rattle.std.specs.Prelude.{option_and_then, is_none, nat_le}
 use Rattle.std.specs.List.{AllByRecursion, list_any}
 use Rattle.std.proofs.lemmas.Bool.{false≢true, and_parts, or_left, or_right, leb-false, eq-eqb}
 use Rattle.std.proofs.lemmas.Option.{none-some}
-use Rattle.task_numbers.specs.declared.limits.TheConstants.{TASKS}
-use Rattle.task_numbers.specs.declared.number.TaskNo.{TaskNo}
-use Rattle.task_numbers.specs.Numbers.{is_nil, is_task}
+use Rattle.turn_laws.specs.Below.task_numbers.specs.declared.limits.TheConstants.{TASKS}
+use Rattle.turn_laws.specs.Below.task_numbers.specs.declared.number.TaskNo.{TaskNo}
+use Rattle.turn_laws.specs.Below.task_numbers.specs.Numbers.{is_nil, is_task}
 use Rattle.eu_base.specs.declared.stop.Stop.{Stop}
 use Rattle.eu_base.specs.declared.stop.Stop.TheVariants.{Halted, BadName}
 use Rattle.eu_base.specs.Stops.{stop_text}
@@ -16,40 +16,40 @@ use Rattle.eu_base.specs.declared.request.Request.TheVariants.{Out, Input}
 use Rattle.eu_base.specs.declared.request.Reply.TheVariants.{Done, Text}
 use Rattle.eu_base.specs.Requests.{Answer, plain, then_asked}
 use Rattle.elan_tree.specs.declared.token.Word.{Word}
-use Rattle.elan_scope.specs.declared.env.Env.{Env}
-use Rattle.message_wait.specs.Rendezvous.{Waits, is_waiting}
-use Rattle.message_wait.specs.Rendezvous as rendezvous
-use Rattle.message_wait.specs.declared.waits.Caller.{Caller}
-use Rattle.message_wait.specs.declared.waits.Receiver.{Receiver}
-use Rattle.monitor.specs.Commands.{command_of}
-use Rattle.monitor.specs.declared.commands.Command.{Command as Said}
-use Rattle.monitor.specs.declared.commands.Command.TheVariants as said
-use Rattle.session_text.specs.declared.events.Event.{Event}
-use Rattle.session_text.specs.declared.events.Event.TheVariants.{Line, Supervisor, Turns, Fixpoint, Shut}
-use Rattle.slicer.specs.Rotation as rotation
-use Rattle.task_tree.specs.Tree as tree
-use Rattle.task_tree.specs.Tree.{Tree, has_number, has_name, number_of}
-use Rattle.task_tree.specs.declared.refusal.BeginError.{BeginError}
-use Rattle.task_tree.specs.declared.refusal.BeginError.TheVariants.{NameTaken, TreeFull}
-use Rattle.task_tree.specs.declared.task.Task.{Task}
-use Rattle.task_tree.proofs.Growing.{begun_is_tree}
-use Rattle.terminals.specs.Channels.{Channel, unused, is_queue_full, with_line}
-use Rattle.terminals.specs.Channels as channels
-use Rattle.terminals.specs.Couplings.{task_at, IsOneToOne}
-use Rattle.terminals.proofs.Coupling.{coupled_one_to_one, at_none}
-use Rattle.source_machine.specs.Stores.{Store, is_name, heir}
-use Rattle.source_machine.specs.Tasks.{Command, Doing, Idle, Entering, Running, ending, world_of, store_in, request_of, is_running}
-use Rattle.source_machine.specs.Tasks as tasks
-use Rattle.source_machine.specs.Systems.{System, Moment, doing, requested, runs, kept, does, woken, can_couple, couple, on_system, on_ready, on_waits, on_channels, uncouple, say, at_event, supervisor_prompt}
-use Rattle.source_machine.specs.Ends.{number_refusal, next, begun}
-use Rattle.source_machine.specs.Serving.{input, line_taken}
-use Rattle.source_machine.specs.Monitor.{Reading}
-use Rattle.source_machine.specs.Monitor as monitor
-use Rattle.source_machine.specs.Turns.{turn, turns}
-use Rattle.source_machine.specs.Supervisor.{father_refusal, begin_refusal, begin_unless, resumed, continued, unless, told, halted_by, halted, supervised, worded, called}
-use Rattle.source_machine.specs.Supervisor as supervisor
-use Rattle.source_machine.specs.Events.{answered, awaited, queued, line_for, line_at, happens, after, run}
-use Rattle.source_machine.specs.Whole.{IsSystem}
+use Rattle.turn_laws.specs.Below.elan_scope.specs.declared.env.Env.{Env}
+use Rattle.turn_laws.specs.Below.message_wait.specs.Rendezvous.{Waits, is_waiting}
+use Rattle.turn_laws.specs.Below.message_wait.specs.Rendezvous as rendezvous
+use Rattle.turn_laws.specs.Below.message_wait.specs.declared.waits.Caller.{Caller}
+use Rattle.turn_laws.specs.Below.message_wait.specs.declared.waits.Receiver.{Receiver}
+use Rattle.turn_laws.specs.Below.monitor.specs.Commands.{command_of}
+use Rattle.turn_laws.specs.Below.monitor.specs.declared.commands.Command.{Command as Said}
+use Rattle.turn_laws.specs.Below.monitor.specs.declared.commands.Command.TheVariants as said
+use Rattle.turn_laws.specs.Below.session_text.specs.declared.events.Event.{Event}
+use Rattle.turn_laws.specs.Below.session_text.specs.declared.events.Event.TheVariants.{Line, Supervisor, Turns, Fixpoint, Shut}
+use Rattle.turn_laws.specs.Below.slicer.specs.Rotation as rotation
+use Rattle.turn_laws.specs.Below.task_tree.specs.Tree as tree
+use Rattle.turn_laws.specs.Below.task_tree.specs.Tree.{Tree, has_number, has_name, number_of}
+use Rattle.turn_laws.specs.Below.task_tree.specs.declared.refusal.BeginError.{BeginError}
+use Rattle.turn_laws.specs.Below.task_tree.specs.declared.refusal.BeginError.TheVariants.{NameTaken, TreeFull}
+use Rattle.turn_laws.specs.Below.task_tree.specs.declared.task.Task.{Task}
+use Rattle.turn_laws.specs.Below.task_tree.proofs.Growing.{begun_is_tree}
+use Rattle.turn_laws.specs.Below.terminals.specs.Channels.{Channel, unused, is_queue_full, with_line}
+use Rattle.turn_laws.specs.Below.terminals.specs.Channels as channels
+use Rattle.turn_laws.specs.Below.terminals.specs.Couplings.{task_at, IsOneToOne}
+use Rattle.turn_laws.specs.Below.terminals.proofs.Coupling.{coupled_one_to_one, at_none}
+use Rattle.system_meaning.specs.Stores.{Store, is_name, heir}
+use Rattle.system_meaning.specs.Tasks.{Command, Doing, Idle, Entering, Running, ending, world_of, store_in, request_of, is_running}
+use Rattle.system_meaning.specs.Tasks as tasks
+use Rattle.system_meaning.specs.Systems.{System, Moment, doing, requested, runs, kept, does, woken, can_couple, couple, on_system, on_ready, on_waits, on_channels, uncouple, say, at_event, supervisor_prompt}
+use Rattle.system_meaning.specs.Ends.{number_refusal, next, begun}
+use Rattle.system_meaning.specs.Serving.{input, line_taken}
+use Rattle.system_meaning.specs.Monitor.{Reading}
+use Rattle.system_meaning.specs.Monitor as monitor
+use Rattle.system_meaning.specs.Turns.{turn, turns}
+use Rattle.system_meaning.specs.Supervisor.{father_refusal, begin_refusal, begin_unless, resumed, continued, unless, told, halted_by, halted, supervised, worded, called}
+use Rattle.system_meaning.specs.Supervisor as supervisor
+use Rattle.system_meaning.specs.Events.{answered, awaited, queued, line_for, line_at, happens, after, run}
+use Rattle.system_meaning.specs.Whole.{IsSystem}
 use Rattle.turn_laws.specs.Steady.{AreSteady}
 use Rattle.turn_laws.specs.Waits.{IsFree, AreOrderly}
 use Rattle.turn_laws.proofs.Finding.{living}

@@ -1,27 +1,27 @@
 -- A task takes lines, and its command comes to an end: what the steps keep this keeps.
 use Rattle.std.proofs.Common.{◌≡◌, ℕ, zero, suc, ◌+◌, Bool, true, false, List, [], ◌∷◌, ◌++◌, length, Option, Some, None, refl, ap, ◌∙◌, if◌then◌else◌}
 use Rattle.std.specs.Prelude.{option_map, nat_le, codes}
-use Rattle.task_numbers.specs.declared.number.TaskNo.{TaskNo}
+use Rattle.turn_laws.specs.Below.task_numbers.specs.declared.number.TaskNo.{TaskNo}
 use Rattle.eu_base.specs.declared.stop.Stop.{Stop}
 use Rattle.eu_base.specs.declared.stop.Stop.TheVariants.{ManyPackets, NoName}
 use Rattle.eu_base.specs.Stops.{stop_text}
-use Rattle.elan_names.specs.declared.interface.Interface.{Interface}
-use Rattle.elan_scope.specs.declared.env.Env.{Env}
+use Rattle.turn_laws.specs.Below.elan_names.specs.declared.interface.Interface.{Interface}
+use Rattle.turn_laws.specs.Below.elan_scope.specs.declared.env.Env.{Env}
 use Rattle.elan_tree.specs.declared.token.Word.{Word}
-use Rattle.monitor.specs.Forms.{form_of}
-use Rattle.monitor.specs.declared.commands.Form.{Form}
-use Rattle.monitor.specs.declared.commands.Form.TheVariants as forms
-use Rattle.terminals.specs.Channels as channels
-use Rattle.terminals.specs.declared.channel.TheConstants.{QUEUED_LINES}
-use Rattle.source_machine.specs.Below.units.specs.declared.unit.Compiled.{Compiled}
-use Rattle.source_machine.specs.Below.units.specs.Library.{env_of}
+use Rattle.turn_laws.specs.Below.monitor.specs.Forms.{form_of}
+use Rattle.turn_laws.specs.Below.monitor.specs.declared.commands.Form.{Form}
+use Rattle.turn_laws.specs.Below.monitor.specs.declared.commands.Form.TheVariants as forms
+use Rattle.turn_laws.specs.Below.terminals.specs.Channels as channels
+use Rattle.turn_laws.specs.Below.terminals.specs.declared.channel.TheConstants.{QUEUED_LINES}
+use Rattle.turn_laws.specs.Below.units.specs.declared.unit.Compiled.{Compiled}
+use Rattle.turn_laws.specs.Below.units.specs.Library.{env_of}
 use Rattle.eu_base.specs.DataSpaces.{Space}
-use Rattle.source_machine.specs.Below.units.specs.Sources.{source_space, source_text, most_lines}
-use Rattle.source_machine.specs.Stores.{Store, space_under, with_named, entering_refusal, tidied}
-use Rattle.source_machine.specs.Tasks.{Command, Doing, Idle, Entering, Running, Own, settled, own_variables, is_running}
-use Rattle.source_machine.specs.Systems.{System, Moment, own, doing, runs, kept, packets, does, sharing, on_channels, on_system, say_at, tell, prompt}
-use Rattle.source_machine.specs.Monitor as monitor
-use Rattle.source_machine.specs.Monitor.{Reading, Compiles, Refuses, prompted, answered, started, run_read, enter_unless, names_told, directory_of, entered_line, settle, tidy, inserted, installed, with_packet, is_full, words_of}
+use Rattle.turn_laws.specs.Below.units.specs.Sources.{source_space, source_text, most_lines}
+use Rattle.system_meaning.specs.Stores.{Store, space_under, with_named, entering_refusal, tidied}
+use Rattle.system_meaning.specs.Tasks.{Command, Doing, Idle, Entering, Running, Own, settled, own_variables, is_running}
+use Rattle.system_meaning.specs.Systems.{System, Moment, own, doing, runs, kept, packets, does, sharing, on_channels, on_system, say_at, tell, prompt}
+use Rattle.system_meaning.specs.Monitor as monitor
+use Rattle.system_meaning.specs.Monitor.{Reading, Compiles, Refuses, prompted, answered, started, run_read, enter_unless, names_told, directory_of, entered_line, settle, tidy, inserted, installed, with_packet, is_full, words_of}
 use Rattle.turn_laws.proofs.Steps.{own_changed}
 use Rattle.turn_laws.proofs.Single.{changed_doing}
 

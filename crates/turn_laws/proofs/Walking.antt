@@ -4,33 +4,33 @@ use Rattle.std.specs.Prelude.{option_map, option_and_then, length, nat_le, codes
 use Rattle.std.specs.List.{AllByRecursion}
 use Rattle.std.proofs.lemmas.Bool.{false≢true}
 use Rattle.std.proofs.lemmas.Option.{none-some}
-use Rattle.task_numbers.specs.declared.number.TaskNo.{TaskNo}
+use Rattle.turn_laws.specs.Below.task_numbers.specs.declared.number.TaskNo.{TaskNo}
 use Rattle.eu_base.specs.declared.stop.Stop.{Stop}
 use Rattle.eu_base.specs.declared.stop.Stop.TheVariants.{ManyPackets, NoName}
 use Rattle.eu_base.specs.Stops.{stop_text}
 use Rattle.eu_base.specs.declared.request.Request.{Request}
-use Rattle.elan_names.specs.declared.interface.Interface.{Interface}
-use Rattle.elan_scope.specs.declared.env.Env.{Env}
+use Rattle.turn_laws.specs.Below.elan_names.specs.declared.interface.Interface.{Interface}
+use Rattle.turn_laws.specs.Below.elan_scope.specs.declared.env.Env.{Env}
 use Rattle.elan_types.specs.Eval.{World}
 use Rattle.elan_types.specs.Command.{Ending, Ended, Stopped, OutOfMarks, Asks}
 use Rattle.elan_tree.specs.declared.token.Word.{Word}
-use Rattle.monitor.specs.Forms.{form_of}
-use Rattle.monitor.specs.declared.commands.Form.{Form}
-use Rattle.monitor.specs.declared.commands.Form.TheVariants as forms
-use Rattle.terminals.specs.Channels as channels
-use Rattle.terminals.specs.declared.channel.TheConstants.{QUEUED_LINES}
-use Rattle.source_machine.specs.Below.units.specs.Packets.{nothing}
-use Rattle.source_machine.specs.Below.units.specs.declared.unit.Compiled.{Compiled}
-use Rattle.source_machine.specs.Below.units.specs.Library.{Library, env_of}
+use Rattle.turn_laws.specs.Below.monitor.specs.Forms.{form_of}
+use Rattle.turn_laws.specs.Below.monitor.specs.declared.commands.Form.{Form}
+use Rattle.turn_laws.specs.Below.monitor.specs.declared.commands.Form.TheVariants as forms
+use Rattle.turn_laws.specs.Below.terminals.specs.Channels as channels
+use Rattle.turn_laws.specs.Below.terminals.specs.declared.channel.TheConstants.{QUEUED_LINES}
+use Rattle.turn_laws.specs.Below.units.specs.Packets.{nothing}
+use Rattle.turn_laws.specs.Below.units.specs.declared.unit.Compiled.{Compiled}
+use Rattle.turn_laws.specs.Below.units.specs.Library.{Library, env_of}
 use Rattle.eu_base.specs.DataSpaces.{Space}
-use Rattle.source_machine.specs.Below.units.specs.Sources.{source_space, source_text, most_lines}
-use Rattle.source_machine.specs.Stores.{Store, space_under, with_named, entering_refusal, tidied}
-use Rattle.source_machine.specs.Tasks.{Command, Doing, Idle, Entering, Running, Own, starting, store_in, settled, own_variables, ending, spent, with_doing, is_running, command_of}
-use Rattle.source_machine.specs.Systems.{System, Moment, own, doing, runs, command, kept, kept_by, packets, packets_of, does, given, on_channels, on_system, back, say, say_at, tell, prompt}
-use Rattle.source_machine.specs.Serving.{Served, Replies, Rests, serve}
-use Rattle.source_machine.specs.Monitor as monitor
-use Rattle.source_machine.specs.Monitor.{Reading, Compiles, Refuses, prompted, answered, started, run_read, enter_unless, names_told, directory_of, entered_line, settle, tidy, inserted, is_full, installed, words_of}
-use Rattle.source_machine.specs.Turns.{served, went, went_on, slice}
+use Rattle.turn_laws.specs.Below.units.specs.Sources.{source_space, source_text, most_lines}
+use Rattle.system_meaning.specs.Stores.{Store, space_under, with_named, entering_refusal, tidied}
+use Rattle.system_meaning.specs.Tasks.{Command, Doing, Idle, Entering, Running, Own, starting, store_in, settled, own_variables, ending, spent, with_doing, is_running, command_of}
+use Rattle.system_meaning.specs.Systems.{System, Moment, own, doing, runs, command, kept, kept_by, packets, packets_of, does, given, on_channels, on_system, back, say, say_at, tell, prompt}
+use Rattle.system_meaning.specs.Serving.{Served, Replies, Rests, serve}
+use Rattle.system_meaning.specs.Monitor as monitor
+use Rattle.system_meaning.specs.Monitor.{Reading, Compiles, Refuses, prompted, answered, started, run_read, enter_unless, names_told, directory_of, entered_line, settle, tidy, inserted, is_full, installed, words_of}
+use Rattle.system_meaning.specs.Turns.{served, went, went_on, slice}
 use Rattle.turn_laws.specs.Own.{Whole, whole, own_of}
 use Rattle.turn_laws.specs.Told.{Told, Inserted, told_over, told_served, told_by, told_on, told, asked_served, asked_by, asked_on, asked}
 use Rattle.turn_laws.proofs.Steps.{own_in, library_changed}

@@ -1,12 +1,12 @@
 -- Each event leaves a valid system valid.
 use Rattle.std.proofs.Common.{ℕ, Bool, List, [], ◌∷◌}
-use Rattle.elan_scope.specs.declared.env.Env.{Env}
-use Rattle.session_text.specs.declared.events.Event.{Event}
-use Rattle.source_machine.specs.Systems.{System, Moment}
-use Rattle.source_machine.specs.Monitor.{Reading}
+use Rattle.turn_laws.specs.Below.elan_scope.specs.declared.env.Env.{Env}
+use Rattle.turn_laws.specs.Below.session_text.specs.declared.events.Event.{Event}
+use Rattle.system_meaning.specs.Systems.{System, Moment}
+use Rattle.system_meaning.specs.Monitor.{Reading}
 use Rattle.packet_store.specs.Readings.{IsReading}
-use Rattle.source_machine.specs.Turns.{turn}
-use Rattle.source_machine.specs.Events.{after, run}
+use Rattle.system_meaning.specs.Turns.{turn}
+use Rattle.system_meaning.specs.Events.{after, run}
 use Rattle.turn_laws.specs.Steady.{AreSteady}
 use Rattle.turn_laws.proofs.Beside.{turn_keeps}
 use Rattle.turn_laws.proofs.WaitingEvents.{event_keeps}

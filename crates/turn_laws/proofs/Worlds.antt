@@ -8,9 +8,9 @@ use Rattle.std.proofs.lemmas.Bool.{false≢true, and_parts, or_left, or_right, t
 use Rattle.std.proofs.lemmas.List.Folds.{list_any-append}
 use Rattle.std.proofs.lemmas.List.Sums.{fold-append}
 use Rattle.std.proofs.lemmas.Option.{none-some, same_Some}
-use Rattle.task_numbers.specs.declared.limits.TheConstants.{TASKS}
-use Rattle.task_numbers.specs.declared.number.TaskNo.{TaskNo}
-use Rattle.task_numbers.specs.Numbers.{is_nil, is_task}
+use Rattle.turn_laws.specs.Below.task_numbers.specs.declared.limits.TheConstants.{TASKS}
+use Rattle.turn_laws.specs.Below.task_numbers.specs.declared.number.TaskNo.{TaskNo}
+use Rattle.turn_laws.specs.Below.task_numbers.specs.Numbers.{is_nil, is_task}
 use Rattle.eu_base.specs.declared.stop.Stop.{Stop}
 use Rattle.eu_base.specs.declared.request.Request.{Request}
 use Rattle.eu_base.specs.declared.request.Request.TheVariants.{Out, Input, Begin, End, Myself, Father, Son, Brother, Named, Name, Exists, Break, Send, Wait, Call}
@@ -19,29 +19,29 @@ use Rattle.eu_base.specs.declared.request.Reply.TheVariants.{Done, Taken, Receip
 use Rattle.eu_base.specs.DataSpaces.{Space, heads_of}
 use Rattle.eu_base.specs.SpaceOperations.{room_refusal}
 use Rattle.eu_base.specs.Requests.{Answer, plain}
-use Rattle.elan_scope.specs.declared.env.Env.{Env}
-use Rattle.message_wait.specs.declared.waits.Caller.{Caller}
-use Rattle.message_wait.specs.declared.waits.Receiver.{Receiver}
-use Rattle.message_wait.specs.declared.waits.Offer.TheVariants as offers
-use Rattle.message_wait.specs.Rendezvous.{Waits, is_waiting, is_ready, is_open, takes_from, received, first_call}
-use Rattle.message_wait.specs.Rendezvous as rendezvous
-use Rattle.task_tree.specs.Tree as tree
-use Rattle.task_tree.specs.Tree.{Tree, sons}
-use Rattle.task_tree.specs.Trees.{IsTree}
-use Rattle.task_tree.specs.Families.{descent, family}
-use Rattle.task_tree.specs.Ends.{EndInTurn}
-use Rattle.terminals.specs.Channels.{channel, channel_of}
-use Rattle.session_text.specs.Display.{unfinished_at, close_all}
-use Rattle.source_machine.specs.Below.units.specs.declared.unit.Compiled.{Compiled}
-use Rattle.source_machine.specs.Below.units.specs.Library.{started_at}
-use Rattle.source_machine.specs.Stores.{heir}
-use Rattle.source_machine.specs.Tasks.{Running, Own, starting, spent, with_doing, replied}
-use Rattle.source_machine.specs.Systems.{Shared, System, Moment, packets, kept, changed, does, given, woken, on_ready, on_waits, on_system, on_display, uncouple_at}
-use Rattle.source_machine.specs.Ends.{next, begun, ended, ended_with_descendants}
-use Rattle.source_machine.specs.Serving.{Served, Replies, Rests, put, line_taken, input, son_begins, begin_with, begin_refusal, is_first, may_end, end_allowed, end_living, named_or, number, content, message, handed, sent, caller, send_to, send_living, call_living, space_refusal, call_refusal, unless_stopped, answering, call_taken, awaits, serve}
-use Rattle.source_machine.specs.Monitor.{Reading}
-use Rattle.source_machine.specs.Turns.{turn, turn_of, turn_marks, most_evaluations}
-use Rattle.source_machine.specs.Whole.{IsSystem}
+use Rattle.turn_laws.specs.Below.elan_scope.specs.declared.env.Env.{Env}
+use Rattle.turn_laws.specs.Below.message_wait.specs.declared.waits.Caller.{Caller}
+use Rattle.turn_laws.specs.Below.message_wait.specs.declared.waits.Receiver.{Receiver}
+use Rattle.turn_laws.specs.Below.message_wait.specs.declared.waits.Offer.TheVariants as offers
+use Rattle.turn_laws.specs.Below.message_wait.specs.Rendezvous.{Waits, is_waiting, is_ready, is_open, takes_from, received, first_call}
+use Rattle.turn_laws.specs.Below.message_wait.specs.Rendezvous as rendezvous
+use Rattle.turn_laws.specs.Below.task_tree.specs.Tree as tree
+use Rattle.turn_laws.specs.Below.task_tree.specs.Tree.{Tree, sons}
+use Rattle.turn_laws.specs.Below.task_tree.specs.Trees.{IsTree}
+use Rattle.turn_laws.specs.Below.task_tree.specs.Families.{descent, family}
+use Rattle.turn_laws.specs.Below.task_tree.specs.Ends.{EndInTurn}
+use Rattle.turn_laws.specs.Below.terminals.specs.Channels.{channel, channel_of}
+use Rattle.turn_laws.specs.Below.session_text.specs.Display.{unfinished_at, close_all}
+use Rattle.turn_laws.specs.Below.units.specs.declared.unit.Compiled.{Compiled}
+use Rattle.turn_laws.specs.Below.units.specs.Library.{started_at}
+use Rattle.system_meaning.specs.Stores.{heir}
+use Rattle.system_meaning.specs.Tasks.{Running, Own, starting, spent, with_doing, replied}
+use Rattle.system_meaning.specs.Systems.{Shared, System, Moment, packets, kept, changed, does, given, woken, on_ready, on_waits, on_system, on_display, uncouple_at}
+use Rattle.system_meaning.specs.Ends.{next, begun, ended, ended_with_descendants}
+use Rattle.system_meaning.specs.Serving.{Served, Replies, Rests, put, line_taken, input, son_begins, begin_with, begin_refusal, is_first, may_end, end_allowed, end_living, named_or, number, content, message, handed, sent, caller, send_to, send_living, call_living, space_refusal, call_refusal, unless_stopped, answering, call_taken, awaits, serve}
+use Rattle.system_meaning.specs.Monitor.{Reading}
+use Rattle.system_meaning.specs.Turns.{turn, turn_of, turn_marks, most_evaluations}
+use Rattle.system_meaning.specs.Whole.{IsSystem}
 use Rattle.turn_laws.specs.Own.{own_of}
 use Rattle.turn_laws.specs.Told.{told_first, turn_told, asked}
 use Rattle.turn_laws.specs.Waits.{AreOrderly}

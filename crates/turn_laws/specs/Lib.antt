@@ -6,3 +6,4 @@ pub mod Worlds
 pub mod Waits
 pub mod Standing
 pub mod Valid
+pub mod Below

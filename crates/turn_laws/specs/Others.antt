@@ -3,12 +3,12 @@ use Rattle.std.specs.Prelude.{◌≡◌, ◌<◌, ◌⊎◌, ◌==◌, bytes_eq,
 use Rattle.std.specs.List.{list_any}
 use Rattle.eu_base.specs.declared.request.Request.{Request}
 use Rattle.eu_base.specs.declared.request.Request.TheVariants as requests
-use Rattle.task_numbers.specs.declared.number.TaskNo.{TaskNo}
-use Rattle.task_numbers.specs.Numbers.{is_task}
-use Rattle.task_tree.specs.Tree.{Tree, lives, father, name}
-use Rattle.task_tree.specs.Families.{family}
-use Rattle.source_machine.specs.Systems.{System, requested}
-use Rattle.source_machine.specs.Serving.{named_or}
+use Rattle.turn_laws.specs.Below.task_numbers.specs.declared.number.TaskNo.{TaskNo}
+use Rattle.turn_laws.specs.Below.task_numbers.specs.Numbers.{is_task}
+use Rattle.turn_laws.specs.Below.task_tree.specs.Tree.{Tree, lives, father, name}
+use Rattle.turn_laws.specs.Below.task_tree.specs.Families.{family}
+use Rattle.system_meaning.specs.Systems.{System, requested}
+use Rattle.system_meaning.specs.Serving.{named_or}
 use Rattle.turn_laws.specs.Own.{own_of}
 
 -- t is u, or a descendant of u

@@ -1,11 +1,11 @@
 -- All that is a task's own.
 use Rattle.std.specs.Prelude.{ℕ, List, Option, option_map}
-use Rattle.task_numbers.specs.declared.number.TaskNo.{TaskNo}
-use Rattle.elan_scope.specs.declared.env.Env.{Env}
-use Rattle.task_tree.specs.Tree as tree
-use Rattle.source_machine.specs.Below.units.specs.Library.{Library, env_of}
-use Rattle.source_machine.specs.Tasks.{Own}
-use Rattle.source_machine.specs.Systems.{System, own}
+use Rattle.turn_laws.specs.Below.task_numbers.specs.declared.number.TaskNo.{TaskNo}
+use Rattle.turn_laws.specs.Below.elan_scope.specs.declared.env.Env.{Env}
+use Rattle.turn_laws.specs.Below.task_tree.specs.Tree as tree
+use Rattle.turn_laws.specs.Below.units.specs.Library.{Library, env_of}
+use Rattle.system_meaning.specs.Tasks.{Own}
+use Rattle.system_meaning.specs.Systems.{System, own}
 
 -- its name; its packets with what they mean; and what it does, with what it keeps: the values of the variables of its packets, its data
 -- spaces, the last number that one of them got, and their names

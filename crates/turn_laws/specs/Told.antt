@@ -1,16 +1,16 @@
 -- What the system tells a task in its turn.
 use Rattle.std.specs.Prelude.{ℕ, zero, suc, ◌+◌, List, [], ◌∷◌, Option, Some, None, if◌then◌else◌}
-use Rattle.task_numbers.specs.declared.number.TaskNo.{TaskNo}
+use Rattle.turn_laws.specs.Below.task_numbers.specs.declared.number.TaskNo.{TaskNo}
 use Rattle.eu_base.specs.declared.request.Request.{Request}
 use Rattle.eu_base.specs.Requests.{Answer}
-use Rattle.elan_names.specs.declared.interface.Interface.{Interface}
+use Rattle.turn_laws.specs.Below.elan_names.specs.declared.interface.Interface.{Interface}
 use Rattle.elan_types.specs.Command.{Ending, Ended, Stopped, OutOfMarks, Asks}
-use Rattle.source_machine.specs.Below.units.specs.Library.{Library}
-use Rattle.source_machine.specs.Tasks.{Command, Running, ending, spent}
-use Rattle.source_machine.specs.Systems.{Moment, command, does, given, on_ready, on_system}
-use Rattle.source_machine.specs.Serving.{Served, Replies, Rests, serve}
-use Rattle.source_machine.specs.Monitor.{is_full}
-use Rattle.source_machine.specs.Turns.{turn_marks, most_evaluations}
+use Rattle.turn_laws.specs.Below.units.specs.Library.{Library}
+use Rattle.system_meaning.specs.Tasks.{Command, Running, ending, spent}
+use Rattle.system_meaning.specs.Systems.{Moment, command, does, given, on_ready, on_system}
+use Rattle.system_meaning.specs.Serving.{Served, Replies, Rests, serve}
+use Rattle.system_meaning.specs.Monitor.{is_full}
+use Rattle.system_meaning.specs.Turns.{turn_marks, most_evaluations}
 
 -- the answer to a request, with what stands in a data space that comes with it; and where an insertion comes to its end, the number that the packet gets, or that there is no room for it
 pub data Told : Type 0 where

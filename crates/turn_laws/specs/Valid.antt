@@ -1,28 +1,28 @@
 -- What a valid system is: all that a record of a system, and its revival, rest on.
 use Rattle.std.specs.Prelude.{◌≡◌, ◌≤◌, ◌<◌, ℕ, Bool, true, false, List, [], ◌∷◌, length, Some, None}
 use Rattle.std.specs.List.{AllByRecursion, list_any}
-use Rattle.task_numbers.specs.declared.limits.TheConstants.{LONGEST_LINE}
-use Rattle.task_numbers.specs.Numbers.{is_nil}
-use Rattle.task_tree.specs.declared.task.Task.{Task}
-use Rattle.task_tree.specs.Tree.{Tree, lives}
-use Rattle.terminals.specs.Channels.{Channel}
-use Rattle.terminals.specs.Couplings.{task_at}
-use Rattle.terminals.specs.declared.channel.TheConstants.{QUEUED_LINES}
-use Rattle.elan_scope.specs.declared.env.Env.{Env}
-use Rattle.session_text.specs.declared.events.Event.{Event}
-use Rattle.session_text.specs.declared.events.Event.TheVariants.{Line}
-use Rattle.source_machine.specs.Below.units.specs.Sources.{most_lines}
-use Rattle.source_machine.specs.Below.units.specs.Packets.{nothing}
-use Rattle.source_machine.specs.Below.units.specs.Library.{Live as Packet}
-use Rattle.source_machine.specs.Below.units.specs.declared.library.TheConstants.{PACKETS}
-use Rattle.source_machine.specs.Below.units.specs.declared.unit.Compiled.{Compiled}
-use Rattle.source_machine.specs.Below.units.specs.Library.{Library, IsLive, live_as, env_of, start_unit_behind}
-use Rattle.source_machine.specs.Stores.{is_name, entering_refusal, last_number}
-use Rattle.source_machine.specs.Tasks.{Doing, Entering, Running, Own}
-use Rattle.source_machine.specs.Systems.{System}
-use Rattle.source_machine.specs.Ends.{has_packet}
-use Rattle.source_machine.specs.Monitor.{Reading, Compiles}
-use Rattle.source_machine.specs.Whole.{IsSystem}
+use Rattle.turn_laws.specs.Below.task_numbers.specs.declared.limits.TheConstants.{LONGEST_LINE}
+use Rattle.turn_laws.specs.Below.task_numbers.specs.Numbers.{is_nil}
+use Rattle.turn_laws.specs.Below.task_tree.specs.declared.task.Task.{Task}
+use Rattle.turn_laws.specs.Below.task_tree.specs.Tree.{Tree, lives}
+use Rattle.turn_laws.specs.Below.terminals.specs.Channels.{Channel}
+use Rattle.turn_laws.specs.Below.terminals.specs.Couplings.{task_at}
+use Rattle.turn_laws.specs.Below.terminals.specs.declared.channel.TheConstants.{QUEUED_LINES}
+use Rattle.turn_laws.specs.Below.elan_scope.specs.declared.env.Env.{Env}
+use Rattle.turn_laws.specs.Below.session_text.specs.declared.events.Event.{Event}
+use Rattle.turn_laws.specs.Below.session_text.specs.declared.events.Event.TheVariants.{Line}
+use Rattle.turn_laws.specs.Below.units.specs.Sources.{most_lines}
+use Rattle.turn_laws.specs.Below.units.specs.Packets.{nothing}
+use Rattle.turn_laws.specs.Below.units.specs.Library.{Live as Packet}
+use Rattle.turn_laws.specs.Below.units.specs.declared.library.TheConstants.{PACKETS}
+use Rattle.turn_laws.specs.Below.units.specs.declared.unit.Compiled.{Compiled}
+use Rattle.turn_laws.specs.Below.units.specs.Library.{Library, IsLive, live_as, env_of, start_unit_behind}
+use Rattle.system_meaning.specs.Stores.{is_name, entering_refusal, last_number}
+use Rattle.system_meaning.specs.Tasks.{Doing, Entering, Running, Own}
+use Rattle.system_meaning.specs.Systems.{System}
+use Rattle.system_meaning.specs.Ends.{has_packet}
+use Rattle.system_meaning.specs.Monitor.{Reading, Compiles}
+use Rattle.system_meaning.specs.Whole.{IsSystem}
 use Rattle.turn_laws.specs.Waits.{AreOrderly}
 use Rattle.turn_laws.specs.Standing.{AllStand}
 

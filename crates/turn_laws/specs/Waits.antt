@@ -1,21 +1,21 @@
 -- What holds of the tasks that wait for messages, and of those that are ready, in each system that the opening system leads to.
 use Rattle.std.specs.Prelude.{◌≡◌, ◌⊎◌, ℕ, true, false, Some, None}
 use Rattle.std.specs.List.{AllByRecursion, list_any}
-use Rattle.task_numbers.specs.declared.number.TaskNo.{TaskNo}
-use Rattle.task_numbers.specs.Numbers.{is_task}
+use Rattle.turn_laws.specs.Below.task_numbers.specs.declared.number.TaskNo.{TaskNo}
+use Rattle.turn_laws.specs.Below.task_numbers.specs.Numbers.{is_task}
 use Rattle.eu_base.specs.declared.request.Request.{Request}
 use Rattle.eu_base.specs.declared.request.Request.TheVariants as requests
 use Rattle.eu_base.specs.DataSpaces.{heads_of, without_space}
 use Rattle.eu_base.specs.SpaceOperations.{room_refusal}
 use Rattle.elan_types.specs.Eval.{World}
 use Rattle.elan_types.specs.Command.{Asks, evaluate}
-use Rattle.message_wait.specs.declared.waits.Caller.{Caller}
-use Rattle.message_wait.specs.Rendezvous.{is_waiting}
-use Rattle.task_tree.specs.Tree.{lives}
-use Rattle.source_machine.specs.Tasks.{Command, Running, ending, spent}
-use Rattle.source_machine.specs.Systems.{System, Moment, requested, kept, command as own_command, does, given, on_system}
-use Rattle.source_machine.specs.Serving.{Served, Replies, Rests, space_number, number}
-use Rattle.source_machine.specs.Whole.{IsSystem, AreWaits}
+use Rattle.turn_laws.specs.Below.message_wait.specs.declared.waits.Caller.{Caller}
+use Rattle.turn_laws.specs.Below.message_wait.specs.Rendezvous.{is_waiting}
+use Rattle.turn_laws.specs.Below.task_tree.specs.Tree.{lives}
+use Rattle.system_meaning.specs.Tasks.{Command, Running, ending, spent}
+use Rattle.system_meaning.specs.Systems.{System, Moment, requested, kept, command as own_command, does, given, on_system}
+use Rattle.system_meaning.specs.Serving.{Served, Replies, Rests, space_number, number}
+use Rattle.system_meaning.specs.Whole.{IsSystem, AreWaits}
 
 -- ---- systems
 

@@ -1,10 +1,10 @@
 -- What a turn of a task depends on.
 use Rattle.std.specs.Prelude.{◌≡◌, ℕ, ◌==◌, List, [], ◌∷◌, filter, drop, length, Option, Some, None}
-use Rattle.task_numbers.specs.declared.number.TaskNo.{TaskNo}
-use Rattle.terminals.specs.Channels.{channel, channel_of}
-use Rattle.session_text.specs.declared.display.Piece.{Piece}
-use Rattle.session_text.specs.Display.{Display, unfinished_at}
-use Rattle.source_machine.specs.Systems.{Moment}
+use Rattle.turn_laws.specs.Below.task_numbers.specs.declared.number.TaskNo.{TaskNo}
+use Rattle.turn_laws.specs.Below.terminals.specs.Channels.{channel, channel_of}
+use Rattle.turn_laws.specs.Below.session_text.specs.declared.display.Piece.{Piece}
+use Rattle.turn_laws.specs.Below.session_text.specs.Display.{Display, unfinished_at}
+use Rattle.system_meaning.specs.Systems.{Moment}
 use Rattle.turn_laws.specs.Own.{own_of}
 
 -- the pieces of a channel

@@ -1,13 +1,13 @@
 //! Laws of isolation.
 ghost use Rattle.std.specs.Prelude.{◌≡◌, ◌∷◌, ℕ, Bool, List, length};
-ghost use Rattle.task_numbers.specs.declared.number.TaskNo.{TaskNo};
-ghost use Rattle.elan_scope.specs.declared.env.Env.{Env};
+ghost use Rattle.turn_laws.specs.Below.task_numbers.specs.declared.number.TaskNo.{TaskNo};
+ghost use Rattle.turn_laws.specs.Below.elan_scope.specs.declared.env.Env.{Env};
 ghost use Rattle.eu_base.specs.declared.request.Request.{Request};
-ghost use Rattle.source_machine.specs.Systems.{System, Moment, on_ready};
-ghost use Rattle.source_machine.specs.Serving.{serve};
-ghost use Rattle.source_machine.specs.Monitor.{Reading};
-ghost use Rattle.source_machine.specs.Turns.{turn};
-ghost use Rattle.source_machine.specs.Whole.{IsSystem, AreWaits};
+ghost use Rattle.system_meaning.specs.Systems.{System, Moment, on_ready};
+ghost use Rattle.system_meaning.specs.Serving.{serve};
+ghost use Rattle.system_meaning.specs.Monitor.{Reading};
+ghost use Rattle.system_meaning.specs.Turns.{turn};
+ghost use Rattle.system_meaning.specs.Whole.{IsSystem, AreWaits};
 ghost use Rattle.turn_laws.specs.Others.{OthersStay};
 ghost use Rattle.turn_laws.specs.Told.{turn_told, turn_asked};
 ghost use Rattle.turn_laws.specs.Waits.{AreOrderly, HasTurn, Asking, GoesOn};

@@ -1,13 +1,13 @@
 //! Laws of valid systems.
 ghost use Rattle.std.specs.Prelude.{ℕ, Bool, List};
-ghost use Rattle.elan_scope.specs.declared.env.Env.{Env};
-ghost use Rattle.session_text.specs.declared.events.Event.{Event};
-ghost use Rattle.source_machine.specs.Systems.{System, Moment, opening};
-ghost use Rattle.source_machine.specs.Monitor.{Reading};
+ghost use Rattle.turn_laws.specs.Below.elan_scope.specs.declared.env.Env.{Env};
+ghost use Rattle.turn_laws.specs.Below.session_text.specs.declared.events.Event.{Event};
+ghost use Rattle.system_meaning.specs.Systems.{System, Moment, opening};
+ghost use Rattle.system_meaning.specs.Monitor.{Reading};
 ghost use Rattle.packet_store.specs.Readings.{IsReading};
-ghost use Rattle.source_machine.specs.Turns.{turn};
-ghost use Rattle.source_machine.specs.Events.{after, run};
-ghost use Rattle.source_machine.specs.Whole.{IsSystem};
+ghost use Rattle.system_meaning.specs.Turns.{turn};
+ghost use Rattle.system_meaning.specs.Events.{after, run};
+ghost use Rattle.system_meaning.specs.Whole.{IsSystem};
 ghost use Rattle.turn_laws.specs.Waits.{AreOrderly};
 ghost use Rattle.turn_laws.specs.Standing.{AllStand};
 ghost use Rattle.turn_laws.specs.Valid.{ArePlain, IsValid, IsEvent, AreEvents};

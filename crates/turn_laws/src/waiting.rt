@@ -1,12 +1,12 @@
 //! What holds of those that wait is kept.
 ghost use Rattle.std.specs.Prelude.{ℕ, Bool, List};
-ghost use Rattle.elan_scope.specs.declared.env.Env.{Env};
-ghost use Rattle.session_text.specs.declared.events.Event.{Event};
-ghost use Rattle.source_machine.specs.Systems.{System, Moment, opening};
-ghost use Rattle.source_machine.specs.Monitor.{Reading};
-ghost use Rattle.source_machine.specs.Turns.{turn};
-ghost use Rattle.source_machine.specs.Events.{after, run};
-ghost use Rattle.source_machine.specs.Whole.{IsSystem};
+ghost use Rattle.turn_laws.specs.Below.elan_scope.specs.declared.env.Env.{Env};
+ghost use Rattle.turn_laws.specs.Below.session_text.specs.declared.events.Event.{Event};
+ghost use Rattle.system_meaning.specs.Systems.{System, Moment, opening};
+ghost use Rattle.system_meaning.specs.Monitor.{Reading};
+ghost use Rattle.system_meaning.specs.Turns.{turn};
+ghost use Rattle.system_meaning.specs.Events.{after, run};
+ghost use Rattle.system_meaning.specs.Whole.{IsSystem};
 ghost use Rattle.turn_laws.specs.Waits.{AreOrderly};
 
 use crate::steady;

@@ -3,3 +3,4 @@ pub mod Faults
 pub mod walks
 pub mod Declarations
 pub mod Bodies
+pub mod Below

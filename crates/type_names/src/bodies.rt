@@ -9,10 +9,10 @@ ghost use Rattle.type_names.specs.Bodies as spec;
 ghost use Rattle.type_names.specs.walks.LevelSeen.{visible, Adds};
 ghost use Rattle.type_names.specs.Types as types;
 
+use crate::below::of_cell_kinds::CellKinds;
 use crate::declare::Names;
 use crate::resolve::{Around, names_of};
 use crate::written::type_in;
-use cell_kinds::CellKinds;
 use elan_names::directory::Directory;
 use elan_names::entry::{Denotes, Entry};
 use elan_names::type_directory::TypeDirectory;

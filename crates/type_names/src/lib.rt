@@ -1,6 +1,7 @@
 //! The names of types that LET and TYPE declare, what is wrong with types, and what else a level declares.
 #![tactic(auto)]
 
+pub mod below;
 pub mod bodies;
 mod calls;
 mod declare;

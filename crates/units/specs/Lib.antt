@@ -5,3 +5,4 @@ pub mod Library
 pub mod Reading
 pub mod Refusals
 pub mod Sources
+pub mod Below

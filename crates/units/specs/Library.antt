@@ -3,7 +3,7 @@ use Rattle.std.specs.Prelude.{◌≡◌, ◌≤◌, ◌⊎◌, ℕ, ◌+◌, Boo
 use Rattle.std.specs.List.{list_any}
 use Rattle.elan_names.specs.declared.interface.Interface.{Interface}
 use Rattle.elan_scope.specs.declared.env.Env.{Env}
-use Rattle.cell_kinds.specs.Kinds.{body_in_packet}
+use Rattle.units.specs.Below.cell_kinds.specs.Kinds.{body_in_packet}
 use Rattle.units.specs.declared.library.TheConstants.{PACKETS, LAST_NUMBER}
 use Rattle.units.specs.declared.unit.Compiled.{Compiled}
 use Rattle.units.specs.Packets.{nothing, after}

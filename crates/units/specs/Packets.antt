@@ -1,6 +1,6 @@
 -- The packets of a task, as texts see them that are compiled behind them.
 use Rattle.std.specs.Prelude.{ℕ, ◌+◌, ◌-◌, [], ◌∷◌, ◌++◌, length}
-use Rattle.cell_kinds.specs.Kinds.{packet_kinds}
+use Rattle.units.specs.Below.cell_kinds.specs.Kinds.{packet_kinds}
 use Rattle.elan_types.specs.declared.core_phrase.Core.{Core}
 use Rattle.elan_names.specs.declared.interface.Interface.{Interface}
 use Rattle.elan_scope.specs.declared.env.Env.{Env}

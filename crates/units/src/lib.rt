@@ -1,6 +1,7 @@
 //! What a system of tasks needs of texts that are compiled: units, packets under numbers, refusals; as plain data.
 #![tactic(auto)]
 
+pub mod below;
 mod error;
 mod library;
 mod refusal;

@@ -24,7 +24,7 @@ use Rattle.zero_state.specs.Stepping.{stage_of, stage_by, halt_of, mem_of, scene
 use Rattle.zero_state.proofs.Room.{like_fits}
 use Rattle.zero_machine.specs.Running.{Spends}
 use Rattle.zero_state.specs.declared.next.Next.{Next}
-use Rattle.zero_requests.specs.Replying.{replied_by, GoesOrRests, Replies}
+use Rattle.zero_steps.specs.Replying.{replied_by, GoesOrRests, Replies}
 
 -- where nothing is waited for
 pub fits_free : (p : Program) (c : Control) → c.waits ≡ Nothing → Fits p c → Fits p (free c.position)

@@ -1,3 +1,5 @@
+pub mod FreeingCells
+pub mod Denoting
 pub mod Written
 pub mod Contents
 pub mod Freeing

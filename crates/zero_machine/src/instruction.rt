@@ -12,10 +12,9 @@ ghost use Rattle.zero_state.specs.Stepping.{IsReady, Steps};
 use crate::calls::{back, back_around, call, refer};
 use code_form::{Code, Instr, Operand};
 use eu_base::{MemFault, Memory, NoMemory, Value};
-use zero_requests::ask::{ask, ask_sending};
-use zero_requests::{bind, content, copy, on_spaces};
 use zero_state::{Next, State};
 use zero_steps::aggregate::{pick, take};
+use zero_steps::ask::{ask, ask_sending};
 use zero_steps::change::modify;
 use zero_steps::operate::operate;
 use zero_steps::place::{field, index};
@@ -25,6 +24,7 @@ use zero_steps::step::{
     unlimit, when,
 };
 use zero_steps::stop::error_stop;
+use zero_steps::{bind, content, copy, on_spaces};
 
 /// What one instruction does.
 pub fn execute<M: Memory>(

@@ -16,8 +16,8 @@ ghost use Rattle.zero_machine.specs.Running.{Spends, RestsSo};
 use crate::instruction::execute;
 use code_form::{Code, Halt, Instr, Waits};
 use eu_base::{MemFault, Memory, Reply, Request};
-use zero_requests::reply::take_reply;
 use zero_state::{Next, State};
+use zero_steps::reply::take_reply;
 
 // One step, where nothing is waited for.
 fn step<M: Memory>(code: &Code, s: &mut State, m: &mut M, marks: &mut u32) -> Result<Next, MemFault>

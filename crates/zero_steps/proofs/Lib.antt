@@ -8,3 +8,11 @@ pub mod Storing
 pub mod Placed
 pub mod Operating
 pub mod Aggregates
+pub mod ReceivedCells
+pub mod Looking
+pub mod Performing
+pub mod Assigning
+pub mod Asking
+pub mod Sending
+pub mod Replying
+pub mod Receiving

@@ -1,2 +1,5 @@
 pub mod Giving
 pub mod Reading
+pub mod Received
+pub mod Asking
+pub mod Replying

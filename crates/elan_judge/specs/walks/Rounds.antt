@@ -3,7 +3,7 @@ use Rattle.std.specs.Prelude.{ℕ, suc, Bool, true, false, not, ◌||◌, if◌t
 use Rattle.elan_types.specs.Types.{same_type}
 use Rattle.elan_scope.specs.declared.delivery.Delivery.{Delivery}
 use Rattle.elan_scope.specs.declared.delivery.Delivery.TheVariants.{Open, Nothing, Of}
-use Rattle.elan_names.specs.declared.heading.Heading.{Heading}
+use Rattle.elan_judge.specs.Below.elan_names.specs.declared.heading.Heading.{Heading}
 use Rattle.elan_scope.specs.declared.known.Known.{Known}
 use Rattle.elan_scope.specs.Known.{delivery_at}
 use Rattle.elan_scope.specs.Phrase.{Phrase}

@@ -2,7 +2,7 @@ use Rattle.std.proofs.Common.{[], sym, subst}
 use Rattle.elan_tree.specs.declared.tree.LevelUnit.{LevelUnit}
 use Rattle.elan_names.specs.declared.heading.Sort.TheVariants.{Operator}
 use Rattle.elan_scope.specs.Answer.{Is}
-use Rattle.elan_rules.specs.Meaning.{judged}
+use Rattle.elan_check.specs.Below.elan_rules.specs.Meaning.{judged}
 use Rattle.elan_walk.specs.Operators.{operator_text}
 use Rattle.elan_judge.specs.Level.{procedure_name, level_unit}
 use Rattle.elan_check.proofs.Routines.{procedure_at, operator_at}

@@ -2,7 +2,7 @@ use Rattle.std.proofs.Common.{List, ℕ, subst}
 use Rattle.elan_scope.specs.Phrase as form
 use Rattle.elan_scope.specs.Phrase.{leaf}
 use Rattle.elan_scope.specs.Answer.{Is}
-use Rattle.elan_rules.specs.Meaning.{judged}
+use Rattle.elan_check.specs.Below.elan_rules.specs.Meaning.{judged}
 use Rattle.elan_check.proofs.Routines.{names_go}
 use Rattle.elan_check.proofs.routine.declare_all.Goals as goal
 

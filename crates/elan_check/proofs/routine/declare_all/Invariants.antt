@@ -2,7 +2,7 @@ use Rattle.std.proofs.Common.{◌++◌, List, drop}
 use Rattle.std.specs.Prelude.{map}
 use Rattle.elan_scope.specs.declared.known.Known.{Known}
 use Rattle.elan_scope.specs.Phrase.{Phrase, all_of}
-use Rattle.elan_rules.specs.Meaning.{judged_all}
+use Rattle.elan_check.specs.Below.elan_rules.specs.Meaning.{judged_all}
 use Rattle.elan_scope.specs.Answer.{Is}
 use Rattle.elan_judge.specs.Level.{declares}
 use Rattle.elan_check.proofs.Routines.{Grown}

@@ -3,7 +3,7 @@ use Rattle.std.specs.Prelude.{map}
 use Rattle.elan_tree.specs.declared.written_type.Name.{Name}
 use Rattle.elan_scope.specs.Phrase.{all_of}
 use Rattle.elan_scope.specs.Answer.{Is}
-use Rattle.elan_rules.specs.Meaning.{judged_all}
+use Rattle.elan_check.specs.Below.elan_rules.specs.Meaning.{judged_all}
 use Rattle.elan_judge.specs.Level.{declares}
 use Rattle.elan_check.proofs.Routines.{formals_go}
 use Rattle.elan_check.proofs.routine.declare_parameters.Goals as goal

@@ -1,7 +1,7 @@
 use Rattle.std.proofs.Common.{◌++◌, List, drop}
 use Rattle.elan_scope.specs.declared.known.Known.{Known}
 use Rattle.elan_scope.specs.Phrase.{Phrase, all_of}
-use Rattle.elan_rules.specs.Meaning.{judged_all}
+use Rattle.elan_check.specs.Below.elan_rules.specs.Meaning.{judged_all}
 use Rattle.elan_scope.specs.Answer.{Is}
 use Rattle.elan_judge.specs.Level.{declare_parameters}
 use Rattle.elan_check.proofs.Routines.{Grown}

@@ -1,6 +1,6 @@
 use Rattle.std.proofs.Common.{◌++◌, ◌∷◌, []}
 use Rattle.elan_scope.specs.Phrase.{all_of}
-use Rattle.elan_rules.specs.Meaning.{judged, judged_all}
+use Rattle.elan_check.specs.Below.elan_rules.specs.Meaning.{judged, judged_all}
 use Rattle.elan_judge.specs.Level.{declare_parameters}
 use Rattle.elan_judge.proofs.Rows.{row_is}
 use Rattle.elan_check.proofs.Routines.{body_in, inside_goes}

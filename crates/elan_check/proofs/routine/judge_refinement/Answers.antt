@@ -5,7 +5,7 @@ use Rattle.elan_scope.specs.declared.delivery.Delivery.TheVariants.{Open}
 use Rattle.elan_scope.specs.Phrase as form
 use Rattle.elan_scope.specs.Phrase.{leaf, pair}
 use Rattle.elan_scope.specs.Answer.{Is}
-use Rattle.elan_rules.specs.Meaning.{judged}
+use Rattle.elan_check.specs.Below.elan_rules.specs.Meaning.{judged}
 use Rattle.elan_judge.specs.Shape as shape
 use Rattle.elan_judge.specs.Level as l
 use Rattle.elan_check.proofs.routine.judge_refinement.Goals as goal

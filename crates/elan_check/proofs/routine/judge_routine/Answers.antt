@@ -1,7 +1,7 @@
 use Rattle.std.proofs.Common.{◌++◌, ◌∷◌, [], ap, ◌∙◌}
 use Rattle.elan_scope.specs.Phrase.{all_of}
 use Rattle.elan_scope.specs.declared.scope.Scope.{Scope}
-use Rattle.elan_rules.specs.Meaning.{judged, judged_all}
+use Rattle.elan_check.specs.Below.elan_rules.specs.Meaning.{judged, judged_all}
 use Rattle.type_names.specs.Bodies.{body_within, routine_scope}
 use Rattle.elan_judge.specs.Level as l
 use Rattle.elan_judge.proofs.Rows.{row_is}

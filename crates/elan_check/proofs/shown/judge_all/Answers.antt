@@ -4,7 +4,7 @@ use Rattle.std.specs.Str.{bytes_eq}
 use Rattle.elan_scope.specs.Phrase as form
 use Rattle.elan_scope.specs.Phrase.{leaf}
 use Rattle.elan_scope.specs.Answer.{Is}
-use Rattle.elan_rules.specs.Meaning.{judged}
+use Rattle.elan_check.specs.Below.elan_rules.specs.Meaning.{judged}
 use Rattle.elan_judge.specs.Level.{exports, export_name, export_place, may_show}
 use Rattle.elan_check.proofs.Routines.{Grown, exports_go, left_none}
 use Rattle.elan_check.proofs.shown.judge_all.Goals as goal

@@ -1,7 +1,7 @@
 use Rattle.std.proofs.Common.{List, sym, subst, ◌∙◌}
 use Rattle.elan_scope.specs.Phrase.{Phrase, all_of}
 use Rattle.elan_scope.specs.Answer.{Is}
-use Rattle.elan_rules.specs.Meaning.{judged_all}
+use Rattle.elan_check.specs.Below.elan_rules.specs.Meaning.{judged_all}
 use Rattle.elan_check.specs.Text.{faults}
 use Rattle.elan_check.proofs.Cores.{parts_are, seen_are, faults_are, refused_is, no_first}
 use Rattle.elan_check.proofs.text_core.core_known.Goals as goal

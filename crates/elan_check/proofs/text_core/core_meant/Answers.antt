@@ -3,7 +3,7 @@ use Rattle.elan_types.specs.declared.core_phrase.Core.{Core}
 use Rattle.elan_scope.specs.declared.trouble.Trouble.{Trouble}
 use Rattle.elan_scope.specs.Phrase.{Phrase, all_of}
 use Rattle.elan_scope.specs.Answer.{Fails}
-use Rattle.elan_rules.specs.Meaning.{judged_all}
+use Rattle.elan_check.specs.Below.elan_rules.specs.Meaning.{judged_all}
 use Rattle.elan_judge.specs.Level.{exports, level_parts}
 use Rattle.elan_check.specs.Text.{Answers}
 use Rattle.elan_check.proofs.Cores.{parts_are, core_is, none_hangs}

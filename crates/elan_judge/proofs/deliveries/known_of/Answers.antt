@@ -1,5 +1,5 @@
 use Rattle.std.proofs.Common.{◌≡◌, ◌≤◌, ◌+◌, ℕ, suc, None, List, length, map, refl, sym, arith, ap, subst, ◌∙◌}
-use Rattle.elan_names.specs.declared.heading.Heading.{Heading}
+use Rattle.elan_judge.specs.Below.elan_names.specs.declared.heading.Heading.{Heading}
 use Rattle.elan_scope.specs.declared.delivery.Delivery.{Delivery}
 use Rattle.elan_scope.specs.declared.scope.Scope.{Scope}
 use Rattle.elan_tree.specs.declared.tree.Level.{Level}

@@ -1,7 +1,7 @@
 use Rattle.std.proofs.Common.{List, ℕ, ap, ◌∙◌}
 use Rattle.elan_scope.specs.Scope.{first}
-use Rattle.elan_names.specs.walks.Numbers.{callables_among}
-use Rattle.elan_names.proofs.Named.{callables, called_named}
+use Rattle.elan_meant.specs.Below.elan_names.specs.walks.Numbers.{callables_among}
+use Rattle.elan_meant.specs.Below.elan_names.proofs.Named.{callables, called_named}
 use Rattle.elan_meant.specs.Operands.{takes, fit}
 use Rattle.elan_meant.proofs.operands.chosen_own.Goals as goal
 

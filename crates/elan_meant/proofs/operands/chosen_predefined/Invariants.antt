@@ -1,5 +1,5 @@
 use Rattle.std.proofs.Common.{◌≡◌, length, map}
-use Rattle.elan_names.specs.Predefined.{predefined}
+use Rattle.elan_meant.specs.Below.elan_names.specs.Predefined.{predefined}
 use Rattle.elan_scope.specs.Scope.{first, predefined_callable}
 use Rattle.elan_meant.specs.Operands.{takes}
 use Rattle.elan_meant.proofs.operands.chosen_predefined.Given as goal

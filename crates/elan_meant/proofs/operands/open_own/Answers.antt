@@ -1,8 +1,8 @@
 use Rattle.std.proofs.Common.{List, ℕ, ◌&&◌, ap, ◌∙◌, length}
 use Rattle.std.specs.Prelude.{◌==◌}
 use Rattle.elan_scope.specs.Scope.{first, has_open}
-use Rattle.elan_names.specs.walks.Numbers.{callables_among}
-use Rattle.elan_names.proofs.Named.{callables, called_named}
+use Rattle.elan_meant.specs.Below.elan_names.specs.walks.Numbers.{callables_among}
+use Rattle.elan_meant.specs.Below.elan_names.proofs.Named.{callables, called_named}
 use Rattle.elan_meant.specs.Operands.{may_take}
 use Rattle.elan_meant.proofs.operands.open_own.Goals as goal
 

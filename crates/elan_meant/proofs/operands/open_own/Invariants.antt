@@ -1,6 +1,6 @@
 use Rattle.std.proofs.Common.{◌≡◌, drop}
 use Rattle.elan_scope.specs.Scope.{first, own_callables}
-use Rattle.elan_names.specs.walks.Numbers.{callables_among}
+use Rattle.elan_meant.specs.Below.elan_names.specs.walks.Numbers.{callables_among}
 use Rattle.elan_meant.specs.Operands.{may_take}
 use Rattle.elan_meant.proofs.operands.open_own.Given as goal
 

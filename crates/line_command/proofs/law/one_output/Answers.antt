@@ -1,6 +1,6 @@
 use Rattle.std.proofs.Common.{false}
-use Rattle.units.specs.Packets.{nothing}
-use Rattle.elan_check.specs.Packets.{none}
+use Rattle.line_command.specs.Below.units.specs.Packets.{nothing}
+use Rattle.line_command.specs.Below.elan_check.specs.Packets.{none}
 use Rattle.line_command.proofs.Unique.{one_output}
 use Rattle.line_command.proofs.Total.{an_output}
 use Rattle.line_command.proofs.Enough.{enough}

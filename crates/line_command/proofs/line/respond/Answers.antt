@@ -4,7 +4,7 @@ use Rattle.elan_types.specs.declared.core_phrase.Core.{Core}
 use Rattle.packet_store.specs.Meaning.{means}
 use Rattle.line_command.specs.Program.{Shows}
 use Rattle.line_command.specs.Meaning.{Means, TextWrites, runs}
-use Rattle.code_gen.proofs.Coding.{code_behaves}
+use Rattle.line_command.specs.Below.code_gen.proofs.Coding.{code_behaves}
 use Rattle.line_command.proofs.Refusing.{refused_line}
 use Rattle.line_command.proofs.line.respond.Goals as goal
 

@@ -1,5 +1,5 @@
 use Rattle.std.proofs.Common.{refl, ap, ◌∙◌}
-use Rattle.page_table.specs.Frames.{over}
+use Rattle.line_command.specs.Below.page_table.specs.Frames.{over}
 use Rattle.space_memory.specs.Memories.{memory_heads}
 use Rattle.line_command.proofs.Begun.{zeros, new_known, new_whole}
 use Rattle.line_command.proofs.line.written.Goals as goal

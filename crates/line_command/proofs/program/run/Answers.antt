@@ -1,8 +1,8 @@
 use Rattle.std.proofs.Common.{sym, ◌∙◌, subst}
 use Rattle.eu_base.specs.DataSpaces.{Heads, no_spaces}
 use Rattle.elan_types.specs.Command.{blanks, start_kinds}
-use Rattle.place_gen.specs.Correct.{HasSlots}
-use Rattle.zero_state.specs.Stepping.{mem_of}
+use Rattle.line_command.specs.Below.place_gen.specs.Correct.{HasSlots}
+use Rattle.line_command.specs.Below.zero_state.specs.Stepping.{mem_of}
 use Rattle.line_command.proofs.Begun.{begun, has_begun, holds_begun}
 use Rattle.line_command.proofs.program.run.Goals as goal
 

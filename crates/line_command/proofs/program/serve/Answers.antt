@@ -4,7 +4,7 @@ use Rattle.code_form.specs.Machine.{Control, answered}
 use Rattle.code_form.specs.declared.waits.Waits.TheVariants.{Asked}
 use Rattle.code_form.specs.Runs.{asked}
 use Rattle.eu_base.specs.DataSpaces.{Heads}
-use Rattle.zero_state.specs.Stepping.{mem_of}
+use Rattle.line_command.specs.Below.zero_state.specs.Stepping.{mem_of}
 use Rattle.line_command.specs.Program.{reply_to}
 use Rattle.line_command.proofs.Served.{IsServed}
 use Rattle.line_command.proofs.Causes.{fault_handed_on}

@@ -2,9 +2,9 @@ use Rattle.std.proofs.Common.{◌≡◌, ◌≤◌, None}
 use Rattle.eu_base.specs.Cells.{Cells}
 use Rattle.eu_base.specs.DataSpaces.{no_spaces}
 use Rattle.code_form.specs.Runs.{asked}
-use Rattle.zero_state.specs.Stepping.{mem_of}
-use Rattle.place_gen.specs.Correct.{HasSlots}
-use Rattle.code_gen.specs.Correct.{Behaves}
+use Rattle.line_command.specs.Below.zero_state.specs.Stepping.{mem_of}
+use Rattle.line_command.specs.Below.place_gen.specs.Correct.{HasSlots}
+use Rattle.line_command.specs.Below.code_gen.specs.Correct.{Behaves}
 use Rattle.elan_types.specs.declared.core_phrase.Core.{Core}
 use Rattle.elan_types.specs.Command.{blanks, start_kinds}
 use Rattle.code_form.specs.Valid.{Fits}

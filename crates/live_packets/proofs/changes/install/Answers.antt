@@ -1,10 +1,10 @@
 use Rattle.std.proofs.Common.{List, ◌++◌, length, ap, subst, sym, ◌∙◌}
 use Rattle.eu_base.specs.declared.value.Kind.{Kind}
 use Rattle.eu_base.specs.Room.{cells_fit}
-use Rattle.live_tasks.specs.Below.units.specs.declared.unit.Compiled.{Compiled}
-use Rattle.live_tasks.specs.Below.packet_store.specs.Units.{IsUnit}
-use Rattle.live_tasks.specs.Below.packet_store.proofs.Sound.{sound}
-use Rattle.live_tasks.specs.Below.units.specs.Library.{IsInstalled}
+use Rattle.live_packets.specs.Below.units.specs.declared.unit.Compiled.{Compiled}
+use Rattle.live_packets.specs.Below.packet_store.specs.Units.{IsUnit}
+use Rattle.live_packets.specs.Below.packet_store.proofs.Sound.{sound}
+use Rattle.live_packets.specs.Below.units.specs.Library.{IsInstalled}
 use Rattle.live_packets.specs.Packets.{kinds_in}
 use Rattle.live_packets.proofs.Installing.{over_kinds, installs_so}
 use Rattle.live_packets.proofs.changes.install.Goals as goal

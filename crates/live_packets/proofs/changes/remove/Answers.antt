@@ -1,6 +1,6 @@
 use Rattle.std.proofs.Common.{ℕ, List, ap, ◌∙◌}
 use Rattle.std.specs.List.{remove}
-use Rattle.live_tasks.specs.Below.source_machine.specs.Ends.{without_packets}
+use Rattle.live_packets.specs.Below.system_meaning.specs.Ends.{without_packets}
 use Rattle.live_packets.specs.Packets.{kinds_in}
 use Rattle.live_packets.proofs.changes.remove.Goals as goal
 

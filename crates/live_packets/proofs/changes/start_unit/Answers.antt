@@ -3,10 +3,10 @@ use Rattle.std.specs.Prelude.{slice_get, OnOk}
 use Rattle.std.proofs.lemmas.Result.{on_ok_weaker}
 use Rattle.eu_base.specs.declared.value.Kind.{Kind}
 use Rattle.cell_kinds.specs.Kinds.{packet_kinds}
-use Rattle.live_tasks.specs.Below.units.specs.declared.unit.Compiled.{Compiled}
-use Rattle.live_tasks.specs.Below.source_machine.specs.Stores.{Store}
-use Rattle.live_tasks.specs.Below.source_machine.specs.Tasks.{Own, Idle, Running, starting, with_doing}
-use Rattle.live_tasks.specs.Below.source_machine.specs.Systems.{with_own}
+use Rattle.live_packets.specs.Below.units.specs.declared.unit.Compiled.{Compiled}
+use Rattle.live_packets.specs.Below.system_meaning.specs.Stores.{Store}
+use Rattle.live_packets.specs.Below.system_meaning.specs.Tasks.{Own, Idle, Running, starting, with_doing}
+use Rattle.live_packets.specs.Below.system_meaning.specs.Systems.{with_own}
 use Rattle.live_tasks.specs.Tasks.{Stand}
 use Rattle.live_packets.proofs.changes.start_unit.Goals as goal
 

@@ -1,7 +1,7 @@
 use Rattle.std.proofs.Common.{sym, ap, ◌∙◌}
 use Rattle.cell_kinds.specs.Kinds.{packet_kinds}
-use Rattle.live_tasks.specs.Below.units.specs.declared.unit.Compiled.{Compiled}
-use Rattle.live_tasks.specs.Below.source_machine.specs.Tasks.{store_in}
+use Rattle.live_packets.specs.Below.units.specs.declared.unit.Compiled.{Compiled}
+use Rattle.live_packets.specs.Below.system_meaning.specs.Tasks.{store_in}
 use Rattle.live_packets.proofs.Ending.{tidied_then}
 use Rattle.live_packets.proofs.endings.finish.Goals as goal
 

@@ -1,6 +1,6 @@
 use Rattle.std.proofs.Common.{ap, ◌∙◌, ◌++◌}
 use Rattle.cell_kinds.specs.Kinds.{packet_kinds}
-use Rattle.live_tasks.specs.Below.units.specs.declared.unit.Compiled.{Compiled}
+use Rattle.live_packets.specs.Below.units.specs.declared.unit.Compiled.{Compiled}
 use Rattle.live_packets.proofs.Ending.{inserted_then}
 use Rattle.live_packets.proofs.endings.keep_inserted.Goals as goal
 

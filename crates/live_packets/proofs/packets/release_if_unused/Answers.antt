@@ -1,5 +1,5 @@
 use Rattle.std.proofs.Common.{Bool, sym, ap, ◌∙◌}
-use Rattle.live_tasks.specs.Below.source_machine.specs.Ends.{released_unless}
+use Rattle.live_packets.specs.Below.system_meaning.specs.Ends.{released_unless}
 use Rattle.live_packets.proofs.PacketKinds.{goes_unless}
 use Rattle.live_packets.proofs.packets.release_if_unused.Goals as goal
 

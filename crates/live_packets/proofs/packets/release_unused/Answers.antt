@@ -1,7 +1,7 @@
 use Rattle.std.proofs.Common.{ℕ, get_or, ap, sym, ◌∙◌, arith}
 use Rattle.std.specs.List.{list_any}
-use Rattle.live_tasks.specs.Below.units.specs.Library.{Library}
-use Rattle.live_tasks.specs.Below.source_machine.specs.Ends.{has_packet, released_unless}
+use Rattle.live_packets.specs.Below.units.specs.Library.{Library}
+use Rattle.live_packets.specs.Below.system_meaning.specs.Ends.{has_packet, released_unless}
 use Rattle.live_packets.proofs.PacketKinds.{without_more}
 use Rattle.live_packets.proofs.packets.release_unused.Goals as goal
 

@@ -1,6 +1,6 @@
 use Rattle.std.proofs.Common.{◌≡◌, List, take}
-use Rattle.live_tasks.specs.Below.source_machine.specs.Tasks.{Own}
-use Rattle.live_tasks.specs.Below.source_machine.specs.Ends.{without_packets}
+use Rattle.live_packets.specs.Below.system_meaning.specs.Tasks.{Own}
+use Rattle.live_packets.specs.Below.system_meaning.specs.Ends.{without_packets}
 use Rattle.live_tasks.specs.Tasks.{Stand}
 use Rattle.live_packets.specs.Packets.{kinds_in}
 use Rattle.live_packets.proofs.packets.release_unused.Given as goal

@@ -1,6 +1,6 @@
 use Rattle.std.proofs.Common.{subst}
-use Rattle.live_packets.specs.Below.live_task.specs.declared.task.Went.{Went as Task}
-use Rattle.live_packets.specs.Below.live_task.specs.Stands.{IsWhole}
+use Rattle.live_system.specs.Below.live_task.specs.declared.task.Went.{Went as Task}
+use Rattle.live_system.specs.Below.live_task.specs.Stands.{IsWhole}
 use Rattle.live_system.proofs.commands.as_finished.Goals as goal
 
 pub of-requires : goal.of-requires

@@ -1,7 +1,7 @@
 use Rattle.std.proofs.Common.{ℕ, Option, ap, sym, ◌∙◌}
 use Rattle.std.specs.Prelude.{slice_get}
 use Rattle.std.specs.Option.{option_map, option_and_then}
-use Rattle.live_packets.specs.Below.source_machine.specs.Tasks.{Own, request_of}
+use Rattle.live_system.specs.Below.system_meaning.specs.Tasks.{Own, request_of}
 use Rattle.live_system.proofs.Moments.{own_there}
 use Rattle.live_system.proofs.looks.asked.Goals as goal
 

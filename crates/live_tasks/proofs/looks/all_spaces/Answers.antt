@@ -1,6 +1,6 @@
 use Rattle.std.proofs.Common.{length, refl, ◌∙◌, arith}
 use Rattle.std.proofs.lemmas.Option.{slice_get_read}
-use Rattle.task_tidy.specs.Below.source_machine.specs.Supervisor.{spaces_of}
+use Rattle.live_tasks.specs.Below.system_meaning.specs.Supervisor.{spaces_of}
 use Rattle.live_tasks.proofs.Counting.{sum_more, sum_all}
 use Rattle.live_tasks.proofs.Standing.{For, as_long}
 use Rattle.live_tasks.proofs.Zips.{zip_found}

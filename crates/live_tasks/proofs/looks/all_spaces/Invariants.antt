@@ -1,8 +1,8 @@
 use Rattle.std.proofs.Common.{◌≡◌, ℕ, ◌*◌, ◌≤◌, List, map, sum, take}
 use Rattle.eu_base.specs.declared.value.Kind.{Kind}
 use Rattle.page_pool.specs.Pool.{Pages}
-use Rattle.task_tidy.specs.Below.source_machine.specs.Tasks.{Own}
-use Rattle.task_tidy.specs.Below.source_machine.specs.Supervisor.{spaces_of}
+use Rattle.live_tasks.specs.Below.system_meaning.specs.Tasks.{Own}
+use Rattle.live_tasks.specs.Below.system_meaning.specs.Supervisor.{spaces_of}
 use Rattle.live_tasks.specs.Tasks.{StandIn}
 use Rattle.live_tasks.proofs.looks.all_spaces.Given as goal
 

@@ -1,6 +1,6 @@
 use Rattle.std.proofs.Common.{ℕ, arith}
 use Rattle.std.proofs.lemmas.List.{length-map}
-use Rattle.data_space.specs.Data.{SpaceData}
+use Rattle.live_tasks.specs.Below.data_space.specs.Data.{SpaceData}
 use Rattle.live_tasks.proofs.texts.has_few.Goals as goal
 
 pub returns : goal.returns

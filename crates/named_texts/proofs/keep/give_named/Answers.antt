@@ -1,7 +1,7 @@
 use Rattle.std.proofs.Common.{[], ◌∷◌, sym, subst}
-use Rattle.page_table.specs.Entries.{Names}
-use Rattle.page_table.specs.Frames.{over, Frames, Stands}
-use Rattle.page_table.proofs.Framing.{frames_more, stands_first}
+use Rattle.named_texts.specs.Below.page_table.specs.Entries.{Names}
+use Rattle.named_texts.specs.Below.page_table.specs.Frames.{over, Frames, Stands}
+use Rattle.named_texts.specs.Below.page_table.proofs.Framing.{frames_more, stands_first}
 use Rattle.data_space.specs.Data.{SpaceData}
 use Rattle.space_memory.specs.Memories.{MemoryData, roots}
 use Rattle.named_texts.proofs.Giving.{given_live, same_named}

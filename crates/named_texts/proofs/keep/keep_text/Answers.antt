@@ -1,7 +1,7 @@
 use Rattle.page_pool.specs.Pool.{Pages}
-use Rattle.page_table.specs.Frames.{over}
+use Rattle.named_texts.specs.Below.page_table.specs.Frames.{over}
 use Rattle.std.proofs.Common.{[], ap, arith}
-use Rattle.page_table.proofs.Framing.{frames_none, homes_backed, stands_after, stands_first}
+use Rattle.named_texts.specs.Below.page_table.proofs.Framing.{frames_none, homes_backed, stands_after, stands_first}
 use Rattle.space_memory.specs.Memories.{roots}
 use Rattle.named_texts.proofs.Giving.{back_frames, refused_frames, stands_then, stands_more, bytes_kept, given_frames, not_given_frames, last_long, kept_there, on_err}
 use Rattle.named_texts.proofs.keep.keep_text.Goals as goal

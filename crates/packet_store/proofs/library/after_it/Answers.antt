@@ -1,5 +1,4 @@
-use Rattle.std.proofs.Common.{◌≡◌, Some, sym, ap, ◌∙◌, subst}
-use Rattle.elan_names.specs.declared.interface.Interface.{Interface}
+use Rattle.std.proofs.Common.{◌≡◌, sym, ap, ◌∙◌, subst}
 use Rattle.elan_scope.specs.declared.env.Env.{Env}
 use Rattle.units.specs.Packets.{after}
 use Rattle.elan_check.specs.Packets.{AreCompiled}

@@ -1,6 +1,6 @@
 use Rattle.std.proofs.Common.{None, [], ◌∷◌, arith, refl}
 use Rattle.page_pool.specs.Pool.{Pages}
-use Rattle.page_table.proofs.Framing.{nil_agree, stands_of}
+use Rattle.program_examples.specs.Below.page_table.proofs.Framing.{nil_agree, stands_of}
 use Rattle.program_examples.proofs.packets.answer.Goals as goal
 
 pub over-lent-requires : goal.over-lent-requires

@@ -1,7 +1,7 @@
 use Rattle.std.proofs.Common.{rules, ◌≡◌, true, sym, ap, ◌∙◌}
 use Rattle.eu_base.specs.Shapes.{same_shape}
 use Rattle.data_space.specs.Data.{SpaceData}
-use Rattle.page_table.specs.Frames.{over}
+use Rattle.source_texts.specs.Below.page_table.specs.Frames.{over}
 use Rattle.units.specs.Sources.{source_shape}
 use Rattle.source_texts.proofs.Reading.{the_text}
 use Rattle.source_texts.proofs.Pooled.{frames_there, space_there}

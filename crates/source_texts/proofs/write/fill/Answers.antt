@@ -1,5 +1,5 @@
 use Rattle.std.proofs.Common.{ap, ◌∙◌}
-use Rattle.page_table.specs.Frames.{over}
+use Rattle.source_texts.specs.Below.page_table.specs.Frames.{over}
 use Rattle.data_space.specs.Data.{SpaceData}
 use Rattle.source_texts.proofs.Pooled.{nothing_there}
 use Rattle.source_texts.proofs.write.fill.Goals as goal

@@ -1,7 +1,7 @@
 use Rattle.std.proofs.Common.{ℕ, [], ◌∷◌, Option, None, Some, Result, Ok, Err, sym, ap, ◌∙◌, subst, arith}
 use Rattle.std.specs.Prelude.{OnErr}
-use Rattle.page_table.specs.Frames.{over, Frames, Stands}
-use Rattle.page_table.proofs.Framing.{frames_nil, stands_after}
+use Rattle.source_texts.specs.Below.page_table.specs.Frames.{over, Frames, Stands}
+use Rattle.source_texts.specs.Below.page_table.proofs.Framing.{frames_nil, stands_after}
 use Rattle.data_space.specs.Data.{SpaceData}
 use Rattle.source_texts.proofs.Pooled.{stands_new, frames_made, frames_back}
 use Rattle.source_texts.proofs.Typed.{source_typed}

@@ -3,7 +3,7 @@ use Rattle.eu_base.specs.declared.stop.Stop.TheVariants.{NoSpace, WrongShape}
 use Rattle.eu_base.specs.Values.{SpaceNo}
 use Rattle.eu_base.specs.DataSpaces.{the_head}
 use Rattle.eu_base.specs.SpaceOperations.{bind_plan}
-use Rattle.code_form.specs.Machine.{binds}
+use Rattle.space_calls.specs.Below.code_form.specs.Machine.{binds}
 use Rattle.space_calls.specs.Assigned.{Assigned, Shaped}
 use Rattle.space_calls.proofs.Binding.{away_so, large_so, plan_stops, nil_plan, dead_plan, other_plan}
 use Rattle.space_calls.proofs.bound.assign_bound.Goals as goal

@@ -1,4 +1,4 @@
-use Rattle.task_lines.specs.Below.source_machine.specs.Monitor.{words_of}
+use Rattle.supervisor.specs.Below.system_meaning.specs.Monitor.{words_of}
 use Rattle.supervisor.proofs.Worded.{worded_so}
 use Rattle.supervisor.proofs.commands.supervise.Goals as goal
 

@@ -1,11 +1,11 @@
 use Rattle.std.proofs.Common.{sym, subst}
-use Rattle.message_wait.specs.Rendezvous.{left}
-use Rattle.slicer.specs.Rotation as rotation
-use Rattle.task_lines.specs.Below.source_machine.specs.Tasks.{ending, world_of}
-use Rattle.task_lines.specs.Below.source_machine.specs.Systems.{doing, on_ready, on_waits, on_system}
-use Rattle.task_lines.specs.Below.source_machine.specs.Monitor.{over}
-use Rattle.task_lines.specs.Below.live_system.specs.Finishing.{HasRoom}
-use Rattle.task_lines.specs.Below.live_system.specs.Machines.{StandsAt}
+use Rattle.supervisor.specs.Below.message_wait.specs.Rendezvous.{left}
+use Rattle.supervisor.specs.Below.slicer.specs.Rotation as rotation
+use Rattle.supervisor.specs.Below.system_meaning.specs.Tasks.{ending, world_of}
+use Rattle.supervisor.specs.Below.system_meaning.specs.Systems.{doing, on_ready, on_waits, on_system}
+use Rattle.supervisor.specs.Below.system_meaning.specs.Monitor.{over}
+use Rattle.supervisor.specs.Below.live_system.specs.Finishing.{HasRoom}
+use Rattle.supervisor.specs.Below.live_system.specs.Machines.{StandsAt}
 use Rattle.supervisor.proofs.Halts.{halted_over, is_halted}
 use Rattle.supervisor.proofs.Kept.{on_ok}
 use Rattle.supervisor.proofs.halting.command_halted.Goals as goal

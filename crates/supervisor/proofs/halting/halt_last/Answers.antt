@@ -1,6 +1,6 @@
 use Rattle.std.proofs.Common.{Some, None}
-use Rattle.terminals.specs.Channels as channels
-use Rattle.task_lines.specs.Below.source_machine.specs.Supervisor.{halted}
+use Rattle.supervisor.specs.Below.terminals.specs.Channels as channels
+use Rattle.supervisor.specs.Below.system_meaning.specs.Supervisor.{halted}
 use Rattle.supervisor.proofs.Coupled.{unless_refused}
 use Rattle.supervisor.proofs.Kept.{on_ok}
 use Rattle.supervisor.proofs.halting.halt_last.Goals as goal

@@ -1,7 +1,7 @@
 use Rattle.std.proofs.Common.{subst}
-use Rattle.task_lines.specs.Below.source_machine.specs.Systems.{couple, on_system}
-use Rattle.task_lines.specs.Below.source_machine.specs.Supervisor.{halted_by}
-use Rattle.task_lines.specs.Below.live_system.specs.Machines.{StandsAt}
+use Rattle.supervisor.specs.Below.system_meaning.specs.Systems.{couple, on_system}
+use Rattle.supervisor.specs.Below.system_meaning.specs.Supervisor.{halted_by}
+use Rattle.supervisor.specs.Below.live_system.specs.Machines.{StandsAt}
 use Rattle.supervisor.proofs.Coupled.{doing_couple}
 use Rattle.supervisor.proofs.halting.halted.Goals as goal
 

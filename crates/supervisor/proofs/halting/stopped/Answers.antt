@@ -1,8 +1,8 @@
 use Rattle.std.proofs.Common.{sym, subst}
-use Rattle.task_lines.specs.Below.source_machine.specs.Tasks.{Idle}
-use Rattle.task_lines.specs.Below.source_machine.specs.Systems.{doing, does, on_system}
-use Rattle.task_lines.specs.Below.source_machine.specs.Supervisor.{halted_by}
-use Rattle.task_lines.specs.Below.live_system.specs.Machines.{StandsAt}
+use Rattle.supervisor.specs.Below.system_meaning.specs.Tasks.{Idle}
+use Rattle.supervisor.specs.Below.system_meaning.specs.Systems.{doing, does, on_system}
+use Rattle.supervisor.specs.Below.system_meaning.specs.Supervisor.{halted_by}
+use Rattle.supervisor.specs.Below.live_system.specs.Machines.{StandsAt}
 use Rattle.supervisor.proofs.Coupled.{is_idle, is_gone, is_entering, is_running}
 use Rattle.supervisor.proofs.Kept.{on_ok}
 use Rattle.supervisor.proofs.halting.stopped.Goals as goal

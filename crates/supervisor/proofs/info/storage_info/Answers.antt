@@ -1,7 +1,7 @@
 use Rattle.std.specs.Prelude.{ℕ, ◌++◌, codes, length, map, sum}
 use Rattle.std.specs.Fmt.{decimal}
 use Rattle.std.proofs.Common.{ap, ◌∙◌}
-use Rattle.task_lines.specs.Below.source_machine.specs.Supervisor.{spaces_of}
+use Rattle.supervisor.specs.Below.system_meaning.specs.Supervisor.{spaces_of}
 use Rattle.supervisor.proofs.Telling.{joined}
 use Rattle.supervisor.proofs.info.storage_info.Goals as goal
 

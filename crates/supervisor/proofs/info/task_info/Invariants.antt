@@ -1,7 +1,7 @@
 use Rattle.std.proofs.Common.{◌≡◌, map, take}
-use Rattle.task_lines.specs.Below.source_machine.specs.Systems.{Moment}
-use Rattle.task_lines.specs.Below.source_machine.specs.Supervisor as spec
-use Rattle.task_lines.specs.Below.live_system.specs.Machines.{StandsAt}
+use Rattle.supervisor.specs.Below.system_meaning.specs.Systems.{Moment}
+use Rattle.supervisor.specs.Below.system_meaning.specs.Supervisor as spec
+use Rattle.supervisor.specs.Below.live_system.specs.Machines.{StandsAt}
 use Rattle.supervisor.proofs.info.task_info.Given as goal
 
 -- there is a line for each task so far

@@ -1,6 +1,6 @@
 use Rattle.std.proofs.Common.{refl, subst}
-use Rattle.task_requests.specs.Below.source_machine.specs.Systems.{command}
-use Rattle.task_requests.specs.Below.live_system.specs.Steps.{WentOn}
+use Rattle.system.specs.Below.system_meaning.specs.Systems.{command}
+use Rattle.system.specs.Below.live_system.specs.Steps.{WentOn}
 use Rattle.system.proofs.Kept.{if_ok}
 use Rattle.system.proofs.Evaluating.{not_running, marked, is_over, asks}
 use Rattle.system.proofs.evaluations.evaluation.Goals as goal

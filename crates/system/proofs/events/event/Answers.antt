@@ -1,5 +1,5 @@
 use Rattle.session_text.specs.Display.{rendered}
-use Rattle.task_requests.specs.Below.source_machine.specs.Events.{whole, point_shown}
+use Rattle.system.specs.Below.system_meaning.specs.Events.{whole, point_shown}
 use Rattle.system.proofs.Happening.{stands_after, joined}
 use Rattle.system.proofs.events.event.Goals as goal
 

@@ -1,6 +1,6 @@
 use Rattle.session_text.specs.Display.{blank}
-use Rattle.task_requests.specs.Below.source_machine.specs.Systems.{opening, at_event}
-use Rattle.task_requests.specs.Below.live_system.specs.Machines.{StandsAt}
+use Rattle.system.specs.Below.system_meaning.specs.Systems.{opening, at_event}
+use Rattle.system.specs.Below.live_system.specs.Machines.{StandsAt}
 use Rattle.system.specs.Systems.{StandsFor}
 use Rattle.system.proofs.Kept.{if_ok}
 use Rattle.system.proofs.events.opening.Goals as goal

@@ -1,5 +1,5 @@
-use Rattle.task_requests.specs.Below.source_machine.specs.Systems.{Moment, at_event}
-use Rattle.task_requests.specs.Below.source_machine.specs.Events.{happens}
+use Rattle.system.specs.Below.system_meaning.specs.Systems.{Moment, at_event}
+use Rattle.system.specs.Below.system_meaning.specs.Events.{happens}
 use Rattle.system.specs.Systems.{StandsFor}
 use Rattle.system.proofs.events.whole.Goals as goal
 

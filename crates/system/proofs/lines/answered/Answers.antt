@@ -1,5 +1,5 @@
 use Rattle.std.proofs.Common.{Some}
-use Rattle.task_requests.specs.Below.source_machine.specs.Serving.{input}
+use Rattle.system.specs.Below.system_meaning.specs.Serving.{input}
 use Rattle.system.proofs.Kept.{on_ok}
 use Rattle.system.proofs.Awaiting.{answered_so, unanswered}
 use Rattle.system.proofs.lines.answered.Goals as goal

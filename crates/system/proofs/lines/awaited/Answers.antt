@@ -1,5 +1,5 @@
 use Rattle.std.proofs.Common.{sym, ◌∙◌}
-use Rattle.task_requests.specs.Below.source_machine.specs.Systems.{requested}
+use Rattle.system.specs.Below.system_meaning.specs.Systems.{requested}
 use Rattle.system.proofs.Kept.{on_ok}
 use Rattle.system.proofs.Awaiting.{awaited_so, not_awaited}
 use Rattle.system.proofs.lines.awaited.Goals as goal

@@ -1,6 +1,6 @@
 use Rattle.std.proofs.Common.{◌≤◌, length, sym, subst}
 use Rattle.task_numbers.specs.declared.limits.TheConstants.{LONGEST_LINE}
-use Rattle.task_requests.specs.Below.source_machine.specs.Systems.{runs}
+use Rattle.system.specs.Below.system_meaning.specs.Systems.{runs}
 use Rattle.system.proofs.Kept.{on_ok}
 use Rattle.system.proofs.Happening.{taken_so}
 use Rattle.system.proofs.lines.line_for.Goals as goal

@@ -1,5 +1,5 @@
 use Rattle.std.proofs.Common.{◌+◌, ◌<◌, arith}
-use Rattle.system.specs.Below.source_machine.specs.Turns.{turn_marks, most_evaluations}
+use Rattle.system.specs.Below.system_meaning.specs.Turns.{turn_marks, most_evaluations}
 use Rattle.system.proofs.Slicing.{turn_enough}
 use Rattle.system.proofs.Standing.{pays}
 use Rattle.system.proofs.slices.enough.Goals as goal

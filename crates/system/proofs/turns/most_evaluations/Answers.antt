@@ -1,5 +1,5 @@
 use Rattle.std.proofs.Common.{refl}
-use Rattle.task_requests.specs.Below.source_machine.specs.Turns.{most_evaluations}
+use Rattle.system.specs.Below.system_meaning.specs.Turns.{most_evaluations}
 use Rattle.system.proofs.turns.most_evaluations.Goals as goal
 
 pub returns : goal.returns

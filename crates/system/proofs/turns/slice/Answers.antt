@@ -1,5 +1,5 @@
 use Rattle.std.proofs.Common.{◌+◌, ◌-◌, false, true, arith}
-use Rattle.task_requests.specs.Below.source_machine.specs.Turns.{slice}
+use Rattle.system.specs.Below.system_meaning.specs.Turns.{slice}
 use Rattle.system.proofs.Leading.{stops, goes_so, slice_first, slice_next, slice_last}
 use Rattle.system.proofs.turns.slice.Goals as goal
 

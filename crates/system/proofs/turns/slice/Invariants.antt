@@ -1,10 +1,10 @@
 use Rattle.std.proofs.Common.{ℕ, ◌-◌, Bool, true, List}
-use Rattle.elan_scope.specs.declared.env.Env.{Env}
-use Rattle.task_requests.specs.Below.source_machine.specs.Systems.{Moment}
-use Rattle.task_requests.specs.Below.source_machine.specs.Monitor.{Reading}
-use Rattle.task_requests.specs.Below.packet_store.specs.Readings.{IsReading}
-use Rattle.task_requests.specs.Below.source_machine.specs.Turns.{slice}
-use Rattle.task_requests.specs.Below.live_system.specs.Machines.{StandsAt}
+use Rattle.system.specs.Below.elan_scope.specs.declared.env.Env.{Env}
+use Rattle.system.specs.Below.system_meaning.specs.Systems.{Moment}
+use Rattle.system.specs.Below.system_meaning.specs.Monitor.{Reading}
+use Rattle.system.specs.Below.packet_store.specs.Readings.{IsReading}
+use Rattle.system.specs.Below.system_meaning.specs.Turns.{slice}
+use Rattle.system.specs.Below.live_system.specs.Machines.{StandsAt}
 use Rattle.turn_laws.specs.Waits.{HasTurn}
 use Rattle.system.specs.Leading.{Leads, TurnGoes}
 use Rattle.system.proofs.turns.slice.Given as goal

@@ -1,4 +1,4 @@
-use Rattle.task_requests.specs.Below.source_machine.specs.Turns.{turn_of}
+use Rattle.system.specs.Below.system_meaning.specs.Turns.{turn_of}
 use Rattle.system.proofs.turns.turn.Goals as goal
 
 pub returns : goal.returns

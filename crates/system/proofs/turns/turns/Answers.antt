@@ -1,5 +1,5 @@
 use Rattle.std.proofs.Common.{◌+◌, ◌-◌, arith}
-use Rattle.task_requests.specs.Below.source_machine.specs.Turns.{turns}
+use Rattle.system.specs.Below.system_meaning.specs.Turns.{turns}
 use Rattle.system.proofs.Leading.{turns_first, turns_next, turns_last}
 use Rattle.system.proofs.turns.turns.Goals as goal
 

@@ -1,9 +1,9 @@
 use Rattle.std.proofs.Common.{ℕ, ◌-◌, Bool, true, List}
-use Rattle.elan_scope.specs.declared.env.Env.{Env}
-use Rattle.task_requests.specs.Below.source_machine.specs.Systems.{Moment}
-use Rattle.task_requests.specs.Below.source_machine.specs.Monitor.{Reading}
-use Rattle.task_requests.specs.Below.packet_store.specs.Readings.{IsReading}
-use Rattle.task_requests.specs.Below.source_machine.specs.Turns.{turns}
+use Rattle.system.specs.Below.elan_scope.specs.declared.env.Env.{Env}
+use Rattle.system.specs.Below.system_meaning.specs.Systems.{Moment}
+use Rattle.system.specs.Below.system_meaning.specs.Monitor.{Reading}
+use Rattle.system.specs.Below.packet_store.specs.Readings.{IsReading}
+use Rattle.system.specs.Below.system_meaning.specs.Turns.{turns}
 use Rattle.system.specs.Systems.{Stands}
 use Rattle.system.specs.Leading.{Leads}
 use Rattle.system.proofs.Leading.{AreInOrder}

@@ -1,8 +1,8 @@
 use Rattle.std.proofs.Common.{List, ap, ◌∙◌, ◌≡◌, length, min, arith}
-use Rattle.cell_kinds.specs.Kinds.{packet_kinds}
-use Rattle.cell_kinds.specs.declared.packet.Packet.{Packet}
-use Rattle.space_memory.specs.Memories.{roots}
-use Rattle.live_task.specs.Below.task_job.proofs.Here.{memory_frames_none}
+use Rattle.task_ends.specs.Below.cell_kinds.specs.Kinds.{packet_kinds}
+use Rattle.task_ends.specs.Below.cell_kinds.specs.declared.packet.Packet.{Packet}
+use Rattle.task_ends.specs.Below.space_memory.specs.Memories.{roots}
+use Rattle.task_ends.specs.Below.task_job.proofs.Here.{memory_frames_none}
 use Rattle.task_ends.proofs.Fronts.{none_behind, freed_so, many_before}
 use Rattle.task_ends.proofs.Settled.{whole_still}
 use Rattle.task_ends.proofs.behind.free_behind.Goals as goal

@@ -1,7 +1,7 @@
 use Rattle.std.proofs.Common.{◌+◌, length, rules}
-use Rattle.cell_kinds.specs.Kinds.{all_kinds}
-use Rattle.packet_cells.specs.Freed.{freed}
-use Rattle.live_task.specs.Below.task_job.proofs.Framed.{holds_there}
+use Rattle.task_ends.specs.Below.cell_kinds.specs.Kinds.{all_kinds}
+use Rattle.zero_machine.specs.Freed.{freed}
+use Rattle.task_ends.specs.Below.task_job.proofs.Framed.{holds_there}
 use Rattle.task_ends.proofs.behind.free_over.Goals as goal
 
 pub returns-in-Ok-clause-freed : goal.returns-in-Ok-clause-freed

@@ -1,7 +1,7 @@
 use Rattle.std.proofs.Common.{◌∙◌}
 use Rattle.live_task.proofs.Carried.{stands_kept}
-use Rattle.live_task.specs.Below.task_job.proofs.Here.{keeps_none}
-use Rattle.space_memory.specs.Memories.{roots}
+use Rattle.task_ends.specs.Below.task_job.proofs.Here.{keeps_none}
+use Rattle.task_ends.specs.Below.space_memory.specs.Memories.{roots}
 use Rattle.task_ends.specs.Refused.{Refused}
 use Rattle.task_ends.proofs.Pages.{on_err, refused_none}
 use Rattle.task_ends.proofs.Heirs.{son_stands}

@@ -1,8 +1,8 @@
 use Rattle.std.proofs.Common.{sym, subst, ◌∙◌}
 use Rattle.page_pool.specs.Pool.{Pages}
-use Rattle.live_task.specs.Below.task_job.specs.Here.{nowhere}
-use Rattle.space_memory.specs.Memories.{roots}
-use Rattle.space_memory.proofs.Framed.{stands_now}
+use Rattle.task_ends.specs.Below.task_job.specs.Here.{nowhere}
+use Rattle.task_ends.specs.Below.space_memory.specs.Memories.{roots}
+use Rattle.task_ends.specs.Below.space_memory.proofs.Framed.{stands_now}
 use Rattle.task_ends.specs.Refused.{Refused}
 use Rattle.task_ends.proofs.Pages as pages
 use Rattle.task_ends.proofs.Settled.{as_many}

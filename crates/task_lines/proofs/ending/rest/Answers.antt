@@ -1,4 +1,4 @@
-use Rattle.live_system.specs.Below.source_machine.specs.Monitor.{prompted}
+use Rattle.task_lines.specs.Below.system_meaning.specs.Monitor.{prompted}
 use Rattle.task_lines.proofs.Kept.{on_ok}
 use Rattle.task_lines.proofs.ending.rest.Goals as goal
 

@@ -1,6 +1,6 @@
 use Rattle.std.proofs.Common.{Some, None}
-use Rattle.live_system.specs.Below.source_machine.specs.Systems.{tell}
-use Rattle.live_system.specs.Below.source_machine.specs.Monitor.{stop_told}
+use Rattle.task_lines.specs.Below.system_meaning.specs.Systems.{tell}
+use Rattle.task_lines.specs.Below.system_meaning.specs.Monitor.{stop_told}
 use Rattle.task_lines.proofs.Kept.{on_ok}
 use Rattle.task_lines.proofs.Finishing.{rested_so}
 use Rattle.task_lines.proofs.ending.rest_with.Goals as goal

@@ -1,9 +1,9 @@
 use Rattle.std.proofs.Common.{◌≡◌, [], None, Option, sym, ap, subst, ◌∙◌}
 use Rattle.eu_base.specs.declared.stop.Stop.{Stop}
-use Rattle.live_system.specs.Below.source_machine.specs.Stores.{Store, entering_refusal}
-use Rattle.live_system.specs.Below.source_machine.specs.Tasks.{Entering}
-use Rattle.live_system.specs.Below.source_machine.specs.Systems.{does, kept, on_system}
-use Rattle.live_system.specs.Below.source_machine.specs.Monitor.{enter_unless}
+use Rattle.task_lines.specs.Below.system_meaning.specs.Stores.{Store, entering_refusal}
+use Rattle.task_lines.specs.Below.system_meaning.specs.Tasks.{Entering}
+use Rattle.task_lines.specs.Below.system_meaning.specs.Systems.{does, kept, on_system}
+use Rattle.task_lines.specs.Below.system_meaning.specs.Monitor.{enter_unless}
 use Rattle.live_system.specs.Machines.{StandsAt}
 use Rattle.task_lines.proofs.Kept.{on_ok}
 use Rattle.task_lines.proofs.Taking.{kept_idle}

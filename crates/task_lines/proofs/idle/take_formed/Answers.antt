@@ -1,8 +1,8 @@
 use Rattle.std.proofs.Common.{ℕ, true, false, List, subst, arith}
 use Rattle.monitor.specs.declared.commands.Form.TheVariants.{Blank, Enter, Run, Insert, Names, Program}
-use Rattle.live_system.specs.Below.source_machine.specs.Stores.{entering_refusal}
-use Rattle.live_system.specs.Below.source_machine.specs.Systems.{kept}
-use Rattle.live_system.specs.Below.source_machine.specs.Monitor.{enter_unless, run_named}
+use Rattle.task_lines.specs.Below.system_meaning.specs.Stores.{entering_refusal}
+use Rattle.task_lines.specs.Below.system_meaning.specs.Systems.{kept}
+use Rattle.task_lines.specs.Below.system_meaning.specs.Monitor.{enter_unless, run_named}
 use Rattle.live_system.specs.Machines.{StandsAt}
 use Rattle.task_lines.proofs.Kept.{on_ok}
 use Rattle.task_lines.proofs.Taking.{formed_so}

@@ -1,4 +1,4 @@
-use Rattle.live_system.specs.Below.source_machine.specs.Monitor.{words_of}
+use Rattle.task_lines.specs.Below.system_meaning.specs.Monitor.{words_of}
 use Rattle.task_lines.proofs.Kept.{on_ok}
 use Rattle.task_lines.proofs.Taking.{worded_so}
 use Rattle.task_lines.proofs.idle.take_idle.Goals as goal

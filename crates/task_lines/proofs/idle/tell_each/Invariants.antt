@@ -1,6 +1,6 @@
 use Rattle.std.proofs.Common.{take}
-use Rattle.live_system.specs.Below.source_machine.specs.Systems.{Moment}
-use Rattle.live_system.specs.Below.source_machine.specs.Monitor.{names_told}
+use Rattle.task_lines.specs.Below.system_meaning.specs.Systems.{Moment}
+use Rattle.task_lines.specs.Below.system_meaning.specs.Monitor.{names_told}
 use Rattle.live_system.specs.Machines.{StandsAt}
 use Rattle.task_lines.proofs.idle.tell_each.Given as goal
 

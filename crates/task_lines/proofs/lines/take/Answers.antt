@@ -1,7 +1,7 @@
 use Rattle.std.proofs.Common.{◌≤◌, ℕ, List, length, sym, subst}
 use Rattle.task_numbers.specs.declared.limits.TheConstants.{LONGEST_LINE}
-use Rattle.live_system.specs.Below.source_machine.specs.Systems.{doing}
-use Rattle.live_system.specs.Below.source_machine.specs.Monitor.{words_of, worded}
+use Rattle.task_lines.specs.Below.system_meaning.specs.Systems.{doing}
+use Rattle.task_lines.specs.Below.system_meaning.specs.Monitor.{words_of, worded}
 use Rattle.live_system.specs.Machines.{StandsAt}
 use Rattle.task_lines.proofs.Kept.{on_ok}
 use Rattle.task_lines.proofs.Taking.{takes_idle, takes_entering, takes_gone, takes_running}

@@ -1,5 +1,5 @@
 use Rattle.std.proofs.Common.{◌-◌, ◌+◌, Bool, subst, arith}
-use Rattle.live_system.specs.Below.source_machine.specs.Monitor.{drained_in}
+use Rattle.task_lines.specs.Below.system_meaning.specs.Monitor.{drained_in}
 use Rattle.task_lines.specs.Queues.{one_taken, Follows}
 use Rattle.task_lines.proofs.Draining.{midway_first, stops, goes_on, midway_last}
 use Rattle.task_lines.proofs.queue.drain.Goals as goal

@@ -1,8 +1,8 @@
 use Rattle.std.proofs.Common.{ℕ, ◌-◌, Bool, List}
-use Rattle.elan_scope.specs.declared.env.Env.{Env}
-use Rattle.live_system.specs.Below.source_machine.specs.Systems.{Moment}
-use Rattle.live_system.specs.Below.source_machine.specs.Monitor.{Reading, drained_in}
-use Rattle.live_system.specs.Below.packet_store.specs.Readings.{IsReading}
+use Rattle.task_lines.specs.Below.elan_scope.specs.declared.env.Env.{Env}
+use Rattle.task_lines.specs.Below.system_meaning.specs.Systems.{Moment}
+use Rattle.task_lines.specs.Below.system_meaning.specs.Monitor.{Reading, drained_in}
+use Rattle.task_lines.specs.Below.packet_store.specs.Readings.{IsReading}
 use Rattle.live_system.specs.Machines.{StandsAt}
 use Rattle.task_lines.proofs.Draining.{Midway}
 use Rattle.task_lines.proofs.queue.drain.Given as goal

@@ -1,5 +1,5 @@
 use Rattle.terminals.specs.Channels.{unqueued}
-use Rattle.live_system.specs.Below.source_machine.specs.Systems.{on_system, on_channels}
+use Rattle.task_lines.specs.Below.system_meaning.specs.Systems.{on_system, on_channels}
 use Rattle.task_lines.proofs.Draining.{none_waits, one_waits}
 use Rattle.task_lines.proofs.queue.take_at.Goals as goal
 

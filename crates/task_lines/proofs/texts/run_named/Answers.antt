@@ -1,7 +1,7 @@
 use Rattle.std.proofs.Common.{ℕ, List, sym, subst, ◌∙◌}
-use Rattle.live_system.specs.Below.source_machine.specs.Stores.{space_under}
-use Rattle.live_system.specs.Below.source_machine.specs.Systems.{Moment, kept}
-use Rattle.live_system.specs.Below.source_machine.specs.Monitor.{run_text}
+use Rattle.task_lines.specs.Below.system_meaning.specs.Stores.{space_under}
+use Rattle.task_lines.specs.Below.system_meaning.specs.Systems.{Moment, kept}
+use Rattle.task_lines.specs.Below.system_meaning.specs.Monitor.{run_text}
 use Rattle.live_system.specs.Machines.{StandsAt}
 use Rattle.task_lines.proofs.Kept.{on_ok}
 use Rattle.task_lines.proofs.Running.{no_space, no_text, has_text}

@@ -1,7 +1,7 @@
 use Rattle.std.proofs.Common.{ℕ, List, Option, subst}
-use Rattle.live_system.specs.Below.units.specs.Library.{env_of}
-use Rattle.live_system.specs.Below.source_machine.specs.Systems.{packets}
-use Rattle.live_system.specs.Below.source_machine.specs.Monitor.{answered}
+use Rattle.task_lines.specs.Below.units.specs.Library.{env_of}
+use Rattle.task_lines.specs.Below.system_meaning.specs.Systems.{packets}
+use Rattle.task_lines.specs.Below.system_meaning.specs.Monitor.{answered}
 use Rattle.live_system.specs.Texts.{RunsText}
 use Rattle.live_system.specs.Machines.{StandsAt}
 use Rattle.task_lines.proofs.Kept.{on_ok}

@@ -1,8 +1,8 @@
 use Rattle.std.proofs.Common.{sym, subst}
 use Rattle.eu_base.specs.DataSpaces.{the_space}
-use Rattle.data_space.specs.Data.{SpaceData}
-use Rattle.task_texts.specs.Below.source_machine.specs.Tasks.{now}
-use Rattle.task_texts.specs.Below.task_job.specs.Here.{here}
+use Rattle.task_messages.specs.Below.data_space.specs.Data.{SpaceData}
+use Rattle.task_messages.specs.Below.system_meaning.specs.Tasks.{now}
+use Rattle.task_messages.specs.Below.task_job.specs.Here.{here}
 use Rattle.task_messages.specs.Passing.{Carries}
 use Rattle.task_messages.proofs.Passed.{carries, went_out}
 use Rattle.task_messages.proofs.messages.send_out.Goals as goal

@@ -1,4 +1,4 @@
-use Rattle.task_texts.specs.Below.task_job.specs.Here.{here}
+use Rattle.task_messages.specs.Below.task_job.specs.Here.{here}
 use Rattle.task_messages.proofs.Passed.{came_in, if_done}
 use Rattle.task_messages.proofs.messages.take_in.Goals as goal
 

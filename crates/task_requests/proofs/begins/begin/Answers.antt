@@ -1,7 +1,7 @@
 use Rattle.std.proofs.Common.{◌≡◌, None, sym, subst}
-use Rattle.live_system.specs.Below.units.specs.Library.{started_at}
-use Rattle.live_system.specs.Below.source_machine.specs.Systems.{packets}
-use Rattle.live_system.specs.Below.source_machine.specs.Serving.{begin_refusal, begin_with}
+use Rattle.task_requests.specs.Below.units.specs.Library.{started_at}
+use Rattle.task_requests.specs.Below.system_meaning.specs.Systems.{packets}
+use Rattle.task_requests.specs.Below.system_meaning.specs.Serving.{begin_refusal, begin_with}
 use Rattle.task_requests.specs.Served.{ServedAs}
 use Rattle.task_requests.proofs.Results.{if_ok}
 use Rattle.task_requests.proofs.begins.begin.Goals as goal

@@ -1,6 +1,6 @@
 use Rattle.std.proofs.Common.{subst}
-use Rattle.live_system.specs.Below.units.specs.Library.{started_at}
-use Rattle.live_system.specs.Below.source_machine.specs.Systems.{packets}
+use Rattle.task_requests.specs.Below.units.specs.Library.{started_at}
+use Rattle.task_requests.specs.Below.system_meaning.specs.Systems.{packets}
 use Rattle.live_system.specs.Steps.{BeginsRunning}
 use Rattle.task_requests.proofs.Beginning.{none_refused, begun, not_begun}
 use Rattle.task_requests.proofs.begins.begin_running.Goals as goal

@@ -1,6 +1,6 @@
 use Rattle.std.proofs.Common.{◌≡◌, true, sym, subst, ◌∙◌}
-use Rattle.task_tree.specs.Tree as tree
-use Rattle.live_system.specs.Below.source_machine.specs.Serving.{end_living}
+use Rattle.task_requests.specs.Below.task_tree.specs.Tree as tree
+use Rattle.task_requests.specs.Below.system_meaning.specs.Serving.{end_living}
 use Rattle.task_requests.specs.Served.{ServedAs}
 use Rattle.task_requests.proofs.Results.{if_ok}
 use Rattle.task_requests.proofs.ends.end.Goals as goal

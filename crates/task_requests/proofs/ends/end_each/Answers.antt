@@ -1,5 +1,5 @@
 use Rattle.std.proofs.Common.{refl, fold, arith}
-use Rattle.live_system.specs.Below.source_machine.specs.Ends.{ended}
+use Rattle.task_requests.specs.Below.system_meaning.specs.Ends.{ended}
 use Rattle.task_requests.proofs.Ending.{one_ended, all_ended}
 use Rattle.task_requests.proofs.ends.end_each.Goals as goal
 

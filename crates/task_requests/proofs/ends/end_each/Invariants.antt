@@ -1,7 +1,7 @@
 use Rattle.std.proofs.Common.{drop, fold}
-use Rattle.task_tree.specs.Ends.{EndInTurn}
-use Rattle.live_system.specs.Below.source_machine.specs.Systems.{Moment}
-use Rattle.live_system.specs.Below.source_machine.specs.Ends.{ended}
+use Rattle.task_requests.specs.Below.task_tree.specs.Ends.{EndInTurn}
+use Rattle.task_requests.specs.Below.system_meaning.specs.Systems.{Moment}
+use Rattle.task_requests.specs.Below.system_meaning.specs.Ends.{ended}
 use Rattle.live_system.specs.Machines.{StandsAt}
 use Rattle.task_requests.proofs.Ending.{Midway}
 use Rattle.task_requests.proofs.ends.end_each.Given as goal

@@ -1,5 +1,5 @@
 use Rattle.std.proofs.Common.{◌≡◌, true, sym, subst, ◌∙◌}
-use Rattle.live_system.specs.Below.source_machine.specs.Serving.{may_end, end_allowed}
+use Rattle.task_requests.specs.Below.system_meaning.specs.Serving.{may_end, end_allowed}
 use Rattle.task_requests.specs.Served.{ServedAs}
 use Rattle.task_requests.proofs.Results.{if_ok}
 use Rattle.task_requests.proofs.Ending.{ends_other}

@@ -2,8 +2,8 @@ use Rattle.std.proofs.Common.{ℤ, sym, ◌∙◌, subst}
 use Rattle.std.specs.Int.{w16}
 use Rattle.std.proofs.lemmas.Int.{to_z-of_z}
 use Rattle.eu_base.specs.declared.request.Request.TheVariants.{Call}
-use Rattle.task_tree.specs.Tree.{lives}
-use Rattle.live_system.specs.Below.source_machine.specs.Serving.{Served, caller, call_living}
+use Rattle.task_requests.specs.Below.task_tree.specs.Tree.{lives}
+use Rattle.task_requests.specs.Below.system_meaning.specs.Serving.{Served, caller, call_living}
 use Rattle.task_requests.specs.Served.{IsAsking, GoesAs}
 use Rattle.task_requests.proofs.Results.{if_ok}
 use Rattle.task_requests.proofs.Sending.{call_nothing, call_stopped, calls_one}

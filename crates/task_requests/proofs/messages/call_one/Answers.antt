@@ -2,10 +2,10 @@ use Rattle.std.proofs.Common.{ℤ, true, false, to_z, of_z, refl, sym, ◌∙◌
 use Rattle.std.specs.Int.{w16}
 use Rattle.std.proofs.lemmas.Int.{to_z-of_z}
 use Rattle.eu_base.specs.declared.request.Request.TheVariants.{Call}
-use Rattle.message_wait.specs.declared.waits.Offer.TheVariants.{Taken, NotReady, Queued}
-use Rattle.message_wait.specs.Rendezvous.{offered}
-use Rattle.live_system.specs.Below.source_machine.specs.Systems.{on_system, on_waits}
-use Rattle.live_system.specs.Below.source_machine.specs.Serving.{Served, caller}
+use Rattle.task_requests.specs.Below.message_wait.specs.declared.waits.Offer.TheVariants.{Taken, NotReady, Queued}
+use Rattle.task_requests.specs.Below.message_wait.specs.Rendezvous.{offered}
+use Rattle.task_requests.specs.Below.system_meaning.specs.Systems.{on_system, on_waits}
+use Rattle.task_requests.specs.Below.system_meaning.specs.Serving.{Served, caller}
 use Rattle.live_system.specs.Machines.{StandsAt}
 use Rattle.task_requests.specs.Served.{GoesAs}
 use Rattle.task_requests.proofs.Results.{if_ok}

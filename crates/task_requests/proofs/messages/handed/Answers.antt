@@ -3,8 +3,8 @@ use Rattle.std.specs.Int.{w16}
 use Rattle.std.proofs.lemmas.Int.{to_z-of_z}
 use Rattle.eu_base.specs.declared.request.Reply.TheVariants.{Taken}
 use Rattle.eu_base.specs.Requests.{plain}
-use Rattle.live_system.specs.Below.source_machine.specs.Systems.{Moment, given, woken, on_system}
-use Rattle.live_system.specs.Below.source_machine.specs.Serving.{content, message}
+use Rattle.task_requests.specs.Below.system_meaning.specs.Systems.{Moment, given, woken, on_system}
+use Rattle.task_requests.specs.Below.system_meaning.specs.Serving.{content, message}
 use Rattle.live_system.specs.Machines.{StandsAt}
 use Rattle.task_requests.proofs.Sending.{handed_moment}
 use Rattle.task_requests.proofs.messages.handed.Goals as goal

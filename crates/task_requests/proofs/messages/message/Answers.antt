@@ -4,7 +4,7 @@ use Rattle.std.specs.Int.RustNames.{FitsSigned}
 use Rattle.std.proofs.lemmas.Int.{to_z-of_z}
 use Rattle.eu_base.specs.declared.request.Request.{Request}
 use Rattle.eu_base.specs.declared.request.Request.TheVariants.{Send, Call}
-use Rattle.live_system.specs.Below.source_machine.specs.Serving.{serve}
+use Rattle.task_requests.specs.Below.system_meaning.specs.Serving.{serve}
 use Rattle.task_requests.specs.Served.{IsAsking, GoesAs}
 use Rattle.task_requests.proofs.Results.{if_ok}
 use Rattle.task_requests.proofs.messages.message.Goals as goal

@@ -2,10 +2,10 @@ use Rattle.std.proofs.Common.{rules, ℤ, false, Option, to_z, of_z, refl, sym, 
 use Rattle.std.specs.Int.{w16}
 use Rattle.std.proofs.lemmas.Int.{to_z-of_z}
 use Rattle.std.specs.Int.RustNames.{FitsSigned}
-use Rattle.message_wait.specs.declared.waits.Caller.{Caller}
-use Rattle.message_wait.specs.Rendezvous.{waited}
-use Rattle.live_system.specs.Below.source_machine.specs.Systems.{on_system, on_waits}
-use Rattle.live_system.specs.Below.source_machine.specs.Serving.{call_taken}
+use Rattle.task_requests.specs.Below.message_wait.specs.declared.waits.Caller.{Caller}
+use Rattle.task_requests.specs.Below.message_wait.specs.Rendezvous.{waited}
+use Rattle.task_requests.specs.Below.system_meaning.specs.Systems.{on_system, on_waits}
+use Rattle.task_requests.specs.Below.system_meaning.specs.Serving.{call_taken}
 use Rattle.task_requests.specs.Served.{GoesAs}
 use Rattle.task_requests.proofs.Waiting.{HasCalled, has_called, none_called}
 use Rattle.task_requests.proofs.Answering.{answered}

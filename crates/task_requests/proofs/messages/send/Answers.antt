@@ -2,8 +2,8 @@ use Rattle.std.proofs.Common.{false, to_z, of_z, refl, sym, ◌∙◌, subst}
 use Rattle.std.specs.Int.{w16}
 use Rattle.std.proofs.lemmas.Int.{to_z-of_z}
 use Rattle.eu_base.specs.declared.request.Request.TheVariants.{Send}
-use Rattle.message_wait.specs.declared.waits.Offer.TheVariants.{Taken, NotReady}
-use Rattle.live_system.specs.Below.source_machine.specs.Serving.{Served, caller}
+use Rattle.task_requests.specs.Below.message_wait.specs.declared.waits.Offer.TheVariants.{Taken, NotReady}
+use Rattle.task_requests.specs.Below.system_meaning.specs.Serving.{Served, caller}
 use Rattle.task_requests.specs.Served.{GoesAs}
 use Rattle.task_requests.proofs.Results.{if_ok}
 use Rattle.task_requests.proofs.Waiting.{never_queued, offer_refused}

@@ -1,6 +1,6 @@
 use Rattle.std.proofs.Common.{Option, ap, ◌∙◌}
 use Rattle.eu_base.specs.declared.request.Request.{Request}
-use Rattle.live_system.specs.Below.source_machine.specs.Serving.{called_with}
+use Rattle.task_requests.specs.Below.system_meaning.specs.Serving.{called_with}
 use Rattle.task_requests.proofs.messages.space_of.Goals as goal
 
 pub returns : goal.returns

@@ -1,5 +1,5 @@
 use Rattle.std.proofs.Common.{sym, subst}
-use Rattle.live_system.specs.Below.source_machine.specs.Serving.{Served}
+use Rattle.task_requests.specs.Below.system_meaning.specs.Serving.{Served}
 use Rattle.task_requests.specs.Served.{GoesAs}
 use Rattle.task_requests.proofs.Results.{if_ok}
 use Rattle.task_requests.proofs.Sending.{wait_stopped, waits_so}

@@ -1,5 +1,5 @@
 use Rattle.std.proofs.Common.{subst}
-use Rattle.live_system.specs.Below.source_machine.specs.Serving.{serve}
+use Rattle.task_requests.specs.Below.system_meaning.specs.Serving.{serve}
 use Rattle.task_requests.specs.Served.{ServedAs}
 use Rattle.task_requests.proofs.Sending.{replied_so, rests_so}
 use Rattle.task_requests.proofs.requests.replied.Goals as goal

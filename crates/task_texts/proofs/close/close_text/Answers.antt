@@ -1,6 +1,6 @@
 use Rattle.std.proofs.Common.{sym, subst}
-use Rattle.page_table.specs.Frames.{Stands}
-use Rattle.space_memory.specs.Memories.{roots}
+use Rattle.task_texts.specs.Below.page_table.specs.Frames.{Stands}
+use Rattle.task_texts.specs.Below.space_memory.specs.Memories.{roots}
 use Rattle.live_task.specs.declared.task.Task.{Task}
 use Rattle.task_texts.proofs.Closing.{closes}
 use Rattle.task_texts.proofs.close.close_text.Goals as goal

@@ -1,7 +1,7 @@
-use Rattle.space_memory.specs.Memories.{roots}
-use Rattle.task_messages.specs.Below.task_job.specs.Here.{nowhere}
-use Rattle.task_messages.specs.Below.task_job.proofs.Here.{frames_before}
-use Rattle.space_memory.proofs.Framed.{stands_now}
+use Rattle.task_tidy.specs.Below.space_memory.specs.Memories.{roots}
+use Rattle.task_tidy.specs.Below.task_job.specs.Here.{nowhere}
+use Rattle.task_tidy.specs.Below.task_job.proofs.Here.{frames_before}
+use Rattle.task_tidy.specs.Below.space_memory.proofs.Framed.{stands_now}
 use Rattle.task_tidy.proofs.Keeping.{whole_less}
 use Rattle.task_tidy.proofs.forgetting.forget.Goals as goal
 

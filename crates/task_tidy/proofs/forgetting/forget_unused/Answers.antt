@@ -1,8 +1,8 @@
 use Rattle.std.proofs.Common.{◌-◌, subst}
-use Rattle.space_memory.specs.Memories.{roots}
-use Rattle.task_messages.specs.Below.task_job.proofs.Here.{memory_frames_none, memory_frames_then}
-use Rattle.task_messages.specs.Below.source_machine.specs.Stores.{Store}
-use Rattle.task_messages.specs.Below.task_job.specs.Standing.{Keeps}
+use Rattle.task_tidy.specs.Below.space_memory.specs.Memories.{roots}
+use Rattle.task_tidy.specs.Below.task_job.proofs.Here.{memory_frames_none, memory_frames_then}
+use Rattle.task_tidy.specs.Below.system_meaning.specs.Stores.{Store}
+use Rattle.task_tidy.specs.Below.task_job.specs.Standing.{Keeps}
 use Rattle.task_tidy.specs.Tidied.{kinds_with, tidied_from}
 use Rattle.task_tidy.proofs.Keeping.{all_first, next_place}
 use Rattle.task_tidy.proofs.forgetting.forget_unused.Goals as goal

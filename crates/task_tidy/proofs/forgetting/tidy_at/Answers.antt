@@ -1,8 +1,8 @@
 use Rattle.std.proofs.Common.{◌≡◌, ℕ, Some, None, refl, Option}
 use Rattle.std.specs.Prelude.{option_map}
 use Rattle.task_numbers.specs.declared.number.SpaceNo.{SpaceNo}
-use Rattle.space_memory.specs.Memories.{roots}
-use Rattle.task_messages.specs.Below.task_job.proofs.Here.{memory_frames_then}
+use Rattle.task_tidy.specs.Below.space_memory.specs.Memories.{roots}
+use Rattle.task_tidy.specs.Below.task_job.proofs.Here.{memory_frames_then}
 use Rattle.task_tidy.specs.Tidied.{kinds_with}
 use Rattle.task_tidy.proofs.Keeping.{none_at, low_at, used_at, gone_at}
 use Rattle.task_tidy.proofs.forgetting.tidy_at.Goals as goal

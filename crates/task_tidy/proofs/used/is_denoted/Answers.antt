@@ -1,6 +1,6 @@
 use Rattle.std.proofs.Common.{rules}
-use Rattle.space_memory.specs.Memories.{roots}
-use Rattle.task_messages.specs.Below.task_job.proofs.Framed.{holds_there, whole_there}
+use Rattle.task_tidy.specs.Below.space_memory.specs.Memories.{roots}
+use Rattle.task_tidy.specs.Below.task_job.proofs.Framed.{holds_there, whole_there}
 use Rattle.task_tidy.proofs.used.is_denoted.Goals as goal
 
 pub returns-in-Ok-clause-stands : goal.returns-in-Ok-clause-stands

@@ -1,7 +1,7 @@
 use Rattle.std.proofs.Common.{◌≤◌, length, arith, sym, subst}
 use Rattle.eu_base.specs.DataSpaces.{Heads}
-use Rattle.zero_state.specs.Stepping.{mem_of}
-use Rattle.place_gen.specs.Correct.{HasSpaces}
+use Rattle.task_tidy.specs.Below.zero_state.specs.Stepping.{mem_of}
+use Rattle.task_tidy.specs.Below.place_gen.specs.Correct.{HasSpaces}
 use Rattle.std.proofs.lemmas.List.{length-append}
 use Rattle.cell_kinds.specs.Kinds.{packet_kinds}
 use Rattle.task_tidy.specs.Tidied.{kinds_with}

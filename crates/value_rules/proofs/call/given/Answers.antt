@@ -1,3 +1,5 @@
+use native.Mathlib.Omega.{arith as r0_arith}
+use Rattle.std.proofs.lemmas.Grind.{common_steps as r1_common_steps}
 use Rattle.std.proofs.Common.{List, drop, refl, sym, ap, subst, ◌∙◌}
 use Rattle.elan_types.specs.declared.elan_type.Parameter.{Parameter}
 use Rattle.elan_types.specs.declared.core_phrase.Actual.{Actual}
@@ -22,3 +24,6 @@ loop-operand-preserved c = (
       ∙ sym (given_more c.args.at (parameters c.args.parameters) c.loop-operand.yielded c.in-Some.operand))
       (c.give-actuals.ensures (given c.args.at (parameters c.args.parameters) c.loop-operand.yielded) c.loop-operand.invariant.1),
 )
+
+pub loop-operand-init-derived : goal.loop-operand-init-derived
+loop-operand-init-derived c = grind (r0_arith, r1_common_steps) steps 2000000

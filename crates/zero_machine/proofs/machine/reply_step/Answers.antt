@@ -1,6 +1,6 @@
 use Rattle.std.proofs.Common.{Some, sym, ap, ◌∙◌}
 use Rattle.zero_state.specs.Stepping.{position_of, control_of}
-use Rattle.zero_requests.specs.Replying.{Replies}
+use Rattle.zero_steps.specs.Replying.{Replies}
 use Rattle.zero_machine.proofs.Finds.{reply_finds}
 use Rattle.zero_machine.proofs.Fitting.{fits_given, at_reply, reply_fits, reply_spends, reply_nears}
 use Rattle.zero_machine.proofs.machine.reply_step.Goals as goal

@@ -1,6 +1,6 @@
 use Rattle.std.proofs.Common.{sym, ap, ◌∙◌}
 use Rattle.std.specs.Option.{is_some}
-use Rattle.live_tasks.specs.Below.units.specs.Library.{Library, live_as}
+use Rattle.live_packets.specs.Below.units.specs.Library.{Library, live_as}
 use Rattle.live_packets.proofs.PacketKinds.{none_released, is_some_map}
 use Rattle.live_packets.proofs.packets.Packets.release.Goals as goal
 

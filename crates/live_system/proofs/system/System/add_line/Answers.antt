@@ -1,6 +1,6 @@
 use Rattle.std.proofs.lemmas.Result.{on_ok_weaker}
 use Rattle.std.proofs.Common.{[], ◌∷◌, ◌++◌}
-use Rattle.live_packets.specs.Below.source_machine.specs.Tasks.{Entering}
+use Rattle.live_system.specs.Below.system_meaning.specs.Tasks.{Entering}
 use Rattle.live_packets.specs.Packets.{kinds_in}
 use Rattle.live_system.proofs.Moments.{idle_does, none_does}
 use Rattle.live_system.proofs.system.System.add_line.Goals as goal

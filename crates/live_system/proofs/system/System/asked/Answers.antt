@@ -1,5 +1,5 @@
 use Rattle.std.specs.Option.{option_copied}
-use Rattle.live_packets.specs.Below.source_machine.specs.Systems.{System, requested}
+use Rattle.live_system.specs.Below.system_meaning.specs.Systems.{System, requested}
 use Rattle.live_packets.specs.Packets.{kinds_in}
 use Rattle.live_system.proofs.Moments.{system_looked}
 use Rattle.live_system.proofs.system.System.asked.Goals as goal

@@ -1,5 +1,5 @@
 use Rattle.std.proofs.Common.{ap, ◌∙◌}
-use Rattle.live_packets.specs.Below.source_machine.specs.Systems.{System, requested}
+use Rattle.live_system.specs.Below.system_meaning.specs.Systems.{System, requested}
 use Rattle.live_system.specs.What.{is_input}
 use Rattle.live_packets.specs.Packets.{kinds_in}
 use Rattle.live_system.proofs.Moments.{system_looked}

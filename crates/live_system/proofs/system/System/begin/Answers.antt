@@ -1,4 +1,4 @@
-use Rattle.live_packets.specs.Below.source_machine.specs.Tasks.{Idle}
+use Rattle.live_system.specs.Below.system_meaning.specs.Tasks.{Idle}
 use Rattle.live_packets.specs.Packets.{kinds_in}
 use Rattle.live_system.proofs.Moments.{here, found}
 use Rattle.live_system.proofs.Beginning.{number, begins_with}

@@ -1,5 +1,5 @@
 use Rattle.std.proofs.Common.{refl}
-use Rattle.live_packets.specs.Below.source_machine.specs.Systems.{at_event}
+use Rattle.live_system.specs.Below.system_meaning.specs.Systems.{at_event}
 use Rattle.live_system.proofs.Moments.{stepped}
 use Rattle.live_system.proofs.system.System.begin_event.Goals as goal
 

@@ -1,7 +1,7 @@
 use Rattle.std.proofs.Common.{Option, None, Some, refl, sym, ap, ◌∙◌, subst}
 use Rattle.task_numbers.specs.declared.number.TaskNo.{TaskNo}
-use Rattle.live_packets.specs.Below.units.specs.declared.unit.Compiled.{Compiled}
-use Rattle.live_packets.specs.Below.source_machine.specs.Tasks.{Idle}
+use Rattle.live_system.specs.Below.units.specs.declared.unit.Compiled.{Compiled}
+use Rattle.live_system.specs.Below.system_meaning.specs.Tasks.{Idle}
 use Rattle.live_packets.specs.Packets.{kinds_in}
 use Rattle.live_system.specs.Steps.{BeginsRunning}
 use Rattle.live_system.proofs.Moments.{machine, here, found}

@@ -1,4 +1,4 @@
-use Rattle.live_packets.specs.Below.source_machine.specs.Systems.{Moment}
+use Rattle.live_system.specs.Below.system_meaning.specs.Systems.{Moment}
 use Rattle.task_tree.specs.Tree as tree
 use Rattle.live_system.proofs.Moments.{looked}
 use Rattle.live_system.proofs.system.System.brother.Goals as goal

@@ -1,7 +1,7 @@
 use Rattle.std.proofs.lemmas.Result.{on_ok_weaker}
 use Rattle.std.proofs.Common.{refl}
-use Rattle.session_text.specs.Display.{close_all}
-use Rattle.live_packets.specs.Below.source_machine.specs.Systems.{on_display}
+use Rattle.live_system.specs.Below.session_text.specs.Display.{close_all}
+use Rattle.live_system.specs.Below.system_meaning.specs.Systems.{on_display}
 use Rattle.live_system.proofs.Moments.{stepped}
 use Rattle.live_system.proofs.system.System.close_all.Goals as goal
 

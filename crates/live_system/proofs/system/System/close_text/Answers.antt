@@ -1,7 +1,7 @@
 use Rattle.std.proofs.lemmas.Result.{on_ok_weaker}
-use Rattle.source_texts.specs.Sources.{source_space}
-use Rattle.live_packets.specs.Below.source_machine.specs.Stores.{with_named}
-use Rattle.live_packets.specs.Below.source_machine.specs.Tasks.{Idle, Entering}
+use Rattle.live_system.specs.Below.source_texts.specs.Sources.{source_space}
+use Rattle.live_system.specs.Below.system_meaning.specs.Stores.{with_named}
+use Rattle.live_system.specs.Below.system_meaning.specs.Tasks.{Idle, Entering}
 use Rattle.live_packets.specs.Packets.{kinds_in}
 use Rattle.live_system.proofs.Moments.{idle_does, none_does}
 use Rattle.live_system.proofs.system.System.close_text.Goals as goal

@@ -1,4 +1,4 @@
-use Rattle.live_packets.specs.Below.source_machine.specs.Systems.{on_system, couple}
+use Rattle.live_system.specs.Below.system_meaning.specs.Systems.{on_system, couple}
 use Rattle.live_system.proofs.Moments.{stepped, couple_keeps}
 use Rattle.live_system.proofs.system.System.couple.Goals as goal
 

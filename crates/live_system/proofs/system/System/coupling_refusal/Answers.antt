@@ -1,6 +1,6 @@
-use Rattle.live_packets.specs.Below.source_machine.specs.Systems.{Moment}
+use Rattle.live_system.specs.Below.system_meaning.specs.Systems.{Moment}
 use Rattle.std.specs.Option.{option_copied}
-use Rattle.live_packets.specs.Below.source_machine.specs.Supervisor.{coupling_refusal}
+use Rattle.live_system.specs.Below.system_meaning.specs.Supervisor.{coupling_refusal}
 use Rattle.live_system.proofs.Moments.{looked}
 use Rattle.live_system.proofs.system.System.coupling_refusal.Goals as goal
 

@@ -1,4 +1,4 @@
-use Rattle.live_packets.specs.Below.source_machine.specs.Tasks.{Idle, Entering}
+use Rattle.live_system.specs.Below.system_meaning.specs.Tasks.{Idle, Entering}
 use Rattle.live_packets.specs.Packets.{kinds_in}
 use Rattle.live_system.proofs.Moments.{idle_does, none_does}
 use Rattle.live_system.proofs.system.System.drop_text.Goals as goal

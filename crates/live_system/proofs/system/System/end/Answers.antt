@@ -1,6 +1,6 @@
-use Rattle.terminals.specs.Channels.{channel_of}
-use Rattle.live_packets.specs.Below.source_machine.specs.Systems.{on_system, uncouple_at}
-use Rattle.live_packets.specs.Below.source_machine.specs.Ends.{removed}
+use Rattle.live_system.specs.Below.terminals.specs.Channels.{channel_of}
+use Rattle.live_system.specs.Below.system_meaning.specs.Systems.{on_system, uncouple_at}
+use Rattle.live_system.specs.Below.system_meaning.specs.Ends.{removed}
 use Rattle.live_system.proofs.system.System.end.Goals as goal
 
 pub returns : goal.returns

@@ -1,7 +1,7 @@
 use Rattle.std.proofs.Common.{Option}
-use Rattle.live_packets.specs.Below.source_machine.specs.Stores.{entering_refusal}
-use Rattle.live_packets.specs.Below.source_machine.specs.Systems.{kept_by}
-use Rattle.live_packets.specs.Below.source_machine.specs.Tasks.{Doing}
+use Rattle.live_system.specs.Below.system_meaning.specs.Stores.{entering_refusal}
+use Rattle.live_system.specs.Below.system_meaning.specs.Systems.{kept_by}
+use Rattle.live_system.specs.Below.system_meaning.specs.Tasks.{Doing}
 use Rattle.live_system.proofs.Moments.{none_looked, task_looked}
 use Rattle.live_system.proofs.system.System.entering_refusal.Goals as goal
 

@@ -1,6 +1,6 @@
 use Rattle.std.proofs.lemmas.Result.{IfOk-weaker}
 use Rattle.task_tree.specs.Families.{family}
-use Rattle.live_packets.specs.Below.source_machine.specs.Systems.{Moment}
+use Rattle.live_system.specs.Below.system_meaning.specs.Systems.{Moment}
 use Rattle.live_system.proofs.Moments.{looked, tree_law}
 use Rattle.live_system.proofs.system.System.family.Goals as goal
 

@@ -1,5 +1,5 @@
 use Rattle.message_wait.specs.Rendezvous.{released}
-use Rattle.live_packets.specs.Below.source_machine.specs.Systems.{on_system, on_waits}
+use Rattle.live_system.specs.Below.system_meaning.specs.Systems.{on_system, on_waits}
 use Rattle.std.proofs.Common.{◌∙◌}
 use Rattle.live_system.proofs.Waiting.{freed_so}
 use Rattle.live_system.proofs.system.System.free.Goals as goal

@@ -1,5 +1,5 @@
 use Rattle.std.proofs.Common.{Option, refl, subst}
-use Rattle.live_packets.specs.Below.source_machine.specs.Tasks.{Command}
+use Rattle.live_system.specs.Below.system_meaning.specs.Tasks.{Command}
 use Rattle.live_system.specs.declared.runs.Went.TheVariants as went
 use Rattle.live_packets.specs.Packets.{kinds_in}
 use Rattle.live_system.specs.Steps.{WentOn}

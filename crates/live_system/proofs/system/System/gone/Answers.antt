@@ -1,7 +1,7 @@
 use Rattle.std.proofs.Common.{refl}
 use Rattle.std.proofs.lemmas.Result.{IfOk-weaker, on_ok_weaker}
 use Rattle.message_wait.specs.Rendezvous.{waiting_for, released}
-use Rattle.live_packets.specs.Below.source_machine.specs.Systems.{Moment, on_system, on_waits}
+use Rattle.live_system.specs.Below.system_meaning.specs.Systems.{Moment, on_system, on_waits}
 use Rattle.live_system.proofs.Moments.{looked, stepped}
 use Rattle.live_system.proofs.system.System.gone.Goals as goal
 

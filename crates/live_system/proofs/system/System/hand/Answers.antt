@@ -8,10 +8,10 @@ use Rattle.eu_base.specs.declared.request.Reply.TheVariants.{Taken}
 use Rattle.eu_base.specs.Requests.{Answer, plain}
 use Rattle.eu_base.specs.DataSpaces.{heads_of, is_live}
 use Rattle.eu_base.specs.SpaceOperations.{room_refusal}
-use Rattle.live_packets.specs.Below.source_machine.specs.Stores.{Store}
-use Rattle.live_packets.specs.Below.source_machine.specs.Tasks.{Doing, now, request_of}
-use Rattle.live_packets.specs.Below.source_machine.specs.Systems.{given, on_system}
-use Rattle.live_packets.specs.Below.source_machine.specs.Serving.{content, message, space_number}
+use Rattle.live_system.specs.Below.system_meaning.specs.Stores.{Store}
+use Rattle.live_system.specs.Below.system_meaning.specs.Tasks.{Doing, now, request_of}
+use Rattle.live_system.specs.Below.system_meaning.specs.Systems.{given, on_system}
+use Rattle.live_system.specs.Below.system_meaning.specs.Serving.{content, message, space_number}
 use Rattle.live_packets.specs.Packets.{kinds_in}
 use Rattle.live_system.specs.Machines.{StandsAt}
 use Rattle.live_system.proofs.Moments.{machine, here, found, none_looked}

@@ -1,4 +1,4 @@
-use Rattle.live_packets.specs.Below.source_machine.specs.Tasks.{Entering}
+use Rattle.live_system.specs.Below.system_meaning.specs.Tasks.{Entering}
 use Rattle.live_packets.specs.Packets.{kinds_in}
 use Rattle.live_system.proofs.Moments.{none_does, found_doing}
 use Rattle.live_system.proofs.system.System.has_room.Goals as goal

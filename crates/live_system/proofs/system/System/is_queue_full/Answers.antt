@@ -1,5 +1,5 @@
-use Rattle.live_packets.specs.Below.source_machine.specs.Systems.{Moment}
-use Rattle.terminals.specs.Channels as channels
+use Rattle.live_system.specs.Below.system_meaning.specs.Systems.{Moment}
+use Rattle.live_system.specs.Below.terminals.specs.Channels as channels
 use Rattle.live_system.proofs.Moments.{looked}
 use Rattle.live_system.proofs.system.System.is_queue_full.Goals as goal
 

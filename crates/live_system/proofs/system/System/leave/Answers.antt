@@ -1,6 +1,6 @@
 use Rattle.std.proofs.Common.{refl}
-use Rattle.slicer.specs.Rotation as rotation
-use Rattle.live_packets.specs.Below.source_machine.specs.Systems.{on_system, on_ready}
+use Rattle.live_system.specs.Below.slicer.specs.Rotation as rotation
+use Rattle.live_system.specs.Below.system_meaning.specs.Systems.{on_system, on_ready}
 use Rattle.live_system.proofs.Moments.{stepped}
 use Rattle.live_system.proofs.system.System.leave.Goals as goal
 

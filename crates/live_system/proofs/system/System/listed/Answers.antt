@@ -1,6 +1,6 @@
 use Rattle.std.proofs.lemmas.Result.{IfOk-weaker}
 use Rattle.task_tree.specs.Families.{listed}
-use Rattle.live_packets.specs.Below.source_machine.specs.Systems.{Moment}
+use Rattle.live_system.specs.Below.system_meaning.specs.Systems.{Moment}
 use Rattle.live_system.proofs.Moments.{looked}
 use Rattle.live_system.proofs.system.System.listed.Goals as goal
 

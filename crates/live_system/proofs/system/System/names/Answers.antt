@@ -1,8 +1,8 @@
 use Rattle.std.proofs.Common.{Option}
 use Rattle.std.proofs.lemmas.Result.{IfOk-weaker}
-use Rattle.live_packets.specs.Below.source_machine.specs.Tasks.{Doing}
-use Rattle.live_packets.specs.Below.source_machine.specs.Systems.{kept_by}
-use Rattle.live_packets.specs.Below.source_machine.specs.Monitor.{directory_of}
+use Rattle.live_system.specs.Below.system_meaning.specs.Tasks.{Doing}
+use Rattle.live_system.specs.Below.system_meaning.specs.Systems.{kept_by}
+use Rattle.live_system.specs.Below.system_meaning.specs.Monitor.{directory_of}
 use Rattle.live_system.proofs.Moments.{none_looked, task_looked}
 use Rattle.live_system.proofs.system.System.names.Goals as goal
 

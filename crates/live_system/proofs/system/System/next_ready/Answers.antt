@@ -1,6 +1,6 @@
 use Rattle.std.proofs.Common.{refl, drop}
 use Rattle.std.specs.Prelude.{slice_get}
-use Rattle.live_packets.specs.Below.source_machine.specs.Systems.{Moment, on_system, on_ready}
+use Rattle.live_system.specs.Below.system_meaning.specs.Systems.{Moment, on_system, on_ready}
 use Rattle.live_system.proofs.Moments.{looked, stepped}
 use Rattle.live_system.proofs.system.System.next_ready.Goals as goal
 

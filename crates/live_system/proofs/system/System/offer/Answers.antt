@@ -3,8 +3,8 @@ use Rattle.std.specs.Int.{w16}
 use Rattle.std.proofs.lemmas.Int.{to_z-of_z}
 use Rattle.std.proofs.lemmas.Bool.{false≢true}
 use Rattle.message_wait.specs.Rendezvous as rendezvous
-use Rattle.live_packets.specs.Below.task_desk.specs.Desks.{Makes}
-use Rattle.live_packets.specs.Below.source_machine.specs.Systems.{Moment, on_system, on_waits}
+use Rattle.live_system.specs.Below.task_desk.specs.Desks.{Makes}
+use Rattle.live_system.specs.Below.system_meaning.specs.Systems.{Moment, on_system, on_waits}
 use Rattle.live_system.proofs.Moments.{looked, stepped}
 use Rattle.live_system.proofs.Waiting.{can_so, can_wait_at}
 use Rattle.live_system.proofs.system.System.offer.Goals as goal

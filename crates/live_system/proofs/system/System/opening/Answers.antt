@@ -1,5 +1,5 @@
 use Rattle.std.proofs.Common.{refl}
-use Rattle.live_packets.specs.Below.units.specs.Library.{none_live}
+use Rattle.live_system.specs.Below.units.specs.Library.{none_live}
 use Rattle.live_packets.specs.Packets.{kinds_in}
 use Rattle.live_system.proofs.Opening.{opens}
 use Rattle.live_system.proofs.system.System.opening.Goals as goal

@@ -1,5 +1,5 @@
 use Rattle.std.proofs.lemmas.Result.{on_ok_weaker}
-use Rattle.live_packets.specs.Below.source_machine.specs.Systems.{tell, prompt}
+use Rattle.live_system.specs.Below.system_meaning.specs.Systems.{tell, prompt}
 use Rattle.live_system.proofs.Moments.{stepped, tell_keeps}
 use Rattle.live_system.proofs.system.System.prompt.Goals as goal
 

@@ -2,10 +2,10 @@ use Rattle.std.proofs.Common.{◌≡◌, true, false, Option, refl, sym, ap, ◌
 use Rattle.std.proofs.lemmas.Bool.{false≢true}
 use Rattle.eu_base.specs.DataSpaces.{heads_of, is_live, without_space}
 use Rattle.eu_base.specs.SpaceOperations.{room_refusal}
-use Rattle.live_packets.specs.Below.source_machine.specs.Stores.{Store}
-use Rattle.live_packets.specs.Below.source_machine.specs.Tasks.{Doing}
-use Rattle.live_packets.specs.Below.source_machine.specs.Systems.{kept_by}
-use Rattle.live_packets.specs.Below.source_machine.specs.Serving.{space_number}
+use Rattle.live_system.specs.Below.system_meaning.specs.Stores.{Store}
+use Rattle.live_system.specs.Below.system_meaning.specs.Tasks.{Doing}
+use Rattle.live_system.specs.Below.system_meaning.specs.Systems.{kept_by}
+use Rattle.live_system.specs.Below.system_meaning.specs.Serving.{space_number}
 use Rattle.live_packets.specs.Packets.{kinds_in}
 use Rattle.live_system.proofs.Moments.{here, found, none_looked}
 use Rattle.live_system.proofs.Waiting.{keeps}

@@ -1,7 +1,7 @@
 use Rattle.std.proofs.Common.{refl}
 use Rattle.std.proofs.lemmas.Result.{on_ok_weaker}
 use Rattle.eu_base.specs.Requests.{plain}
-use Rattle.live_packets.specs.Below.source_machine.specs.Tasks.{Own, with_doing, replied}
+use Rattle.live_system.specs.Below.system_meaning.specs.Tasks.{Own, with_doing, replied}
 use Rattle.live_packets.specs.Packets.{kinds_in}
 use Rattle.live_system.proofs.Moments.{none_changed, task_changed}
 use Rattle.live_system.proofs.system.System.reply.Goals as goal

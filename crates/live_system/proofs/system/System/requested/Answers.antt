@@ -1,6 +1,6 @@
 use Rattle.std.proofs.Common.{None, Some, ap, ◌∙◌}
 use Rattle.eu_base.specs.declared.request.Request.{Request}
-use Rattle.live_packets.specs.Below.source_machine.specs.Systems.{System, requested}
+use Rattle.live_system.specs.Below.system_meaning.specs.Systems.{System, requested}
 use Rattle.live_packets.specs.Packets.{kinds_in}
 use Rattle.live_system.proofs.Moments.{system_looked}
 use Rattle.live_system.proofs.system.System.requested.Goals as goal

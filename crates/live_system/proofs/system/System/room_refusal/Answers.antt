@@ -1,8 +1,8 @@
 use Rattle.std.proofs.Common.{None, Option, refl}
 use Rattle.eu_base.specs.DataSpaces.{heads_of}
 use Rattle.eu_base.specs.SpaceOperations.{room_refusal}
-use Rattle.live_packets.specs.Below.source_machine.specs.Tasks.{Doing}
-use Rattle.live_packets.specs.Below.source_machine.specs.Systems.{kept_by}
+use Rattle.live_system.specs.Below.system_meaning.specs.Tasks.{Doing}
+use Rattle.live_system.specs.Below.system_meaning.specs.Systems.{kept_by}
 use Rattle.live_system.proofs.Moments.{none_looked, task_looked}
 use Rattle.live_system.proofs.system.System.room_refusal.Goals as goal
 

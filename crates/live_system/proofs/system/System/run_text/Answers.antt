@@ -1,5 +1,5 @@
 use Rattle.std.proofs.Common.{arith}
-use Rattle.live_packets.specs.Below.source_machine.specs.Tasks.{Idle}
+use Rattle.live_system.specs.Below.system_meaning.specs.Tasks.{Idle}
 use Rattle.live_packets.specs.Packets.{kinds_in}
 use Rattle.live_system.proofs.Moments.{here, found, none_does}
 use Rattle.live_system.proofs.Reading.{starts, refuses}

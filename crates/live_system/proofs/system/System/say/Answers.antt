@@ -1,6 +1,6 @@
 use Rattle.std.proofs.lemmas.Result.{on_ok_weaker}
 use Rattle.std.proofs.Common.{refl}
-use Rattle.live_packets.specs.Below.source_machine.specs.Systems.{say}
+use Rattle.live_system.specs.Below.system_meaning.specs.Systems.{say}
 use Rattle.live_system.proofs.Moments.{stepped}
 use Rattle.live_system.proofs.system.System.say.Goals as goal
 

@@ -1,6 +1,6 @@
 use Rattle.std.proofs.Common.{refl}
-use Rattle.terminals.specs.Channels as channels
-use Rattle.live_packets.specs.Below.source_machine.specs.Systems.{on_system, on_channels}
+use Rattle.live_system.specs.Below.terminals.specs.Channels as channels
+use Rattle.live_system.specs.Below.system_meaning.specs.Systems.{on_system, on_channels}
 use Rattle.live_system.proofs.Moments.{stepped}
 use Rattle.live_system.proofs.system.System.set_last.Goals as goal
 

@@ -1,7 +1,7 @@
 use Rattle.std.proofs.Common.{Option, refl, sym, ap, ◌∙◌}
-use Rattle.live_packets.specs.Below.source_machine.specs.Stores.{space_under}
-use Rattle.live_packets.specs.Below.source_machine.specs.Tasks.{Doing, now}
-use Rattle.live_packets.specs.Below.source_machine.specs.Systems.{kept_by}
+use Rattle.live_system.specs.Below.system_meaning.specs.Stores.{space_under}
+use Rattle.live_system.specs.Below.system_meaning.specs.Tasks.{Doing, now}
+use Rattle.live_system.specs.Below.system_meaning.specs.Systems.{kept_by}
 use Rattle.live_system.specs.declared.what.SourceText.TheVariants as sources
 use Rattle.live_system.specs.Texts.{source_of, as_told}
 use Rattle.live_system.proofs.Told.{told_source, told_short}

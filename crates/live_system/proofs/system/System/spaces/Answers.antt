@@ -1,7 +1,7 @@
 use Rattle.std.proofs.Common.{List, map}
 use Rattle.std.specs.Prelude.{sum}
-use Rattle.live_packets.specs.Below.source_machine.specs.Tasks.{Own}
-use Rattle.live_packets.specs.Below.source_machine.specs.Supervisor.{spaces_of}
+use Rattle.live_system.specs.Below.system_meaning.specs.Tasks.{Own}
+use Rattle.live_system.specs.Below.system_meaning.specs.Supervisor.{spaces_of}
 use Rattle.live_packets.specs.Packets.{kinds_in}
 use Rattle.live_system.proofs.Moments.{all_looked}
 use Rattle.live_system.proofs.system.System.spaces.Goals as goal

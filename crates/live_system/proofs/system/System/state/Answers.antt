@@ -1,7 +1,7 @@
 use Rattle.std.proofs.Common.{Option, refl}
 use Rattle.std.specs.Prelude.{codes}
-use Rattle.live_packets.specs.Below.source_machine.specs.Supervisor.{state_of}
-use Rattle.live_packets.specs.Below.source_machine.specs.Tasks.{Doing}
+use Rattle.live_system.specs.Below.system_meaning.specs.Supervisor.{state_of}
+use Rattle.live_system.specs.Below.system_meaning.specs.Tasks.{Doing}
 use Rattle.live_system.proofs.Moments.{none_looked, task_looked}
 use Rattle.live_system.proofs.system.System.state.Goals as goal
 

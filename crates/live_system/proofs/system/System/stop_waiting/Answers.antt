@@ -1,6 +1,6 @@
 use Rattle.std.proofs.Common.{refl}
 use Rattle.message_wait.specs.Rendezvous.{left}
-use Rattle.live_packets.specs.Below.source_machine.specs.Systems.{on_system, on_waits}
+use Rattle.live_system.specs.Below.system_meaning.specs.Systems.{on_system, on_waits}
 use Rattle.live_system.proofs.Moments.{stepped}
 use Rattle.live_system.proofs.system.System.stop_waiting.Goals as goal
 

@@ -1,8 +1,8 @@
 use Rattle.std.proofs.Common.{refl, sym, ap, ◌∙◌}
 use Rattle.std.proofs.lemmas.Bool.{false≢true}
 use Rattle.task_tree.specs.Tree.{Tree, lives, son}
-use Rattle.terminals.specs.Channels.{channel_of}
-use Rattle.live_packets.specs.Below.source_machine.specs.Systems.{uncouple_at}
+use Rattle.live_system.specs.Below.terminals.specs.Channels.{channel_of}
+use Rattle.live_system.specs.Below.system_meaning.specs.Systems.{uncouple_at}
 use Rattle.live_system.proofs.Moments.{machine, found}
 use Rattle.live_system.proofs.Ending.{tree_same, can_end_at, uncoupled_at, ends, gone_already}
 use Rattle.live_system.proofs.system.System.take_out.Goals as goal

@@ -1,5 +1,5 @@
-use Rattle.live_packets.specs.Below.source_machine.specs.Systems.{Moment}
-use Rattle.live_packets.specs.Below.source_machine.specs.Ends.{number_refusal}
+use Rattle.live_system.specs.Below.system_meaning.specs.Systems.{Moment}
+use Rattle.live_system.specs.Below.system_meaning.specs.Ends.{number_refusal}
 use Rattle.task_tree.specs.Tree as tree
 use Rattle.live_system.proofs.Moments.{looked}
 use Rattle.live_system.proofs.system.System.tree_refusal.Goals as goal

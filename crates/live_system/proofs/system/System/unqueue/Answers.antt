@@ -1,7 +1,7 @@
 use Rattle.std.proofs.Common.{refl}
 use Rattle.std.specs.Prelude.{slice_get}
-use Rattle.terminals.specs.Channels as channels
-use Rattle.live_packets.specs.Below.source_machine.specs.Systems.{Moment, on_system, on_channels}
+use Rattle.live_system.specs.Below.terminals.specs.Channels as channels
+use Rattle.live_system.specs.Below.system_meaning.specs.Systems.{Moment, on_system, on_channels}
 use Rattle.live_system.proofs.Moments.{looked, stepped}
 use Rattle.live_system.proofs.system.System.unqueue.Goals as goal
 

@@ -3,7 +3,7 @@ use Rattle.std.specs.Option.{option_map}
 use Rattle.std.proofs.lemmas.Bool.{false≢true}
 use Rattle.message_wait.specs.declared.waits.Caller.{Caller}
 use Rattle.message_wait.specs.Rendezvous as rendezvous
-use Rattle.live_packets.specs.Below.source_machine.specs.Systems.{Moment, on_system, on_waits}
+use Rattle.live_system.specs.Below.system_meaning.specs.Systems.{Moment, on_system, on_waits}
 use Rattle.live_system.proofs.Moments.{looked, stepped}
 use Rattle.live_system.proofs.Waiting.{can_so, can_wait_at}
 use Rattle.live_system.proofs.system.System.wait_any.Goals as goal

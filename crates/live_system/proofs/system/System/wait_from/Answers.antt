@@ -1,7 +1,7 @@
 use Rattle.std.proofs.Common.{Some, refl, sym, ◌∙◌}
 use Rattle.std.proofs.lemmas.Bool.{false≢true}
 use Rattle.message_wait.specs.Rendezvous as rendezvous
-use Rattle.live_packets.specs.Below.source_machine.specs.Systems.{on_system, on_waits}
+use Rattle.live_system.specs.Below.system_meaning.specs.Systems.{on_system, on_waits}
 use Rattle.live_system.proofs.Moments.{stepped}
 use Rattle.live_system.proofs.Waiting.{can_so, can_wait_at}
 use Rattle.live_system.proofs.system.System.wait_from.Goals as goal

@@ -1,5 +1,5 @@
 use Rattle.std.proofs.Common.{take}
-use Rattle.live_packets.specs.Below.source_machine.specs.Systems.{Moment}
+use Rattle.live_system.specs.Below.system_meaning.specs.Systems.{Moment}
 use Rattle.live_system.specs.Steps.{woken_each}
 use Rattle.live_system.specs.Machines.{StandsAt}
 use Rattle.live_system.proofs.system.System.wake_each.Given as goal

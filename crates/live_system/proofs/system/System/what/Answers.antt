@@ -1,7 +1,7 @@
 use Rattle.std.proofs.Common.{Option, refl}
 use Rattle.live_system.specs.declared.what.What.TheVariants as whats
 use Rattle.live_system.specs.What.{what_of}
-use Rattle.live_packets.specs.Below.source_machine.specs.Tasks.{Doing}
+use Rattle.live_system.specs.Below.system_meaning.specs.Tasks.{Doing}
 use Rattle.live_system.proofs.Moments.{none_looked, task_looked}
 use Rattle.live_system.proofs.system.System.what.Goals as goal
 

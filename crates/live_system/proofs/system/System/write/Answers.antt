@@ -1,6 +1,6 @@
 use Rattle.std.proofs.lemmas.Result.{on_ok_weaker}
 use Rattle.std.proofs.Common.{refl}
-use Rattle.live_packets.specs.Below.source_machine.specs.Systems.{write}
+use Rattle.live_system.specs.Below.system_meaning.specs.Systems.{write}
 use Rattle.live_system.proofs.Moments.{stepped}
 use Rattle.live_system.proofs.system.System.write.Goals as goal
 

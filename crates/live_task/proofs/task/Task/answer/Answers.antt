@@ -2,9 +2,9 @@ use Rattle.std.proofs.Common.{◌≡◌, Option, Some, None, sym, ◌∙◌, ap,
 use Rattle.std.specs.Prelude.{option_copied}
 use Rattle.eu_base.specs.declared.request.Request.{Request}
 use Rattle.page_pool.specs.Pool.{Pages}
-use Rattle.space_memory.specs.Memories.{MemoryData}
+use Rattle.live_task.specs.Below.space_memory.specs.Memories.{MemoryData}
 use Rattle.code_form.specs.Runs.{asked}
-use Rattle.task_job.specs.Below.source_machine.specs.Tasks.{request_of, replied, with_doing}
+use Rattle.live_task.specs.Below.system_meaning.specs.Tasks.{request_of, replied, with_doing}
 use Rattle.task_job.proofs.Standing.{asked_is}
 use Rattle.live_task.specs.Stands.{StandsFor, Received}
 use Rattle.live_task.specs.declared.task.Task.{Task}

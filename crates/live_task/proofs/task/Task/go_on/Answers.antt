@@ -1,6 +1,6 @@
 use Rattle.std.proofs.Common.{ap, None, Some}
-use Rattle.space_memory.specs.Memories.{roots}
-use Rattle.space_memory.proofs.Framed.{stands_now}
+use Rattle.live_task.specs.Below.space_memory.specs.Memories.{roots}
+use Rattle.live_task.specs.Below.space_memory.proofs.Framed.{stands_now}
 use Rattle.task_job.specs.declared.job.Job.{Job}
 use Rattle.live_task.proofs.Sounding.{still_few, over_frames}
 use Rattle.live_task.proofs.Tasking.{running, went_marked, went_asks, went_ended, went_stopped, whole_job}

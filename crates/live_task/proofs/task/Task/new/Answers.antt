@@ -1,6 +1,6 @@
 use Rattle.std.proofs.Common.{refl, ap, []}
-use Rattle.page_table.specs.Sharing.{occ}
-use Rattle.space_memory.specs.Memories.{MemoryData, roots}
+use Rattle.live_task.specs.Below.page_table.specs.Sharing.{occ}
+use Rattle.live_task.specs.Below.space_memory.specs.Memories.{MemoryData, roots}
 use Rattle.task_job.specs.Here.{here}
 use Rattle.task_job.proofs.Here.{frames_nil}
 use Rattle.live_task.proofs.Tasking.{new_stands}

@@ -4,7 +4,7 @@ use Rattle.live_task.specs.declared.task.Doing.{Doing as Does}
 use Rattle.live_task.proofs.Tasking.{ended, not_ended}
 use Rattle.task_job.specs.Here.{nowhere}
 use Rattle.task_job.proofs.Here.{frames_none}
-use Rattle.space_memory.specs.Memories.{roots}
+use Rattle.live_task.specs.Below.space_memory.specs.Memories.{roots}
 use Rattle.live_task.proofs.task.Task.over.Goals as goal
 
 pub returns-in-Running-clause-ends : goal.returns-in-Running-clause-ends

@@ -1,6 +1,6 @@
-use Rattle.cell_kinds.specs.Kinds.{packet_kinds}
+use Rattle.live_task.specs.Below.cell_kinds.specs.Kinds.{packet_kinds}
 use Rattle.std.proofs.Common.{sym, subst}
-use Rattle.task_job.specs.Below.source_machine.specs.Tasks.{Running, starting, with_doing}
+use Rattle.live_task.specs.Below.system_meaning.specs.Tasks.{Running, starting, with_doing}
 use Rattle.live_task.specs.Stands.{StandsFor}
 use Rattle.live_task.specs.declared.task.Doing.{Doing as Does}
 use Rattle.live_task.proofs.Tasking.{started}

@@ -1,6 +1,6 @@
 use Rattle.std.proofs.lemmas.Result.{on_ok_weaker}
 use Rattle.std.proofs.Common.{◌++◌, ◌∷◌, []}
-use Rattle.task_tidy.specs.Below.source_machine.specs.Tasks.{Entering, with_doing}
+use Rattle.live_tasks.specs.Below.system_meaning.specs.Tasks.{Entering, with_doing}
 use Rattle.live_tasks.proofs.Standing.{reads, stood, stands_at, call_sound, call_small, call_fits, call_set}
 use Rattle.live_tasks.proofs.Closing.{same_small, same_frames}
 use Rattle.live_tasks.proofs.tasks.Tasks.add_line.Goals as goal

@@ -1,8 +1,8 @@
 use Rattle.std.proofs.Common.{refl}
 use Rattle.std.proofs.lemmas.Result.{on_ok_weaker}
 use Rattle.eu_base.specs.Requests.{plain}
-use Rattle.task_tidy.specs.Below.source_machine.specs.Tasks.{replied, with_doing}
-use Rattle.task_tidy.specs.Below.live_task.proofs.Dues.{plain_due}
+use Rattle.live_tasks.specs.Below.system_meaning.specs.Tasks.{replied, with_doing}
+use Rattle.live_tasks.specs.Below.live_task.proofs.Dues.{plain_due}
 use Rattle.live_tasks.proofs.Standing.{reads, stood, call_sound, call_whole, call_fits, call_each}
 use Rattle.live_tasks.proofs.tasks.Tasks.answer.Goals as goal
 

@@ -1,8 +1,8 @@
 use Rattle.std.proofs.Common.{◌≡◌, ◌++◌, ◌∷◌, [], List, get_or, arith, sym, ◌∙◌, ap, subst, length, ◌<◌}
-use Rattle.space_memory.specs.Memories.{most_roots}
-use Rattle.task_tidy.specs.Below.live_task.specs.declared.task.Task.{Task}
-use Rattle.task_tidy.specs.Below.source_machine.specs.Stores.{heir}
-use Rattle.task_tidy.specs.Below.source_machine.specs.Tasks.{Idle, now}
+use Rattle.live_tasks.specs.Below.space_memory.specs.Memories.{most_roots}
+use Rattle.live_tasks.specs.Below.live_task.specs.declared.task.Task.{Task}
+use Rattle.live_tasks.specs.Below.system_meaning.specs.Stores.{heir}
+use Rattle.live_tasks.specs.Below.system_meaning.specs.Tasks.{Idle, now}
 use Rattle.live_tasks.specs.Tasks.{Live, IsFit, StandIn, most_tasks}
 use Rattle.live_tasks.proofs.Standing.{reads, stood, stands_at, call_stands, begin_fits, begin_stands, refused_fits}
 use Rattle.live_tasks.proofs.tasks.Tasks.begin.Goals as goal

@@ -1,9 +1,9 @@
 use Rattle.std.proofs.Common.{arith}
-use Rattle.source_texts.specs.Sources.{source_space}
-use Rattle.task_tidy.specs.Below.source_machine.specs.Stores.{with_named}
-use Rattle.task_tidy.specs.Below.source_machine.specs.Tasks.{Idle, with_doing}
+use Rattle.live_tasks.specs.Below.source_texts.specs.Sources.{source_space}
+use Rattle.live_tasks.specs.Below.system_meaning.specs.Stores.{with_named}
+use Rattle.live_tasks.specs.Below.system_meaning.specs.Tasks.{Idle, with_doing}
 use Rattle.live_tasks.proofs.Standing.{reads, stood, stands_at, but_one, call_sound, call_stands, call_puts}
-use Rattle.task_tidy.specs.Below.task_job.proofs.Here.{frames_before}
+use Rattle.live_tasks.specs.Below.task_job.proofs.Here.{frames_before}
 use Rattle.live_tasks.specs.Tasks.{task_roots}
 use Rattle.live_tasks.proofs.Closing.{both_ok, closed_fits}
 use Rattle.live_tasks.proofs.tasks.Tasks.close_text.Goals as goal

@@ -1,4 +1,4 @@
-use Rattle.task_tidy.specs.Below.source_machine.specs.Tasks.{Idle, with_doing}
+use Rattle.live_tasks.specs.Below.system_meaning.specs.Tasks.{Idle, with_doing}
 use Rattle.live_tasks.proofs.Standing.{reads, stood, stands_at, call_sound, call_small, call_fits, call_set, call_same}
 use Rattle.live_tasks.proofs.Closing.{same_small, same_frames}
 use Rattle.live_tasks.proofs.tasks.Tasks.drop_text.Goals as goal

@@ -1,7 +1,7 @@
 use Rattle.std.proofs.Common.{List, arith, sym, subst}
-use Rattle.task_tidy.specs.Below.live_task.specs.declared.task.Task.{Task}
+use Rattle.live_tasks.specs.Below.live_task.specs.declared.task.Task.{Task}
 use Rattle.live_tasks.specs.Tasks.{IsFit, StandIn}
-use Rattle.task_tidy.specs.Below.source_machine.specs.Tasks.{Own}
+use Rattle.live_tasks.specs.Below.system_meaning.specs.Tasks.{Own}
 use Rattle.std.specs.List.{remove}
 use Rattle.live_tasks.proofs.Standing.{reads, stood, call_stands, end_fits, end_stands}
 use Rattle.live_tasks.proofs.tasks.Tasks.end.Goals as goal

@@ -5,8 +5,8 @@ use Rattle.std.proofs.lemmas.Result.{on_ok_weaker}
 use Rattle.eu_base.specs.declared.request.Reply.TheVariants.{Taken, Message}
 use Rattle.eu_base.specs.Requests.{Answer, plain}
 use Rattle.eu_base.specs.DataSpaces.{next_number, the_space}
-use Rattle.task_tidy.specs.Below.source_machine.specs.Tasks.{Own, now, replied, with_doing}
-use Rattle.task_tidy.specs.Below.source_machine.specs.Systems.{with_own}
+use Rattle.live_tasks.specs.Below.system_meaning.specs.Tasks.{Own, now, replied, with_doing}
+use Rattle.live_tasks.specs.Below.system_meaning.specs.Systems.{with_own}
 use Rattle.live_tasks.specs.Tasks.{Stand}
 use Rattle.live_tasks.specs.Handing.{handing, paid}
 use Rattle.live_tasks.proofs.Handing.{owed_first, owed_second, all_paid}

@@ -1,6 +1,6 @@
 use Rattle.std.proofs.Common.{◌≡◌, ◌==◌, ◌∙◌, List, ap, arith}
 use Rattle.std.specs.List.{list_any}
-use Rattle.task_tidy.specs.Below.live_task.specs.declared.task.Task.{Task}
+use Rattle.live_tasks.specs.Below.live_task.specs.declared.task.Task.{Task}
 use Rattle.live_tasks.proofs.Standing.{stood, any_has}
 use Rattle.live_tasks.proofs.tasks.Tasks.has_packet.Goals as goal
 

@@ -1,5 +1,5 @@
 use Rattle.std.proofs.Common.{◌∙◌}
-use Rattle.task_tidy.specs.Below.task_messages.proofs.Passed.{lives_alike}
+use Rattle.live_tasks.specs.Below.task_messages.proofs.Passed.{lives_alike}
 use Rattle.live_tasks.proofs.Standing.{reads, stood, stands_at}
 use Rattle.live_tasks.proofs.tasks.Tasks.has_space.Goals as goal
 

@@ -1,9 +1,9 @@
 use Rattle.std.proofs.Common.{arith, sym, subst, ◌++◌, ◌∷◌, [], List}
 use Rattle.std.proofs.lemmas.Result.{on_ok_weaker}
 use Rattle.eu_base.specs.declared.value.Kind.{Kind}
-use Rattle.task_tidy.specs.Below.source_machine.specs.Tasks.{Idle, store_in, with_doing}
-use Rattle.task_tidy.specs.Below.source_machine.specs.Monitor.{with_packet}
-use Rattle.task_tidy.specs.Below.live_task.specs.Stands.{StandsFor}
+use Rattle.live_tasks.specs.Below.system_meaning.specs.Tasks.{Idle, store_in, with_doing}
+use Rattle.live_tasks.specs.Below.system_meaning.specs.Monitor.{with_packet}
+use Rattle.live_tasks.specs.Below.live_task.specs.Stands.{StandsFor}
 use Rattle.live_tasks.proofs.Standing.{reads, call_sound, call_small, call_fits}
 use Rattle.live_tasks.proofs.Over.{overs, installed_small, installed_frames, installs}
 use Rattle.live_tasks.proofs.tasks.Tasks.install.Goals as goal

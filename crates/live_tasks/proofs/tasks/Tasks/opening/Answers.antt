@@ -1,8 +1,8 @@
 use Rattle.std.proofs.Common.{◌≡◌, ◌++◌, ◌∷◌, [], List, ap, sym, ◌∙◌, subst}
 use Rattle.page_pool.specs.Pool.{Pages}
-use Rattle.task_tidy.specs.Below.task_job.specs.Here.{Knows}
-use Rattle.task_tidy.specs.Below.source_machine.specs.Systems.{new_own}
-use Rattle.task_tidy.specs.Below.live_task.specs.declared.task.Task.{Task}
+use Rattle.live_tasks.specs.Below.task_job.specs.Here.{Knows}
+use Rattle.live_tasks.specs.Below.system_meaning.specs.Systems.{new_own}
+use Rattle.live_tasks.specs.Below.live_task.specs.declared.task.Task.{Task}
 use Rattle.live_tasks.specs.Tasks.{IsFit, StandIn}
 use Rattle.live_tasks.proofs.Fresh.{two_roots}
 use Rattle.live_tasks.proofs.Opening.{empty, empty_known, opening_fits, opening_stands}

@@ -2,9 +2,9 @@ use Rattle.std.proofs.Common.{ℕ, ◌+◌, length, set, ap, ◌∙◌, length-s
 use Rattle.eu_base.specs.DataSpaces.{Heads, the_space}
 use Rattle.eu_base.specs.declared.request.Reply.TheVariants.{Taken, Message}
 use Rattle.eu_base.specs.Requests.{plain}
-use Rattle.task_tidy.specs.Below.task_job.specs.Here.{nowhere}
-use Rattle.task_tidy.specs.Below.source_machine.specs.Tasks.{now}
-use Rattle.task_tidy.specs.Below.task_texts.proofs.Seen.{heads_now}
+use Rattle.live_tasks.specs.Below.task_job.specs.Here.{nowhere}
+use Rattle.live_tasks.specs.Below.system_meaning.specs.Tasks.{now}
+use Rattle.live_tasks.specs.Below.task_texts.proofs.Seen.{heads_now}
 use Rattle.live_tasks.specs.Tasks.{Live}
 use Rattle.live_tasks.proofs.Handing.{goes, at_other, takes_it, can_lose, lost_it, passed_it, both_owed}
 use Rattle.live_tasks.proofs.Standing.{reads, stood, stands_at}

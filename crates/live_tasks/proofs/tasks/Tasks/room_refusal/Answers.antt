@@ -1,5 +1,5 @@
 use Rattle.std.proofs.Common.{ℕ, length, ap, ◌∙◌}
-use Rattle.task_tidy.specs.Below.task_messages.proofs.Passed.{room_alike}
+use Rattle.live_tasks.specs.Below.task_messages.proofs.Passed.{room_alike}
 use Rattle.live_tasks.proofs.Rooms.{refusal_of}
 use Rattle.live_tasks.proofs.Standing.{reads, stood, stands_at}
 use Rattle.live_tasks.proofs.tasks.Tasks.room_refusal.Goals as goal

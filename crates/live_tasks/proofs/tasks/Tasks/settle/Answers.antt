@@ -1,5 +1,5 @@
 use Rattle.std.proofs.lemmas.Result.{on_ok_weaker}
-use Rattle.task_tidy.specs.Below.source_machine.specs.Tasks.{Idle, own_variables, settled, store_in, with_doing}
+use Rattle.live_tasks.specs.Below.system_meaning.specs.Tasks.{Idle, own_variables, settled, store_in, with_doing}
 use Rattle.live_tasks.proofs.Standing.{reads, call_sound, call_whole, call_fits}
 use Rattle.live_tasks.proofs.Over.{overs, over_puts}
 use Rattle.live_tasks.proofs.tasks.Tasks.settle.Goals as goal

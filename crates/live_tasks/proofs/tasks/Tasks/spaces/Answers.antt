@@ -1,5 +1,5 @@
 use Rattle.std.proofs.Common.{List, length, ap, subst, sym, arith}
-use Rattle.task_tidy.specs.Below.live_task.specs.declared.task.Task.{Task}
+use Rattle.live_tasks.specs.Below.live_task.specs.declared.task.Task.{Task}
 use Rattle.live_tasks.specs.Tasks.{StandIn}
 use Rattle.live_tasks.proofs.Standing.{stood}
 use Rattle.live_tasks.proofs.tasks.Tasks.spaces.Goals as goal

@@ -1,8 +1,8 @@
 use Rattle.std.proofs.Common.{◌≡◌, List, sym, subst}
 use Rattle.std.proofs.lemmas.Result.{on_ok_weaker}
 use Rattle.eu_base.specs.declared.value.Kind.{Kind}
-use Rattle.task_tidy.specs.Below.source_machine.specs.Tasks.{Running, starting, with_doing}
-use Rattle.task_tidy.specs.Below.live_task.specs.Stands.{StandsFor}
+use Rattle.live_tasks.specs.Below.system_meaning.specs.Tasks.{Running, starting, with_doing}
+use Rattle.live_tasks.specs.Below.live_task.specs.Stands.{StandsFor}
 use Rattle.live_tasks.proofs.Standing.{reads, stood, stands_at, call_sound, call_whole, call_fits, call_set}
 use Rattle.live_tasks.proofs.tasks.Tasks.start.Goals as goal
 

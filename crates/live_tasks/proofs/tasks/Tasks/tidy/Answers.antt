@@ -1,9 +1,9 @@
 use Rattle.std.proofs.Common.{◌≡◌, List, sym, subst}
 use Rattle.std.proofs.lemmas.Result.{on_ok_weaker}
 use Rattle.eu_base.specs.declared.value.Kind.{Kind}
-use Rattle.task_tidy.specs.Below.source_machine.specs.Stores.{tidied}
-use Rattle.task_tidy.specs.Below.source_machine.specs.Tasks.{Idle, with_doing}
-use Rattle.task_tidy.specs.Below.live_task.specs.Stands.{StandsFor}
+use Rattle.live_tasks.specs.Below.system_meaning.specs.Stores.{tidied}
+use Rattle.live_tasks.specs.Below.system_meaning.specs.Tasks.{Idle, with_doing}
+use Rattle.live_tasks.specs.Below.live_task.specs.Stands.{StandsFor}
 use Rattle.live_tasks.proofs.Standing.{reads, stood, stands_at, call_sound, call_whole, call_fits, call_set}
 use Rattle.live_tasks.proofs.tasks.Tasks.tidy.Goals as goal
 

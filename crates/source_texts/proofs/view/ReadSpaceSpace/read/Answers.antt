@@ -1,6 +1,6 @@
 use Rattle.std.proofs.Common.{[], ◌∷◌}
-use Rattle.page_table.proofs.Framing.{homes_backed}
-use Rattle.page_table.proofs.Owned.{stand_slots}
+use Rattle.source_texts.specs.Below.page_table.proofs.Framing.{homes_backed}
+use Rattle.source_texts.specs.Below.page_table.proofs.Owned.{stand_slots}
 use Rattle.source_texts.proofs.view.ReadSpaceSpace.read.Goals as goal
 
 pub invariant_of-self : goal.invariant_of-self

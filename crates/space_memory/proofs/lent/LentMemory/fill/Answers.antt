@@ -1,5 +1,5 @@
-use Rattle.page_table.proofs.Framing.{homes_backed}
-use Rattle.page_table.specs.Frames.{over}
+use Rattle.space_memory.specs.Below.page_table.proofs.Framing.{homes_backed}
+use Rattle.space_memory.specs.Below.page_table.specs.Frames.{over}
 use Rattle.std.proofs.Common.{refl, sym, ap, ◌∙◌, subst}
 use Rattle.eu_base.specs.DataSpaces.{Head}
 use Rattle.space_memory.specs.Kept.{IsOfKind}

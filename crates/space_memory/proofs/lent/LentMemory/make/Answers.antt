@@ -1,5 +1,5 @@
-use Rattle.page_table.proofs.Framing.{homes_backed}
-use Rattle.page_table.specs.Frames.{over}
+use Rattle.space_memory.specs.Below.page_table.proofs.Framing.{homes_backed}
+use Rattle.space_memory.specs.Below.page_table.specs.Frames.{over}
 use Rattle.std.proofs.Common.{◌+◌, ap, ◌∙◌, refl, sym, subst, arith}
 use Rattle.space_memory.proofs.Numbers.{past_free}
 use Rattle.space_memory.specs.Memories.{MemoryData, memory_heads}

@@ -1,6 +1,6 @@
-use Rattle.page_table.specs.Frames.{over}
+use Rattle.space_memory.specs.Below.page_table.specs.Frames.{over}
 use Rattle.std.proofs.Common.{sym, subst}
-use Rattle.page_table.specs.Entries.{Names}
+use Rattle.space_memory.specs.Below.page_table.specs.Entries.{Names}
 use Rattle.space_memory.specs.Memories.{MemoryData, HoldsAll, StandsWhole}
 use Rattle.space_memory.proofs.Changed.{live_here, names_only, named_still}
 use Rattle.space_memory.proofs.lent.LentMemory.name.Goals as goal

@@ -1,4 +1,4 @@
-use Rattle.page_table.proofs.Framing.{homes_backed}
+use Rattle.space_memory.specs.Below.page_table.proofs.Framing.{homes_backed}
 use Rattle.std.proofs.Common.{refl}
 use Rattle.eu_base.specs.declared.address.Area.TheVariants.{Run, Packets, Space}
 use Rattle.space_memory.proofs.Areas.{left, of_run, of_packets, of_space, live_area}

@@ -1,10 +1,10 @@
-use Rattle.page_table.specs.Frames.{over}
+use Rattle.space_memory.specs.Below.page_table.specs.Frames.{over}
 use Rattle.std.proofs.Common.{◌≡◌, refl, sym, ap, ◌∙◌, subst}
 use Rattle.std.proofs.lemmas.Int.{to_z-of_z}
 use mir.Syntax.{w16}
 use Rattle.space_memory.specs.Live.{the_space}
 use Rattle.space_memory.specs.Kept.{IsOfKind}
-use Rattle.page_table.specs.Entries.{Names}
+use Rattle.space_memory.specs.Below.page_table.specs.Entries.{Names}
 use Rattle.space_memory.specs.Memories.{MemoryData, changed, StandsWhole, MemoryFrames, memory_heads, roots}
 use Rattle.space_memory.specs.Changes.{kind_none, memory_frames_none}
 use Rattle.space_memory.proofs.Changed.{kind_heads, kind_still, live_here}

@@ -1,4 +1,4 @@
-use Rattle.page_table.specs.Frames.{over}
+use Rattle.space_memory.specs.Below.page_table.specs.Frames.{over}
 use Rattle.std.proofs.Common.{refl, sym, ap, subst}
 use Rattle.space_memory.specs.Kept.{IsOfKind}
 use Rattle.space_memory.specs.Memories.{MemoryData, HoldsAll, StandsWhole, MemoryFrames, memory_heads, roots}

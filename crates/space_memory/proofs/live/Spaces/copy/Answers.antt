@@ -1,7 +1,7 @@
 use Rattle.std.proofs.Common.{◌≡◌, ◌+◌, ◌<◌, ◌∙◌, [], ◌∷◌, ◌++◌, length, Option, Some, nat_eq, sym, ap, subst, arith}
 use Rattle.std.specs.Option.{unwrap_or}
 use Rattle.indexmap.proofs.CallerLemmas.{insert_entry-new}
-use Rattle.page_table.specs.Frames.{over, Stands, Frames}
+use Rattle.space_memory.specs.Below.page_table.specs.Frames.{over, Stands, Frames}
 use Rattle.data_space.specs.Data.{SpaceData}
 use Rattle.space_memory.specs.Kept.{KeepsBytes}
 use Rattle.space_memory.specs.Live.{LiveData, no_space, space_at, the_space, space_roots, with_new}

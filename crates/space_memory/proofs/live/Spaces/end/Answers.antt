@@ -1,7 +1,7 @@
 use Rattle.std.proofs.Common.{List, ℕ, None, ◌≤◌, length, sym, subst, arith}
 use Rattle.page_pool.specs.Pool.{Tell}
-use Rattle.page_table.specs.Frames.{over, Stands, Frames}
-use Rattle.page_table.proofs.Framing.{frames_none, frames_then, stands_after}
+use Rattle.space_memory.specs.Below.page_table.specs.Frames.{over, Stands, Frames}
+use Rattle.space_memory.specs.Below.page_table.proofs.Framing.{frames_none, frames_then, stands_after}
 use Rattle.data_space.specs.Data.{SpaceData}
 use Rattle.space_memory.specs.Live.{LiveData, space_roots}
 use Rattle.space_memory.proofs.Roots.{last_stands, last_frames, last_fewer, frees_none, frees_then, none_left}

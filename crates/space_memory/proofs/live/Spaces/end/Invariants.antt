@@ -1,7 +1,7 @@
 use Rattle.std.proofs.Common.{◌≤◌, length}
 use Rattle.page_pool.specs.Pool.{used_of, Tell}
-use Rattle.page_table.specs.Changes.{FreesOnly}
-use Rattle.page_table.specs.Frames.{over, Frames, Stands}
+use Rattle.space_memory.specs.Below.page_table.specs.Changes.{FreesOnly}
+use Rattle.space_memory.specs.Below.page_table.specs.Frames.{over, Frames, Stands}
 use Rattle.space_memory.specs.Live.{space_roots}
 use Rattle.space_memory.proofs.live.Spaces.end.Given as goal
 

@@ -1,5 +1,5 @@
 use Rattle.std.proofs.Common.{nat_eq, sym, subst, [], arith}
-use Rattle.page_table.specs.Frames.{over, Stands, Frames}
+use Rattle.space_memory.specs.Below.page_table.specs.Frames.{over, Stands, Frames}
 use Rattle.space_memory.specs.Live.{LiveData, space_roots, without}
 use Rattle.space_memory.proofs.Numbers.{numbered_without, gone_without}
 use Rattle.space_memory.proofs.Roots.{one_stands, gone_frames, others_keep}

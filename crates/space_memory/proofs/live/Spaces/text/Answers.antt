@@ -1,5 +1,5 @@
 use Rattle.std.proofs.Common.{nat_eq, sym, subst, [], ◌∷◌, arith}
-use Rattle.page_table.specs.Frames.{over, Stands, Frames}
+use Rattle.space_memory.specs.Below.page_table.specs.Frames.{over, Stands, Frames}
 use Rattle.space_memory.specs.Kept.{KeepsBytes}
 use Rattle.space_memory.specs.Live.{LiveData, space_roots, with_space, without}
 use Rattle.space_memory.proofs.Numbers.{numbered_with}

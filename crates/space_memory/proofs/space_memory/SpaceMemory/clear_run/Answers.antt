@@ -1,4 +1,4 @@
-use Rattle.page_table.specs.Frames.{over}
+use Rattle.space_memory.specs.Below.page_table.specs.Frames.{over}
 use Rattle.eu_base.specs.declared.address.Area.TheVariants.{Run}
 use Rattle.space_memory.proofs.Fresh.{nothing_held}
 use Rattle.space_memory.proofs.Framed.{command_stands, cleared_frames, cleared_keeps}

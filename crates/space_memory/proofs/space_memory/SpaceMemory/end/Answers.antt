@@ -1,5 +1,5 @@
 use Rattle.std.proofs.Common.{None, sym, subst}
-use Rattle.page_table.specs.Frames.{over, Stands}
+use Rattle.space_memory.specs.Below.page_table.specs.Frames.{over, Stands}
 use Rattle.space_memory.specs.Memories.{MemoryData, roots}
 use Rattle.space_memory.proofs.Framed.{rest_stand, second_stands, third_stands, all_gone, last_agrees}
 use Rattle.space_memory.proofs.space_memory.SpaceMemory.end.Goals as goal

@@ -1,4 +1,4 @@
-use Rattle.page_table.specs.Frames.{over}
+use Rattle.space_memory.specs.Below.page_table.specs.Frames.{over}
 use Rattle.std.proofs.Common.{length, ap, sym, subst, arith}
 use Rattle.space_memory.specs.Live.{LiveData, space_roots}
 use Rattle.space_names.specs.Directory as directory

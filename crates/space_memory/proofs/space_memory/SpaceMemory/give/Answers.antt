@@ -1,7 +1,7 @@
 use Rattle.std.proofs.Common.{◌∷◌, sym, subst}
 use Rattle.space_memory.specs.Live.{LiveData, space_roots}
 use Rattle.space_memory.specs.Memories.{LeadToSpaces, roots}
-use Rattle.page_table.specs.Frames.{Frames}
+use Rattle.space_memory.specs.Below.page_table.specs.Frames.{Frames}
 use Rattle.space_memory.proofs.Framed.{given_frames}
 use Rattle.space_memory.proofs.Led.{led_new}
 use Rattle.space_memory.proofs.space_memory.SpaceMemory.give.Goals as goal

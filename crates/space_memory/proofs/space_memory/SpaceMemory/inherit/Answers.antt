@@ -1,4 +1,4 @@
-use Rattle.page_table.specs.Frames.{over}
+use Rattle.space_memory.specs.Below.page_table.specs.Frames.{over}
 use Rattle.std.proofs.Common.{ap}
 use Rattle.space_memory.proofs.Roots.{keeps_none}
 use Rattle.space_memory.specs.Memories.{MemoryData}

@@ -1,5 +1,5 @@
-use Rattle.page_table.specs.Frames.{over}
-use Rattle.page_table.proofs.Framing.{frames_none}
+use Rattle.space_memory.specs.Below.page_table.specs.Frames.{over}
+use Rattle.space_memory.specs.Below.page_table.proofs.Framing.{frames_none}
 use Rattle.space_memory.proofs.Roots.{keeps_none}
 use Rattle.space_memory.specs.Memories.{roots}
 use Rattle.space_memory.proofs.Framed.{nil_frames}

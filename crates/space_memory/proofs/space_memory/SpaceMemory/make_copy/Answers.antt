@@ -1,4 +1,4 @@
-use Rattle.page_table.specs.Frames.{over}
+use Rattle.space_memory.specs.Below.page_table.specs.Frames.{over}
 use Rattle.std.proofs.Common.{◌+◌, [], ◌∷◌, length, ap, sym, subst, arith}
 use Rattle.std.proofs.lemmas.List.{length-append}
 use Rattle.space_memory.specs.Live.{LiveData, the_space, space_roots}

@@ -1,4 +1,4 @@
-use Rattle.page_table.specs.Frames.{over}
+use Rattle.space_memory.specs.Below.page_table.specs.Frames.{over}
 use Rattle.space_memory.proofs.Framed.{command_stands, command_frames, only_run}
 use Rattle.space_memory.proofs.space_memory.SpaceMemory.run_rooms.Goals as goal
 

@@ -1,4 +1,4 @@
-use Rattle.page_table.specs.Frames.{over}
+use Rattle.space_memory.specs.Below.page_table.specs.Frames.{over}
 use Rattle.space_memory.proofs.Framed.{parcel_stands, parcel_frames, only_packets}
 use Rattle.space_memory.proofs.space_memory.SpaceMemory.set_packet_cell.Goals as goal
 

@@ -1,7 +1,7 @@
 use Rattle.page_pool.specs.Pool.{Known}
 use Rattle.std.proofs.Common.{sym, subst}
 use Rattle.std.specs.Prelude.{IfOk, OnOk, IsSome}
-use Rattle.page_table.specs.Frames.{over, content_at}
+use Rattle.space_memory.specs.Below.page_table.specs.Frames.{over, content_at}
 use Rattle.text_heap.specs.Texts.{Texts, Holds, Sets, KeepsCells}
 use Rattle.space_memory.specs.Live.{LiveData, the_space}
 use Rattle.space_memory.specs.Memories.{MemoryData, LeadToSpaces}

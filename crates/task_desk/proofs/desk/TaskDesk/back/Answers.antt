@@ -3,7 +3,7 @@ use Rattle.task_numbers.specs.declared.limits.TheConstants.{TASKS}
 use Rattle.task_numbers.specs.declared.number.TaskNo.{TaskNo}
 use Rattle.task_tree.specs.Tree.{lives}
 use Rattle.slicer.specs.Rotation.{is_ready}
-use Rattle.source_machine.specs.Below.units.specs.Library.{none_live}
+use Rattle.task_desk.specs.Below.units.specs.Library.{none_live}
 use Rattle.task_desk.specs.Desks.{Desk, AllLive}
 use Rattle.task_desk.proofs.Living.{can_be_ready_lives, can_be_ready_waits, has_room, live_at_back, comes_back, stays_away}
 use Rattle.task_desk.proofs.desk.TaskDesk.back.Goals as goal

@@ -2,8 +2,8 @@ use Rattle.std.proofs.Common.{◌≡◌, OnOk, sym, ◌∙◌, subst}
 use Rattle.std.proofs.lemmas.Result.{on_ok_weaker}
 use Rattle.task_numbers.specs.declared.number.TaskNo.{TaskNo}
 use Rattle.terminals.specs.Channels.{channel, with_last}
-use Rattle.source_machine.specs.Systems.{on_system, on_channels, uncouple}
-use Rattle.source_machine.specs.Supervisor.{called}
+use Rattle.system_meaning.specs.Systems.{on_system, on_channels, uncouple}
+use Rattle.system_meaning.specs.Supervisor.{called}
 use Rattle.task_desk.specs.Desks.{Desk, Makes}
 use Rattle.task_desk.proofs.Steps.{makes_both, called_nil, called_there}
 use Rattle.task_desk.proofs.desk.TaskDesk.call.Goals as goal

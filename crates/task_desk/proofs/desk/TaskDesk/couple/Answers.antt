@@ -1,7 +1,7 @@
 use Rattle.std.proofs.Common.{◌≡◌, [], None, sym, ◌∙◌, subst}
 use Rattle.task_numbers.specs.Numbers.{niltask}
 use Rattle.terminals.specs.Channels.{channel, channel_of}
-use Rattle.source_machine.specs.Below.units.specs.Library.{none_live}
+use Rattle.task_desk.specs.Below.units.specs.Library.{none_live}
 use Rattle.task_desk.specs.Desks.{Desk}
 use Rattle.task_desk.proofs.Coupling.{can_couple_free, can_couple_apart, couples, stays_uncoupled}
 use Rattle.task_desk.proofs.desk.TaskDesk.couple.Goals as goal

@@ -1,5 +1,5 @@
 use Rattle.std.proofs.lemmas.Result.{on_ok_weaker}
-use Rattle.source_machine.specs.Systems.{say, supervisor_prompt}
+use Rattle.system_meaning.specs.Systems.{say, supervisor_prompt}
 use Rattle.task_desk.proofs.Steps.{makes_both}
 use Rattle.task_desk.proofs.desk.TaskDesk.refuse.Goals as goal
 

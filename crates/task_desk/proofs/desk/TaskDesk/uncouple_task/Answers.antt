@@ -1,6 +1,6 @@
 use Rattle.std.proofs.Common.{◌≡◌, ℕ, Option, Some, OnOk, subst}
 use Rattle.terminals.specs.Channels.{channel_of}
-use Rattle.source_machine.specs.Systems.{uncouple_at}
+use Rattle.system_meaning.specs.Systems.{uncouple_at}
 use Rattle.task_desk.specs.Desks.{Desk, Makes}
 use Rattle.task_desk.proofs.desk.TaskDesk.uncouple_task.Goals as goal
 

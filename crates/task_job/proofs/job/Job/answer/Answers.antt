@@ -3,7 +3,7 @@ use Rattle.eu_base.specs.declared.request.Reply.{Reply}
 use Rattle.code_form.specs.Machine.{answered}
 use Rattle.space_memory.specs.Memories.{roots}
 use Rattle.task_job.proofs.Here.{memory_frames_then}
-use Rattle.source_machine.specs.Tasks.{with_reply}
+use Rattle.system_meaning.specs.Tasks.{with_reply}
 use Rattle.task_job.proofs.Standing.{at_run, receives_on, takes_reply, settles}
 use Rattle.task_job.proofs.job.Job.answer.Goals as goal
 

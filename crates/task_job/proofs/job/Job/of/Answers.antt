@@ -1,7 +1,7 @@
-use Rattle.cell_kinds.specs.Kinds.{packet_kinds}
+use Rattle.task_job.specs.Below.cell_kinds.specs.Kinds.{packet_kinds}
 use Rattle.space_memory.specs.Memories.{roots}
 use Rattle.task_job.proofs.Here.{memory_frames_then}
-use Rattle.source_machine.specs.Tasks.{starting}
+use Rattle.system_meaning.specs.Tasks.{starting}
 use Rattle.task_job.proofs.Standing.{if_given, starts}
 use Rattle.task_job.proofs.job.Job.of.Goals as goal
 

@@ -3,7 +3,7 @@ use Rattle.eu_base.specs.declared.request.Reply.{Reply}
 use Rattle.code_form.specs.declared.waits.Waits.TheVariants.{Asked}
 use Rattle.code_form.specs.Machine.{Control, answered}
 use Rattle.code_form.specs.Runs.{Stands}
-use Rattle.zero_state.specs.Stepping.{control_of}
+use Rattle.task_run.specs.Below.zero_state.specs.Stepping.{control_of}
 use Rattle.task_run.proofs.Answered.{stands_answered}
 use Rattle.task_run.proofs.task_run.TaskRun.answer.Goals as goal
 

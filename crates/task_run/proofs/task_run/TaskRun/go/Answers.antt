@@ -1,7 +1,7 @@
 use Rattle.std.proofs.Common.{sym, subst}
 use Rattle.code_form.specs.Machine.{Control}
 use Rattle.code_form.specs.Runs.{Rests}
-use Rattle.zero_state.specs.Stepping.{control_of, mem_of, scene_of}
+use Rattle.task_run.specs.Below.zero_state.specs.Stepping.{control_of, mem_of, scene_of}
 use Rattle.task_run.proofs.Answered.{stands_there}
 use Rattle.task_run.proofs.task_run.TaskRun.go.Goals as goal
 

@@ -1,0 +1,3 @@
+-- The libraries below that the line in crates.txt need not list: this crate and those above read them here.
+pub use Rattle.code_form as code_form
+pub use Rattle.place_gen as place_gen

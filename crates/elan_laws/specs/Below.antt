@@ -1,0 +1,9 @@
+-- The libraries below that the line in crates.txt need not list: this crate and those above read them here.
+pub use Rattle.elan_check.specs.Below.elan_judge as elan_judge
+pub use Rattle.elan_check.specs.Below.elan_meant as elan_meant
+pub use Rattle.elan_check.specs.Below.elan_names as elan_names
+pub use Rattle.elan_check.specs.Below.elan_rules as elan_rules
+pub use Rattle.elan_check.specs.Below.elan_scope as elan_scope
+pub use Rattle.elan_check.specs.Below.elan_walk as elan_walk
+pub use Rattle.elan_check.specs.Below.type_names as type_names
+pub use Rattle.elan_check.specs.Below.value_rules as value_rules

@@ -1,0 +1,8 @@
+//! Items of crates below that the line in crates.txt need not list: this crate and those above read them here.
+pub mod of_elan_names {
+    pub use elan_names::heading;
+}
+
+pub mod of_value_rules {
+    pub use value_rules::{call, leave, name, part, value};
+}

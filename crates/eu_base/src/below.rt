@@ -1,0 +1,4 @@
+//! Items of crates below that the line in crates.txt need not list: this crate and those above read them here.
+pub mod of_containers {
+    pub use containers::NoMemory;
+}

@@ -1,5 +1,0 @@
-mod Short
-mod Fronts
-mod Midway
-mod Serving
-pub mod Causes

@@ -1,5 +1,0 @@
-pub mod Causes
-pub mod Output
-pub mod Serving
-pub mod Play
-pub mod Midway

@@ -1,8 +1,0 @@
-use Rattle.source_machine.proofs.Runs.{run_join, output_join}
-use Rattle.source_machine.proofs.law.events_join.Goals as goal
-
-pub returns-clause-system : goal.returns-clause-system
-returns-clause-system c = λ read s es fs. run_join read s es fs
-
-pub returns-clause-shown : goal.returns-clause-shown
-returns-clause-shown c = λ read plain s es fs. output_join read plain s es fs

@@ -1,0 +1,10 @@
+//! Items of crates below that the line in crates.txt need not list: this crate and those above read them here.
+pub mod of_packet_store {
+    pub use packet_store::{
+        CompileError, Library, Loaded, PACKETS, Unit, one_reading, refusal_text,
+    };
+}
+
+pub mod of_space_memory {
+    pub use space_memory::SpaceMemory;
+}

@@ -1,0 +1,12 @@
+use native.Mathlib.Omega.{arith as r0_arith}
+use Rattle.std.proofs.lemmas.Grind.{common_steps as r1_common_steps}
+use Rattle.value_rules.proofs.call.applied_to.Goals as rung_goal
+
+pub returns-in-Some : rung_goal.returns-in-Some
+returns-in-Some c = grind (r0_arith, r1_common_steps) steps 2000000
+
+pub returns-then-is_known : rung_goal.returns-then-is_known
+returns-then-is_known c = grind (r0_arith, r1_common_steps) steps 2000000
+
+pub returns : rung_goal.returns
+returns c = grind (r0_arith, r1_common_steps) steps 2000000

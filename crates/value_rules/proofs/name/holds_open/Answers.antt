@@ -1,0 +1,18 @@
+use native.Mathlib.Omega.{arith as r0_arith}
+use Rattle.std.proofs.lemmas.Grind.{common_steps as r1_common_steps}
+use Rattle.value_rules.proofs.name.holds_open.Goals as rung_goal
+
+pub returns-in-Parameter : rung_goal.returns-in-Parameter
+returns-in-Parameter c = grind (r0_arith, r1_common_steps) steps 2000000
+
+pub returns-in-Procedure : rung_goal.returns-in-Procedure
+returns-in-Procedure c = grind (r0_arith, r1_common_steps) steps 2000000
+
+pub returns-in-Procedure-2 : rung_goal.returns-in-Procedure-2
+returns-in-Procedure-2 c = grind (r0_arith, r1_common_steps) steps 2000000
+
+pub returns-in-Procedure-3 : rung_goal.returns-in-Procedure-3
+returns-in-Procedure-3 c = grind (r0_arith, r1_common_steps) steps 2000000
+
+pub returns-in-Variable : rung_goal.returns-in-Variable
+returns-in-Variable c = grind (r0_arith, r1_common_steps) steps 2000000

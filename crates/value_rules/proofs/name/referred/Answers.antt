@@ -1,0 +1,12 @@
+use native.Mathlib.Omega.{arith as r0_arith}
+use Rattle.std.proofs.lemmas.Grind.{common_steps as r1_common_steps}
+use Rattle.value_rules.proofs.name.referred.Goals as rung_goal
+
+pub returns-in-Some-Nothing : rung_goal.returns-in-Some-Nothing
+returns-in-Some-Nothing c = grind (r0_arith, r1_common_steps) steps 2000000
+
+pub returns-in_ok-shape-in-Some-Of : rung_goal.returns-in_ok-shape-in-Some-Of
+returns-in_ok-shape-in-Some-Of c = grind (r0_arith, r1_common_steps) steps 2000000
+
+pub returns-in-None : rung_goal.returns-in-None
+returns-in-None c = grind (r0_arith, r1_common_steps) steps 2000000

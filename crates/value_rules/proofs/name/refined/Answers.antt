@@ -1,0 +1,12 @@
+use native.Mathlib.Omega.{arith as r0_arith}
+use Rattle.std.proofs.lemmas.Grind.{common_steps as r1_common_steps}
+use Rattle.value_rules.proofs.name.refined.Goals as rung_goal
+
+pub returns-in-None : rung_goal.returns-in-None
+returns-in-None c = grind (r0_arith, r1_common_steps) steps 2000000
+
+pub returns-then-branch : rung_goal.returns-then-branch
+returns-then-branch c = grind (r0_arith, r1_common_steps) steps 2000000
+
+pub returns-in_ok-number-in-Some : rung_goal.returns-in_ok-number-in-Some
+returns-in_ok-number-in-Some c = grind (r0_arith, r1_common_steps) steps 2000000

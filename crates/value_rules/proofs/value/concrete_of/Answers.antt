@@ -1,0 +1,12 @@
+use native.Mathlib.Omega.{arith as r0_arith}
+use Rattle.std.proofs.lemmas.Grind.{common_steps as r1_common_steps}
+use Rattle.value_rules.proofs.value.concrete_of.Goals as rung_goal
+
+pub returns-in-None : rung_goal.returns-in-None
+returns-in-None c = grind (r0_arith, r1_common_steps) steps 2000000
+
+pub returns-then-own : rung_goal.returns-then-own
+returns-then-own c = grind (r0_arith, r1_common_steps) steps 2000000
+
+pub returns-else-own : rung_goal.returns-else-own
+returns-else-own c = grind (r0_arith, r1_common_steps) steps 2000000

@@ -1,0 +1,3 @@
+-- The libraries below that the line in crates.txt need not list: this crate and those above read them here.
+pub use Rattle.cell_kinds as cell_kinds
+pub use Rattle.zero_state as zero_state

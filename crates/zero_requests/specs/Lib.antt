@@ -1,3 +1,0 @@
-pub mod Received
-pub mod Asking
-pub mod Replying
