@@ -1,45 +1,37 @@
-"""The link to the program: it types session lines into it, one at a time, and takes what it shows.
+"""The link to the program: it types session lines into it, one at a time, and takes what it shows. Two facts
+tell when a line was served (docs/sessions.md, "The desk"): the program takes no byte while a whole line is
+ahead, and puts what a line shows before it takes more. So behind each line, once it was taken, goes an empty
+one, which does nothing. When that is taken too, the line was served, and all that it shows is in the pipe."""
+import collections, contextlib, fcntl, math, os, select, signal, subprocess, termios, time
 
-Two facts tell when a line was served (docs/sessions.md, "The desk"): the program takes no byte while a whole line is
-ahead, and puts what a line shows before it takes more. So behind each line, once it was taken, an empty one is sent,
-which does nothing. When that is taken too, the line was served, and all that it shows stands in the pipe back."""
-import collections, contextlib, fcntl, os, select, signal, subprocess, termios, time
-
-SET_PIPE_SIZE, ONE_PAGE = 1031, 4096  # fcntl.F_SETPIPE_SZ, which Python names from 3.10 on
-CHUNK = 1 << 18
-# what runs: a program and its words, whether fixpoints are kept, and the channels that are free at first
-Choice = collections.namedtuple("Choice", "words keeps free")
-
-
-def play(program):
-    return Choice([program, "play"], False, (1, 2, 3, 4))
-
+SET_PIPE_SIZE, ONE_PAGE, CHUNK = 1031, 4096, 1 << 18  # fcntl.F_SETPIPE_SZ, which Python names from 3.10 on
 
 class Line:
-    """A session line. begun() is called when it is sent, served(line) when it was served. It collects the pieces of its
-    channel, which are not shown where it is hidden. A question is no part of the record: it changes nothing."""
+    """A session line. begun() is called when it is sent, served(line) when it was served. It has the pieces
+    of its channel, which are not shown where it is hidden. A question is not recorded: it changes nothing."""
 
-    def __init__(self, data, begun=None, served=None, channel=0, hidden=False, asks=False):
-        self.data, self.begun, self.served = data, begun or (lambda: None), served or (lambda line: None)
-        self.channel, self.hidden, self.asks, self.pieces = b"%d" % channel, hidden, asks, []
-
+    def __init__(self, data, served=lambda line: None, begun=lambda: None, hidden=False, asks=False):
+        self.data, self.served, self.begun, self.hidden, self.asks = data, served, begun, hidden, asks
+        self.channel, self.pieces = data[:1], []
 
 class Link:
-    """The program behind two pipes. What it shows goes to shown(piece), but for what a line hides."""
+    """The program behind two pipes. What it shows goes to shown(piece), but for what a line hides. It is
+    ended by force where it gives no sign of life for longer than patience."""
 
-    def __init__(self, words, record=None, errors=None):
-        self.program = subprocess.Popen(
-            words, stdin=subprocess.PIPE, stdout=subprocess.PIPE, stderr=errors, bufsize=0, start_new_session=True)
+    def __init__(self, words, record=None, errors=None, keeps=False, free=(1, 2, 3, 4)):
+        self.program = subprocess.Popen(words, stdin=subprocess.PIPE, stdout=subprocess.PIPE, stderr=errors,
+                                        bufsize=0, start_new_session=True)
         self.to, self.back = self.program.stdin, self.program.stdout
         with contextlib.suppress(OSError):  # full with one line, it wakes us when the program has taken that
             fcntl.fcntl(self.to, SET_PIPE_SIZE, ONE_PAGE)
         os.set_blocking(self.back.fileno(), False)
+        self.keeps, self.free = keeps, free  # whether fixpoints are kept; channels without a task at first
         self.record, self.shown, self.say = record, lambda piece: None, lambda text: None
-        self.waiting, self.current, self.held = collections.deque(), None, b""  # the current line is the first
-        self.gone, self.alive, self.start, self.bytes = False, time.monotonic(), 0.0, 0
+        self.waiting, self.current, self.held = collections.deque(), None, b""  # the current is the first
+        self.gone, self.alive, self.patience = False, time.monotonic(), math.inf
 
     def step(self, seconds, reads=()):
-        """Waits for the program, a read, or so many seconds, and goes on with the lines. Returns what can be read."""
+        """Waits for the program, a read, or so long, and goes on with the lines. Returns what can be read."""
         if self.waiting and not self.current:
             self.rest = self.serve()
             next(self.rest)
@@ -53,7 +45,7 @@ class Link:
         return ready
 
     def serve(self):
-        """Sends a line, and an empty one. It goes on behind each yield when the program has taken what was sent."""
+        """Sends a line, and an empty one. It goes on behind each yield when the program has taken that."""
         line = self.current = self.waiting[0]
         self.start, self.bytes = time.monotonic(), 0
         line.begun()
@@ -75,7 +67,9 @@ class Link:
 
     def drain(self):
         """Takes what the program has shown, or finds that it shows nothing more."""
-        is_over = self.program.poll() is not None  # asked first: then all is in the pipe, though another keeps it open
+        if time.monotonic() - self.alive > self.patience:
+            self.kill()
+        is_over = self.program.poll() is not None  # first: then all is there, though another keeps it open
         data = self.back.read(CHUNK)  # None where nothing is there yet
         if data:
             self.alive, self.bytes = time.monotonic(), self.bytes + len(data)
@@ -87,6 +81,8 @@ class Link:
                 if not (is_its and self.current.hidden):
                     self.shown(piece)
         elif is_over or data is not None:
+            if not is_over:  # its output is closed, so no line is served any more
+                self.kill()
             if self.held:
                 self.shown(self.held)
             self.held, self.gone, self.current = b"", True, None
@@ -95,12 +91,3 @@ class Link:
     def kill(self):
         with contextlib.suppress(OSError):
             os.killpg(self.program.pid, signal.SIGKILL)
-
-    def finish(self, patience):
-        """Goes on until the program has ended, by force where it gave no sign of life for long. Returns its status."""
-        while not self.gone and time.monotonic() - self.alive < patience:
-            self.step(0.05)
-        with contextlib.suppress(subprocess.TimeoutExpired):
-            return self.program.wait(2 if self.gone else 0)
-        self.kill()
-        return self.program.wait()

@@ -1,24 +1,22 @@
 """The window: four terminals or the one in front, the line that is typed, and two lines of state."""
 import contextlib, curses, itertools, os, re, time, unicodedata
 
-from session import Session
+from terminals import Session
 
 ALT = "\x1b"
-KEYS = {curses.KEY_F1: "/1", curses.KEY_F2: "/2", curses.KEY_F3: "/3", curses.KEY_F4: "/4", ALT + "1": "/1",
-        ALT + "2": "/2", ALT + "3": "/3", ALT + "4": "/4", curses.KEY_F5: "/sv", "\x07": "/sv", "\x03": "/halt",
-        curses.KEY_F9: "/fix", "\x06": "/fix", curses.KEY_F10: "/end", "\x11": "/end"}
+KEYS = {curses.KEY_F5: "/sv", "\x07": "/sv", "\x03": "/halt", curses.KEY_F9: "/fix", "\x06": "/fix",
+        curses.KEY_F10: "/end", "\x11": "/end",
+        **{key: "/%d" % it for it in (1, 2, 3, 4) for key in (curses.KEY_F0 + it, ALT + str(it))}}
 SCROLLS, STEPS = {curses.KEY_PPAGE: 8, curses.KEY_NPAGE: -8}, {curses.KEY_UP: -1, curses.KEY_DOWN: 1}
 HINT = "F1-F4 terminal  F5 SV  F6 one/four  F9 fixpoint  F10 end  PgUp/PgDn  ^C halt  /help"
 SMALLEST, FOUR = (8, 30), (15, 60)  # lines and columns: of a window, and of one with four terminals
 REDRAWN, MOST_KEYS, HISTORY = 0.05, 500, 200
 
-
 class Screen(Session):
     def loop(self, window):
-        """Goes on until the program has ended, or the terminal went away."""
         curses.raw()
         window.nodelay(True)
-        self.window, self.four, when, seen = window, True, 0.0, None
+        self.window, self.four, drawn = window, True, 0.0
         while self.goes_on():
             ready, pressed = self.link.step(0.02, [0]), []
             with contextlib.suppress(curses.error):  # there are no more keys
@@ -29,17 +27,15 @@ class Screen(Session):
                     self.key(ALT + key if last == ALT and isinstance(key, str) else key)
             if 0 in ready and not pressed and not os.isatty(0):
                 break
-            now, state = time.monotonic(), (self.link.alive, int(time.monotonic()))
-            if pressed or state != seen and now - when >= REDRAWN:
+            if pressed or time.monotonic() - drawn >= (REDRAWN if self.link.alive > drawn else 1):
                 self.draw()
-                when, seen = now, state
+                drawn = time.monotonic()
 
     def key(self, key):
         front, before, behind = self.front, self.front.before, self.front.behind
-        rubbed = before[:-1], behind
         edits = {curses.KEY_LEFT: (before[:-1], before[-1:] + behind), curses.KEY_HOME: ("", before + behind),
                  curses.KEY_RIGHT: (before + behind[:1], behind[1:]), curses.KEY_END: (before + behind, ""),
-                 curses.KEY_BACKSPACE: rubbed, "\x7f": rubbed, "\b": rubbed,
+                 **dict.fromkeys((curses.KEY_BACKSPACE, "\x7f", "\b"), (before[:-1], behind)),
                  curses.KEY_DC: (before, behind[1:]), "\x15": ("", "")}
         if key in KEYS:
             self.enter(KEYS[key].encode())
@@ -65,7 +61,7 @@ class Screen(Session):
         if high < SMALLEST[0] or wide < SMALLEST[1]:
             self.put(0, 0, "too small: %d lines of %d, please" % SMALLEST, wide)
         else:
-            shown, rows, columns = [self.front], [(0, high - 3)], [(0, wide)]  # where they begin, and how many
+            shown, rows, columns = [self.front], [(0, high - 3)], [(0, wide)]  # where each is, how far
             if self.four and high >= FOUR[0] and wide >= FOUR[1]:
                 up, left, shown = (high - 3) // 2, wide // 2, self.terminals
                 rows, columns = [(0, up), (up, high - 3 - up)], [(0, left - 1), (left, wide - left)]
@@ -80,34 +76,32 @@ class Screen(Session):
         self.window.refresh()
 
     def draw_pane(self, terminal, y, high, x, wide):
-        """Draws what a terminal has shown, the last at the bottom."""
         style, rule, rows = (curses.A_BOLD, "=", []) if terminal is self.front else (curses.A_DIM, "-", [])
         back = "(%d lines back) " % terminal.back if terminal.back else ""
-        title = "[%d] %s %s" % (terminal.number, self.at(terminal.number), back)
-        self.put(y, x, title.ljust(wide, rule), wide, style)
+        title = "[%d] %s %s" % (terminal.number, self.at(terminal), back)
         for line in itertools.islice(reversed(terminal.lines), terminal.back, terminal.back + high):
             text = line.decode("utf-8", "replace")
             rows[:0] = [text[at : at + wide] for at in range(0, len(text) or 1, wide)]
-        for number, row in enumerate(rows[1 - high :], 1):
-            self.put(y + number, x, row, wide)
+        for number, row in enumerate([title.ljust(wide, rule), *rows[1 - high :]]):
+            self.put(y + number, x, row, wide, 0 if number else style)
 
     def put(self, y, x, text, wide, style=0):
-        """Draws text, one column for each character: a question mark where it needs another, or can't be drawn."""
+        """Draws text, one column a character: a question mark where it needs another, or can't be drawn."""
         is_wide = lambda char: unicodedata.combining(char) or unicodedata.east_asian_width(char) in "WF"
         columns = ("?" if is_wide(char) or not char.isprintable() else char for char in text[:wide])
         with contextlib.suppress(curses.error):  # the last place of a window can't be written
             self.window.addstr(y, x, "".join(columns).ljust(wide), style)
 
-    def at(self, number):
-        """The task at a channel, and what it does, as was told last."""
-        rows = (re.fullmatch(rb" *(.*) Kanal %d" % number, row) for row in self.tasks)
-        names = [row[1].decode("utf-8", "replace") + "?" * (not self.free()) for row in rows if row]
-        return "SV" if self.terminals[number - 1].free else (names + ["SV" if self.free() else "?"])[0]
+    def at(self, terminal):
+        """The task at a terminal, and what it does, as was told last."""
+        name = b"".join(re.findall(rb"^ *(.*) Kanal %d$" % terminal.number, b"\n".join(self.tasks), re.M))
+        name = name.decode("utf-8", "replace") + "?" * (not self.free)
+        return "SV" if terminal.free else name or "SV"
 
     def status(self):
-        now = time.monotonic()
+        now, link = time.monotonic(), self.link
         ago = "fixpoint %d:%02d ago" % divmod(int(now - self.fixed), 60)
-        kept = "nothing is kept" if not self.keeps else ago if self.changed else "all is kept"
-        does = "  ends" if self.ending else "  busy" if self.link.current and now - self.link.start > 0.3 else ""
-        tasks = "  ".join("%d %s" % (number, self.at(number)) for number in (1, 2, 3, 4))
+        kept = "nothing is kept" if not link.keeps else ago if self.changed else "all is kept"
+        does = "  ends" if self.ending else "  busy" if link.current and now - link.start > 0.3 else ""
+        tasks = "  ".join("%d %s" % (terminal.number, self.at(terminal)) for terminal in self.terminals)
         return " %s | %d tasks | %s%s" % (tasks, len(self.tasks), kept, does)

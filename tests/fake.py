@@ -1,7 +1,7 @@
 #!/usr/bin/env python3
 """A program that answers at once, as much of `play` as the desk's tests need: it reads and writes as the real one does.
 FAKE has words for what is wrong with it: deaf (it takes nothing), slow, dies (at the third line), clings (another
-process keeps its output open), bad (it names a line of no form)."""
+process keeps its output open), closes (it closes that and goes on), bad (it names a line of no form)."""
 import os, re, signal, subprocess, sys, time
 
 signal.alarm(100)  # whatever happens, it ends
@@ -68,6 +68,8 @@ def serve(system, ahead=b""):
 
 if "clings" in FAULTS:
     subprocess.Popen(["sleep", "30"], stdin=subprocess.DEVNULL, stderr=subprocess.DEVNULL)
-if "deaf" in FAULTS:
+if "closes" in FAULTS:
+    os.close(1)
+if "deaf" in FAULTS or "closes" in FAULTS:
     time.sleep(90)
 sys.exit(serve(System()))

@@ -29,12 +29,18 @@ class LinkTest(Test):
         """What was shown until each line was served."""
         shown, found = [], []
         link.shown = shown.append
-        link.waiting.extend(Line(line, None, lambda line: (found.append(list(shown)), shown.clear())) for line in lines)
+        link.waiting.extend(Line(line, lambda line: (found.append(list(shown)), shown.clear())) for line in lines)
         end = time.monotonic() + seconds
         while not link.gone and len(found) < len(lines):
             self.assertLess(time.monotonic(), end, "it was not served")
             link.step(1)
         return found
+
+    def finish(self, link, patience):
+        """Goes on until the program has ended. Returns its status."""
+        link.patience = patience
+        self.until(lambda: link.step(0.05) is not None and link.gone, "it does not end")
+        return link.program.wait(5)
 
     def test_shown_with_each_line_is_what_the_line_adds(self):
         for seed, program in enumerate(PROGRAMS):
@@ -59,19 +65,26 @@ class LinkTest(Test):
     def test_a_program_that_dies(self):
         link = self.link(FAKE, "play", fault="dies")
         self.assertEqual(len(self.serve(link, [b"!", b"!", b"!", b"!"])), 1)
-        self.assertEqual((link.gone, link.finish(5)), (True, 2))
+        self.assertEqual((link.gone, self.finish(link, 5)), (True, 2))
 
     def test_another_process_keeps_the_pipe_open(self):
         link = self.link(FAKE, "play", fault="clings")
         self.assertEqual(self.serve(link, [b"!", b"."])[0], [b"! fixpoint"])
         begun = time.monotonic()
-        self.assertEqual(link.finish(10), 0)
+        self.assertEqual(self.finish(link, 10), 0)
         self.assertLess(time.monotonic() - begun, 5)
 
     def test_a_program_that_takes_nothing_is_ended_by_force(self):
         link = self.link(FAKE, "play", fault="deaf")
         link.waiting.append(Line(b"!"))
-        self.assertEqual(link.finish(0.5), -9)
+        self.assertEqual(self.finish(link, 0.5), -9)
+
+    def test_a_program_that_closes_its_output_is_ended_by_force(self):
+        link = self.link(FAKE, "play", fault="closes")
+        link.waiting.append(Line(b"!"))
+        begun = time.monotonic()
+        self.assertEqual(self.finish(link, 30), -9)
+        self.assertLess(time.monotonic() - begun, 5)
 
     def test_a_pipe_that_is_never_full_wakes_too_early(self):
         link = self.link(FAKE, "play", fault="slow")

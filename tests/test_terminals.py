@@ -2,7 +2,8 @@
 import os
 
 from common import TOP, Test
-from terminals import KEPT, PROMPT, SUPERVISOR, WIDEST, Terminal, read_messages, stays_free
+from link import Line
+from terminals import KEPT, PROMPT, SUPERVISOR, WIDEST, Terminal, read_messages
 
 
 class TerminalTest(Test):
@@ -12,6 +13,16 @@ class TerminalTest(Test):
 
     def lines(self):
         return list(self.terminal.lines)
+
+    def serve(self, data, pieces):
+        line = Line(data)
+        line.pieces = pieces
+        self.terminal.served(line)
+        return self.terminal.free
+
+    def stays_free(self, text, pieces):
+        self.terminal.free = True
+        return self.serve(b"1>" + text, pieces)
 
     def test_a_prompt_and_a_message_begin_a_line_and_an_open_piece_is_continued(self):
         for text in (PROMPT, b",1 ", b",2 ", b"3", b",4 ", b"FEHLER : x", PROMPT):
@@ -35,7 +46,7 @@ class TerminalTest(Test):
                             (b'run ("t")', []), (b"", [b""]), (b"\xff\n", [b"\xff\n"])):
             self.terminal.type(typed)
             self.assertEqual(self.terminal.rows, rows, typed)
-        self.terminal.uncouple(None)
+        self.serve(b"1^", [SUPERVISOR])
         self.assertEqual((self.terminal.free, self.terminal.texts), (True, {}))
 
     def test_lines_and_their_bytes_are_bounded(self):
@@ -56,11 +67,11 @@ class TerminalTest(Test):
         self.assertEqual(self.terminal.back, 0)
 
     def test_a_channel_stays_free_only_where_that_is_sure(self):
-        self.assertTrue(stays_free(b"task info", [b"UR frei", b"  PUBLIC frei", SUPERVISOR]))
-        self.assertTrue(stays_free(b'continue ("x")', [b"Task gibt es nicht", SUPERVISOR]))
-        self.assertTrue(stays_free(b"  ", [SUPERVISOR]))
+        self.assertTrue(self.stays_free(b"task info", [b"UR frei", b"  PUBLIC frei", SUPERVISOR]))
+        self.assertTrue(self.stays_free(b'continue ("x")', [b"Task gibt es nicht", SUPERVISOR]))
+        self.assertTrue(self.stays_free(b"  ", [SUPERVISOR]))
         for pieces in ([SUPERVISOR], [PROMPT], [], [b"FEHLER : halt vom Terminal", PROMPT]):
-            self.assertFalse(stays_free(b'continue ("x")', pieces))
+            self.assertFalse(self.stays_free(b'continue ("x")', pieces))
 
 
 class MessagesTest(Test):
